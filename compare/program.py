@@ -1,0 +1,56 @@
+"""The proved program, and what it has to do: a reference that shares nothing with it but the definition of its modes."""
+
+import os
+import subprocess
+import sys
+
+sys.dont_write_bytecode = True
+HERE = os.path.dirname(os.path.abspath(__file__))
+CRATE = os.path.join(HERE, os.pardir, "crates", "ne_runs")
+LIMIT = 1_048_576
+
+
+def build():
+    """Proves and builds the program, and returns the path of what was built."""
+    how = {"cwd": CRATE, "stdin": subprocess.DEVNULL, "stdout": subprocess.DEVNULL, "stderr": subprocess.PIPE}
+    # without a word the program answers its usage, with status 2
+    ran = subprocess.run(["rt", "run"], **how)
+    if ran.returncode != 2 or b"usage: ne_runs MODE" not in ran.stderr:
+        sys.exit(f"the program is not proved, or not built:\n{ran.stderr.decode(errors='replace')[-2000:]}")
+    return os.path.abspath(os.path.join(CRATE, "out", "ne_runs"))
+
+
+def ends(numbers):
+    return [[len(numbers), numbers[0], numbers[-1]]]
+
+
+MODES = {"ends": ends}
+
+
+def number(line):
+    is_good = 1 <= len(line) <= 9 and all(byte in b"0123456789" for byte in line)
+    return int(line) if is_good else None
+
+
+def wanted(words, given):
+    """The status, the standard output and the standard error that are due."""
+    if len(words) != 1 or words[0] not in MODES:
+        return 2, b"", b"usage: ne_runs MODE\n"
+    if len(given) > LIMIT:
+        return 2, b"", b"input too long\n"
+    lines = given.split(b"\n")
+    if lines[-1] == b"":
+        lines.pop()
+    numbers = [number(line) for line in lines]
+    if None in numbers:
+        return 2, b"", b"bad line %d\n" % (numbers.index(None) + 1)
+    if not numbers:
+        return 1, b"", b"Given collection was empty\n"
+    rows = MODES[words[0]](numbers)
+    return 0, "".join(" ".join(map(str, row)) + "\n" for row in rows).encode(), b""
+
+
+def ran(program, words, given):
+    """What the program does."""
+    done = subprocess.run([program, *words], input=given, capture_output=True)
+    return done.returncode, done.stdout, done.stderr

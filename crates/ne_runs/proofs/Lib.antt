@@ -1,0 +1,4 @@
+pub mod FirstLine
+pub mod Numbers
+pub mod OneList
+pub mod Rows

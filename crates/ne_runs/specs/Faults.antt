@@ -1,0 +1,44 @@
+-- The faults: the text and the exit status of each, and the fault that an input has.
+use Rattle.std.specs.Prelude.{ℕ, ◌+◌, List, [], ◌∷◌, ◌++◌, if◌then◌else◌, nat_lt, length, codes, position, Option, Some}
+use Rattle.std.specs.Option.{option_map}
+use Rattle.std.specs.Fmt.{decimal}
+use Rattle.ne_runs.specs.Lines.{lines_of, is_bad}
+use Rattle.ne_runs.specs.declared.fault.Fault.{Fault}
+use Rattle.ne_runs.specs.declared.fault.Fault.TheVariants.{Empty, BadLine, TooLong, Usage, Read, Write, Memory}
+
+-- what a fault prints
+abbrev pub fault_text : Fault → List ℕ
+fault_text Empty = codes "Given collection was empty"
+fault_text (BadLine place) = codes "bad line " ++ decimal place
+fault_text TooLong = codes "input too long"
+fault_text Usage = codes "usage: ne_runs MODE"
+fault_text Read = codes "read failed"
+fault_text Write = codes "write failed"
+fault_text Memory = codes "out of memory"
+
+-- the exit status that tells a fault
+abbrev pub fault_status : Fault → ℕ
+fault_status Empty = 1
+fault_status (BadLine place) = 2
+fault_status TooLong = 2
+fault_status Usage = 2
+fault_status Read = 3
+fault_status Write = 3
+fault_status Memory = 4
+
+-- the most bytes that a run takes
+abbrev pub most_bytes : ℕ
+most_bytes = 1048576
+
+-- the first bad line, counted from 1
+abbrev pub bad_line : List (List ℕ) → Option Fault
+bad_line lines = option_map (λ place. BadLine (place + 1)) (position is_bad lines)
+
+-- what is wrong with lines: there is none, or one is bad
+abbrev pub fault_of_lines : List (List ℕ) → Option Fault
+fault_of_lines [] = Some Empty
+fault_of_lines (line ∷ lines) = bad_line (line ∷ lines)
+
+-- what is wrong with an input: it is too long, else what is wrong with its lines
+abbrev pub fault_of : List ℕ → Option Fault
+fault_of input = if nat_lt most_bytes (length input) then Some TooLong else fault_of_lines (lines_of input)

@@ -1,0 +1,5 @@
+pub mod Devices
+pub mod Lines
+pub mod Modes
+pub mod Faults
+pub mod Runs

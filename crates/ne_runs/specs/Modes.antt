@@ -1,0 +1,33 @@
+-- The modes: the word that names each, and what it writes of a list of numbers. A space is 32.
+use Rattle.std.specs.Prelude.{◌≡◌, ℕ, ◌-◌, List, [], ◌∷◌, ◌++◌, if◌then◌else◌, length, map, slice_index, codes, Option, None, Some}
+use Rattle.std.specs.List.{flat_map, join_with_byte}
+use Rattle.std.specs.Fmt.{decimal}
+use Rattle.std.specs.Str.{bytes_eq}
+use Rattle.ne_runs.specs.declared.mode.Mode.{Mode}
+use Rattle.ne_runs.specs.declared.mode.Mode.TheVariants.{Ends}
+
+-- the word that names a mode
+abbrev pub word_of : Mode → List ℕ
+word_of Ends = codes "ends"
+
+-- the mode that a word names
+abbrev pub mode_of : List ℕ → Option Mode
+mode_of word = if bytes_eq word (codes "ends") then Some Ends else None
+
+-- how many numbers there are, the first and the last
+abbrev pub ends_of : List ℕ → List ℕ
+ends_of numbers = length numbers ∷ slice_index numbers 0 ∷ slice_index numbers (length numbers - 1) ∷ []
+
+-- the rows that a mode makes of numbers, of which there is at least one
+abbrev pub AreRows : Mode → List ℕ → List (List ℕ) → Type 0
+AreRows Ends numbers rows = rows ≡ ends_of numbers ∷ []
+
+-- a row as a line of text: in decimal, with one space between
+abbrev pub row_text : List ℕ → List ℕ
+row_text row = join_with_byte 32 (map decimal row) ++ 10 ∷ []
+
+-- the text that a mode writes of numbers: its rows, a line each
+pub record IsText (mode : Mode) (numbers text : List ℕ) : Type 0 where
+  pub rows : List (List ℕ)
+  pub of_mode : AreRows mode numbers rows
+  pub written : text ≡ flat_map row_text rows

@@ -1,0 +1,32 @@
+-- What a run reads, answers and writes. `left` and `taken` are what the reader has left and what the writer has taken, before the
+-- run, and `left'` and `taken'` the same after it; `None` claims nothing of bytes.
+use Rattle.std.specs.Prelude.{◌≡◌, ℕ, ◌+◌, ◌⊎◌, List, length, Option, None, Some, Result, MatchResult}
+use Rattle.std.specs.Io.KnownBytes.{Appends, Consumes, IsAtEnd}
+use Rattle.ne_runs.specs.Lines.{numbers_of}
+use Rattle.ne_runs.specs.Modes.{IsText}
+use Rattle.ne_runs.specs.Faults.{fault_of, most_bytes}
+use Rattle.ne_runs.specs.declared.mode.Mode.{Mode}
+use Rattle.ne_runs.specs.declared.fault.Fault.{Fault}
+use Rattle.ne_runs.specs.declared.fault.Fault.TheVariants.{Write}
+
+-- the mode's text of the input's numbers was written, and nothing more
+pub record WritesText (mode : Mode) (input : List ℕ) (taken taken' : Option (List ℕ)) : Type 0 where
+  pub text : List ℕ
+  pub is_text : IsText mode (numbers_of input) text
+  pub written : Appends taken taken' text
+
+-- How a run ends that has read this input: nothing is wrong with it, and the text was written; or the fault is what is wrong with
+-- it; or nothing is wrong with it, and a write failed.
+abbrev pub EndsWith : Mode → List ℕ → Option (List ℕ) → Option (List ℕ) → Result (Unit {0}) Fault → Type 0
+EndsWith mode input taken taken' result =
+    MatchResult result
+    (λ _. (fault_of input ≡ None) × WritesText mode input taken taken')
+    (λ fault. (fault_of input ≡ Some fault) ⊎ ((fault_of input ≡ None) × (fault ≡ Write)))
+
+-- A run that meets no failed read and no want of memory: it reads the whole input, or one byte more than it takes, and ends as that
+-- input has it.
+pub record Completes (mode : Mode) (left left' taken taken' : Option (List ℕ)) (result : Result (Unit {0}) Fault) : Type 0 where
+  pub input : List ℕ
+  pub read : Consumes left left' input
+  pub whole : (IsAtEnd left') ⊎ (length input ≡ most_bytes + 1)
+  pub ends : EndsWith mode input taken taken' result

@@ -1,0 +1,148 @@
+//! What a run reads from and writes to.
+//!
+//! [`Source`] and [`Sink`] are the two sides of a run. Each tells its bytes, and whether a call on it has failed, so that a run's
+//! contract can say what was read and written, and when a failure was met. [`StdIo`] makes them of std's readers and writers.
+ghost use Rattle.std.specs.Prelude.{◌≡◌, ℕ, ◌<◌, ◌≤◌, Bool, true, false, ◌||◌, List, length, IfOk, OnOk, Option, is_err};
+ghost use Rattle.std.specs.Io.KnownBytes.{ReadConsumes, WriteAppends, Keeps};
+
+use std::io;
+use std::marker::Model;
+
+/// Where bytes come from.
+pub trait Source {
+    /// The bytes that are left; `None` claims nothing of them.
+    ghost left: { Self → Option (List ℕ) };
+
+    /// Whether a call has failed. Once it has, this stays.
+    ghost has_failed: { Self → Bool };
+
+    /// Reads into `buffer`, and answers how many bytes came; they stand at its front.
+    ///
+    /// `Ok(0)` with room in the buffer comes only at the end. `Err` comes exactly where the call failed, and then no byte moved.
+    fn read(&mut self, buffer: &mut [u8]) -> Result<usize, ()>
+        ensures bound { IfOk result (λ count. count ≤ length buffer.new) }
+        ensures bytes { ReadConsumes (left self.old) (left self.new) result buffer.new }
+        ensures failed { has_failed self.new ≡ (has_failed self.old || is_err result) };
+}
+
+/// Where bytes go.
+pub trait Sink {
+    /// The bytes that were taken; `None` claims nothing of them.
+    ghost taken: { Self → Option (List ℕ) };
+
+    /// Whether a call has failed. Once it has, this stays.
+    ghost has_failed: { Self → Bool };
+
+    /// Whether all that was taken was flushed.
+    ghost is_flushed: { Self → Bool };
+
+    /// Writes from the front of `text`, and answers how many bytes were taken, at least one of a text that is not empty.
+    ///
+    /// `Err` comes exactly where the call failed, and then no byte was taken.
+    fn write(&mut self, text: &[u8]) -> Result<usize, ()>
+        ensures bound { IfOk result (λ count. count ≤ length text.now) }
+        ensures progress { 0 < length text.now → IfOk result (λ count. 0 < count) }
+        ensures bytes { WriteAppends (taken self.old) (taken self.new) result text.now }
+        ensures failed { has_failed self.new ≡ (has_failed self.old || is_err result) };
+
+    /// Sends on what was taken and is still held. `Err` comes exactly where the call failed.
+    fn flush(&mut self) -> Result<(), ()>
+        ensures bytes { Keeps (taken self.old) (taken self.new) }
+        ensures flushed { OnOk result (is_flushed self.new ≡ true) }
+        ensures failed { has_failed self.new ≡ (has_failed self.old || is_err result) };
+}
+
+/// A reader or a writer of std as a [`Source`] or a [`Sink`].
+///
+/// It tells bytes where std's does. A contract sees it as the reader or writer, whether a call on it has failed, and whether all that
+/// was written is flushed.
+#[derive(Drop)]
+pub struct StdIo<T> {
+    inner: T,
+    has_failed: bool,
+    is_flushed: bool,
+}
+
+impl<T> Model for StdIo<T> {
+    ghost use Rattle.ne_runs.specs.Devices.{Device};
+
+    ghost Value = { Device T };
+
+    ghost view = { λ d. record { inner = d.inner; has_failed = d.has_failed; is_flushed = d.is_flushed } };
+}
+
+impl<T> StdIo<T> {
+    /// No call on it has failed, and there is nothing to flush.
+    pub fn new(inner: T) -> StdIo<T>
+        ensures { result ≡ record { inner = inner; has_failed = false; is_flushed = true } }
+    {
+        StdIo {
+            inner,
+            has_failed: false,
+            is_flushed: true,
+        }
+    }
+
+    /// The reader or writer, as it stands.
+    pub fn into_inner(self) -> T
+        ensures { result ≡ self.inner }
+    {
+        let StdIo {
+            inner,
+            has_failed: _,
+            is_flushed: _,
+        } = self;
+        inner
+    }
+}
+
+impl<T: io::Read> Source for StdIo<T> {
+    ghost left = { λ device. T.remaining device.inner };
+
+    ghost has_failed = { λ device. device.has_failed };
+
+    fn read(&mut self, buffer: &mut [u8]) -> Result<usize, ()> {
+        match self.inner.read(buffer) {
+            Ok(count) => Ok(count),
+            Err(_) => {
+                self.has_failed = true;
+                Err(())
+            }
+        }
+    }
+}
+
+impl<T: io::Write> Sink for StdIo<T> {
+    ghost taken = { λ device. T.contents device.inner };
+
+    ghost has_failed = { λ device. device.has_failed };
+
+    ghost is_flushed = { λ device. device.is_flushed };
+
+    /// A write that takes no byte of a text that is not empty has failed.
+    fn write(&mut self, text: &[u8]) -> Result<usize, ()> {
+        match self.inner.write(text) {
+            Ok(count) if count > 0 || text.is_empty() => {
+                self.is_flushed = false;
+                Ok(count)
+            }
+            _ => {
+                self.has_failed = true;
+                Err(())
+            }
+        }
+    }
+
+    fn flush(&mut self) -> Result<(), ()> {
+        match self.inner.flush() {
+            Ok(()) => {
+                self.is_flushed = true;
+                Ok(())
+            }
+            Err(_) => {
+                self.has_failed = true;
+                Err(())
+            }
+        }
+    }
+}

@@ -1,0 +1,109 @@
+//! A run: from the word of a mode and the bytes that are read to the text that is written.
+ghost use Rattle.std.specs.Prelude.{◌≡◌, ◌≢◌, ℕ, ◌+◌, ◌<◌, ◌≤◌, ◌⊎◌, ◌↔◌, List, [], ◌∷◌, length, map, true, false, None, Some, IfOk, IfErr, OnOk, IfSome, IsErr, IsTrue, IsErrOf, MatchBool, MatchResult, nat_lt, string_bytes};
+ghost use Rattle.std.specs.Io.KnownBytes.{Appends, Consumes, IsAtEnd};
+ghost use Rattle.ne_runs.specs.Faults.{most_bytes};
+ghost use Rattle.ne_runs.specs.Modes.{mode_of};
+ghost use Rattle.ne_runs.specs.Runs.{Completes};
+
+use crate::device::{Sink, Source};
+use crate::fault::Fault;
+use crate::lines::numbers;
+use crate::mode::Mode;
+use ne_vec::NEVec;
+use std::alloc::Global;
+
+/// The most bytes that a run takes.
+pub const LIMIT: usize = 1_048_576;
+
+// How many bytes are asked for at a time.
+const CHUNK: usize = 16_384;
+
+/// The word, where there is just one; else `Usage`. It takes no memory.
+pub fn one_word(words: &[String]) -> Result<&str, Fault>
+    ensures { MatchResult result
+        (λ word. map string_bytes words.now ≡ word.now ∷ [])
+        (λ fault. (fault ≡ Fault.Usage) × (length words.now ≢ 1)) }
+{
+    match words {
+        [word] => Ok(word.as_str()),
+        _ => Err(Fault::Usage),
+    }
+}
+
+// Reads to the end, or until there is one byte more than a run takes.
+fn read_all<R: Source>(alloc: Global, reader: &mut R) -> Result<Vec<u8>, Fault>
+    requires { R.has_failed reader.old ≡ false }
+    ensures read { IsErrOf result Fault.Read ↔ IsTrue (R.has_failed reader.new) }
+    ensures faults { IfErr result (λ fault. (fault ≡ Fault.Read) ⊎ (fault ≡ Fault.Memory)) }
+    ensures bytes { IfOk result (λ input. Consumes (R.left reader.old) (R.left reader.new) input.items) }
+    ensures whole { IfOk result (λ input. MatchBool (nat_lt most_bytes (length input.items))
+        (length input.items ≡ most_bytes + 1) (IsAtEnd (R.left reader.new))) }
+{
+    let mut input = Vec::new(alloc);
+    let mut chunk = [0u8; CHUNK];
+    while input.len() <= LIMIT {
+        let room = CHUNK.min(LIMIT + 1 - input.len());
+        match reader.read(&mut chunk[..room]) {
+            Ok(0) => break,
+            Ok(count) => input.extend_from_slice(&chunk[..count])?,
+            Err(()) => return Err(Fault::Read),
+        }
+    }
+    Ok(input)
+}
+
+// Writes a whole text, and flushes.
+fn write_all<W: Sink>(writer: &mut W, text: &[u8]) -> Result<(), Fault>
+    requires { W.has_failed writer.old ≡ false }
+    ensures written { OnOk result (Appends (W.taken writer.old) (W.taken writer.new) text.now) }
+    ensures fault { IfErr result (λ fault. fault ≡ Fault.Write) }
+    ensures flushed { OnOk result (W.is_flushed writer.new ≡ true) }
+    ensures failed { IsErr result ↔ IsTrue (W.has_failed writer.new) }
+{
+    let mut rest = text;
+    while !rest.is_empty() {
+        match writer.write(rest) {
+            Ok(count) => rest = &rest[count..],
+            Err(()) => return Err(Fault::Write),
+        }
+    }
+    writer.flush().map_err(|()| Fault::Write)
+}
+
+/// Reads numbers, one a line, and writes what the mode that `mode` names makes of them.
+///
+/// The whole text is built before the first write. At most one byte beyond the limit is read.
+pub fn run<R: Source, W: Sink>(
+    alloc: Global,
+    mode: &str,
+    reader: &mut R,
+    writer: &mut W,
+) -> Result<(), Fault>
+    requires reader { R.has_failed reader.old ≡ false }
+    requires writer { W.has_failed writer.old ≡ false }
+    // A word that names no mode is refused, and nothing is read.
+    ensures usage { IsErrOf result Fault.Usage ↔ (mode_of mode.now ≡ None) }
+    ensures unread { IsErrOf result Fault.Usage → reader.new ≡ reader.old }
+
+    // A failed read, and a failed write or flush, are told, and no others.
+    ensures read { IsErrOf result Fault.Read ↔ IsTrue (R.has_failed reader.new) }
+    ensures write { IsErrOf result Fault.Write ↔ IsTrue (W.has_failed writer.new) }
+
+    // After any fault but `Write` nothing was written. A run without a fault has flushed the writer.
+    ensures unwritten { IfErr result (λ fault. fault ≢ Fault.Write → writer.new ≡ writer.old) }
+    ensures flushed { OnOk result (W.is_flushed writer.new ≡ true) }
+
+    // In any other case the run ends as the bytes that it read have it.
+    ensures completes { IfSome (mode_of mode.now) (λ m. IsErrOf result Fault.Read ⊎ IsErrOf result Fault.Memory
+        ⊎ Completes m (R.left reader.old) (R.left reader.new) (W.taken writer.old) (W.taken writer.new) result) }
+{
+    let mode = Mode::named(mode).ok_or(Fault::Usage)?;
+    let input = read_all(alloc, reader)?;
+    if input.len() > LIMIT {
+        return Err(Fault::TooLong);
+    }
+    let numbers = numbers(alloc, input.as_slice())?;
+    let numbers = NEVec::try_from_vec(numbers).ok_or(Fault::Empty)?;
+    let text = mode.text(alloc, &numbers)?;
+    write_all(writer, text.as_bytes())
+}

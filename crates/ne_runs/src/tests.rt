@@ -1,0 +1,176 @@
+//! Runs over readers and writers in memory: the worked rows, odd inputs, and each read and write failed in turn.
+
+mod fakes;
+
+use crate::device::StdIo;
+use crate::fault::Fault;
+use crate::report::{one_word, run};
+use fakes::{Broken, Closed, Endless, empty_tape, reader_of};
+use std::alloc::{AllocError, Global};
+use std::test::Fail;
+
+#[test]
+fn worked_rows(rt: HostRuntime) -> Result<(), Fail> {
+    let rows: [(&[u8], Result<(), Fault>, &[u8]); 16] = [
+        (b"3\n1\n2\n", Ok(()), b"3 3 2\n"),
+        (b"007", Ok(()), b"1 7 7\n"),
+        (b"999999999\n000000000", Ok(()), b"2 999999999 0\n"),
+        (b"", Err(Fault::Empty), b""),
+        (b"\n", Err(Fault::BadLine(1)), b""),
+        (b"1\r\n", Err(Fault::BadLine(1)), b""),
+        (b"1234567890\n", Err(Fault::BadLine(1)), b""),
+        (b"1\n+1\n", Err(Fault::BadLine(2)), b""),
+        (b"1\n-1\n", Err(Fault::BadLine(2)), b""),
+        (b"1\n 1\n", Err(Fault::BadLine(2)), b""),
+        (b"1\n1 \n", Err(Fault::BadLine(2)), b""),
+        (b"1\n1x\n", Err(Fault::BadLine(2)), b""),
+        (b"1\n\xff\n", Err(Fault::BadLine(2)), b""),
+        (b"1\n1\0\n", Err(Fault::BadLine(2)), b""),
+        (b"1\n\n", Err(Fault::BadLine(2)), b""),
+        (b"1\n2\n\n4\nx\n", Err(Fault::BadLine(3)), b""),
+    ];
+    for (input, answer, text) in rows {
+        for step in [1, 2, usize::MAX] {
+            let mut reader = reader_of(input, step);
+            let mut writer = empty_tape(rt.alloc(), step);
+            let answered = run(rt.alloc(), "ends", &mut reader, &mut writer);
+            assert_eq!(rt; answered, answer, "{input:?}");
+            assert_eq!(rt; writer.text.as_slice(), text, "{input:?}");
+            assert_eq!(rt; writer.flushed, true);
+        }
+    }
+    Ok(())
+}
+
+#[test]
+fn words_that_name_no_mode(rt: HostRuntime) -> Result<(), Fail> {
+    for word in [
+        "runs", "stats", "equal", "end", "endss", "", "ENDS", "ends ",
+    ] {
+        let mut reader = reader_of(b"1\n", 1);
+        let mut writer = empty_tape(rt.alloc(), 1);
+        let answered = run(rt.alloc(), word, &mut reader, &mut writer);
+        assert_eq!(rt; answered, Err(Fault::Usage), "{word}");
+        assert_eq!(rt; (reader.turns, writer.calls), (0, 0), "{word}");
+    }
+    Ok(())
+}
+
+// The line `1`, that often.
+fn ones(alloc: Global, count: usize) -> Result<Vec<u8>, AllocError> {
+    let mut text = Vec::new(alloc);
+    for _ in 0..count {
+        text.extend_from_slice(b"1\n")?;
+    }
+    Ok(text)
+}
+
+#[test]
+fn longest_input(rt: HostRuntime) -> Result<(), Fail> {
+    let mut input = ones(rt.alloc(), 524_288)?;
+    for (step, turns) in [(usize::MAX, 65), (1, 1_048_577)] {
+        let mut reader = reader_of(input.as_slice(), step);
+        let mut writer = empty_tape(rt.alloc(), usize::MAX);
+        let answered = run(rt.alloc(), "ends", &mut reader, &mut writer);
+        assert_eq!(rt; answered, Ok(()));
+        assert_eq!(rt; writer.text.as_slice(), b"524288 1 1\n".as_slice());
+        assert_eq!(rt; reader.turns, turns);
+    }
+    input.push(b'1')?;
+    for step in [usize::MAX, 1] {
+        let mut reader = reader_of(input.as_slice(), step);
+        let mut writer = empty_tape(rt.alloc(), usize::MAX);
+        let answered = run(rt.alloc(), "ends", &mut reader, &mut writer);
+        assert_eq!(rt; answered, Err(Fault::TooLong));
+        assert_eq!(rt; writer.calls, 0);
+    }
+    Ok(())
+}
+
+#[test]
+fn endless_input(rt: HostRuntime) -> Result<(), Fail> {
+    let mut reader = Endless { turns: 0 };
+    let mut writer = empty_tape(rt.alloc(), usize::MAX);
+    let answered = run(rt.alloc(), "ends", &mut reader, &mut writer);
+    assert_eq!(rt; answered, Err(Fault::TooLong));
+    assert_eq!(rt; (reader.turns, writer.calls), (1_048_577, 0));
+    Ok(())
+}
+
+#[test]
+fn each_read_failed(rt: HostRuntime) -> Result<(), Fail> {
+    for input in [b"1\n2\n".as_slice(), b"1\nx\n".as_slice(), b"".as_slice()] {
+        for turn in 0..=input.len() {
+            let mut reader = reader_of(input, 1);
+            reader.fails_at = turn;
+            let mut writer = empty_tape(rt.alloc(), usize::MAX);
+            let answered = run(rt.alloc(), "ends", &mut reader, &mut writer);
+            assert_eq!(rt; answered, Err(Fault::Read), "turn {turn} of {input:?}");
+            assert_eq!(rt; writer.calls, 0);
+        }
+    }
+    Ok(())
+}
+
+#[test]
+fn each_write_failed(rt: HostRuntime) -> Result<(), Fail> {
+    // the text `1 1 1` and a line feed, a byte a call
+    for call in 0..6 {
+        let mut writer = empty_tape(rt.alloc(), 1);
+        writer.fails_at = call;
+        let answered = run(rt.alloc(), "ends", &mut reader_of(b"1\n", 1), &mut writer);
+        assert_eq!(rt; answered, Err(Fault::Write), "call {call}");
+        assert_eq!(rt; writer.text.len(), call);
+    }
+    let mut writer = empty_tape(rt.alloc(), 1);
+    writer.flush_fails = true;
+    let answered = run(rt.alloc(), "ends", &mut reader_of(b"1\n", 1), &mut writer);
+    assert_eq!(rt; answered, Err(Fault::Write));
+    Ok(())
+}
+
+#[test]
+fn std_readers_and_writers(rt: HostRuntime) -> Result<(), Fail> {
+    let mut reader = StdIo::new(b"4\n5".as_slice());
+    let mut writer = StdIo::new(Vec::new(rt.alloc()));
+    let answered = run(rt.alloc(), "ends", &mut reader, &mut writer);
+    assert_eq!(rt; answered, Ok(()));
+    assert_eq!(rt; writer.into_inner().as_slice(), b"2 4 5\n".as_slice());
+    let mut closed = StdIo::new(Closed);
+    let answered = run(rt.alloc(), "ends", &mut reader_of(b"4\n", 1), &mut closed);
+    assert_eq!(rt; answered, Err(Fault::Write));
+    let mut broken = StdIo::new(Broken { line: b"4\n" });
+    let mut writer = empty_tape(rt.alloc(), usize::MAX);
+    let answered = run(rt.alloc(), "ends", &mut broken, &mut writer);
+    assert_eq!(rt; answered, Err(Fault::Read));
+    assert_eq!(rt; writer.calls, 0);
+    Ok(())
+}
+
+#[test]
+fn words(rt: HostRuntime) -> Result<(), Fail> {
+    let mut words = Vec::new(rt.alloc());
+    assert_eq!(rt; one_word(words.as_slice()).err(), Some(Fault::Usage));
+    words.push(String::from_str(rt.alloc(), "ends")?)?;
+    assert_eq!(rt; one_word(words.as_slice()).unwrap_or(""), "ends");
+    words.push(String::from_str(rt.alloc(), "ends")?)?;
+    assert_eq!(rt; one_word(words.as_slice()).err(), Some(Fault::Usage));
+    Ok(())
+}
+
+#[test]
+fn texts_and_statuses(rt: HostRuntime) -> Result<(), Fail> {
+    for (fault, text, status) in [
+        (Fault::Empty, "Given collection was empty", 1),
+        (Fault::BadLine(42), "bad line 42", 2),
+        (Fault::TooLong, "input too long", 2),
+        (Fault::Usage, "usage: ne_runs MODE", 2),
+        (Fault::Read, "read failed", 3),
+        (Fault::Write, "write failed", 3),
+        (Fault::Memory, "out of memory", 4),
+    ] {
+        assert_eq!(rt; fault.to_string(rt.alloc())?.as_str(), text);
+        assert_eq!(rt; fault.status(), status, "{text}");
+    }
+    Ok(())
+}
