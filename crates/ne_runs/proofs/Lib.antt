@@ -2,3 +2,4 @@ pub mod FirstLine
 pub mod Numbers
 pub mod OneList
 pub mod Rows
+pub mod Writes

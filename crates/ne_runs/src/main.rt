@@ -3,7 +3,8 @@
 //! `ne_runs MODE` reads standard input and writes standard output. What goes wrong is told on standard error, and by the exit status.
 #![tactic(auto)]
 
-ghost use Rattle.std.specs.Prelude.{◌≡◌, ◌⊎◌, IfErr};
+ghost use Rattle.std.specs.Prelude.{◌≡◌, ◌⊎◌, ◌↔◌};
+ghost use Rattle.std.specs.IoError.{error_kind};
 
 mod device;
 mod fault;
@@ -16,6 +17,7 @@ mod tests;
 use device::StdIo;
 use fault::Fault;
 use report::{one_word, run};
+use std::io::ErrorKind;
 use std::process::ExitCode;
 use std::{env, io};
 
@@ -43,13 +45,19 @@ fn start(rt: &HostRuntime) -> Result<(), Fault> {
     )
 }
 
-// The words after the program's name. A word that is not UTF-8 is `Usage`.
-fn arguments(rt: &HostRuntime) -> Result<Vec<String>, Fault>
-    ensures { IfErr result (λ fault. (fault ≡ Fault.Usage) ⊎ (fault ≡ Fault.Memory)) }
+// The words after the program's name.
+fn arguments(rt: &HostRuntime) -> Result<Vec<String>, Fault> {
+    let words = env::args(rt).map_err(|error| fault_of_words(&error))?;
+    Ok(words.skip(1).collect(rt.alloc())?)
+}
+
+// Why the words cannot be had: there is no memory for them, or one of them is not UTF-8.
+fn fault_of_words(error: &io::Error) -> Fault
+    ensures memory { (result ≡ Fault.Memory) ↔ (error_kind error.now ≡ ErrorKind.OutOfMemory) }
+    ensures usage { (result ≡ Fault.Usage) ⊎ (result ≡ Fault.Memory) }
 {
-    match env::args(rt) {
-        Ok(words) => Ok(words.skip(1).collect(rt.alloc())?),
-        Err(error) if error.kind() == io::ErrorKind::OutOfMemory => Err(Fault::Memory),
-        Err(_) => Err(Fault::Usage),
+    match error.kind() {
+        ErrorKind::OutOfMemory => Fault::Memory,
+        _ => Fault::Usage,
     }
 }

@@ -1,9 +1,9 @@
 //! A run: from the word of a mode and the bytes that are read to the text that is written.
-ghost use Rattle.std.specs.Prelude.{◌≡◌, ◌≢◌, ℕ, ◌+◌, ◌<◌, ◌≤◌, ◌⊎◌, ◌↔◌, List, [], ◌∷◌, length, map, true, false, None, Some, IfOk, IfErr, OnOk, IfSome, IsErr, IsTrue, IsErrOf, MatchBool, MatchResult, nat_lt, string_bytes};
+ghost use Rattle.std.specs.Prelude.{◌≡◌, ◌≢◌, ℕ, ◌+◌, ◌<◌, ◌≤◌, ◌⊎◌, ◌↔◌, List, [], ◌∷◌, length, map, true, false, None, Some, IfOk, IfErr, OnOk, OnErr, IfSome, IsErr, IsTrue, IsErrOf, MatchBool, MatchResult, nat_lt, string_bytes};
 ghost use Rattle.std.specs.Io.KnownBytes.{Appends, Consumes, IsAtEnd};
 ghost use Rattle.ne_runs.specs.Faults.{most_bytes};
 ghost use Rattle.ne_runs.specs.Modes.{mode_of};
-ghost use Rattle.ne_runs.specs.Runs.{Completes};
+ghost use Rattle.ne_runs.specs.Runs.{Completes, TakesPart};
 
 use crate::device::{Sink, Source};
 use crate::fault::Fault;
@@ -55,7 +55,8 @@ fn read_all<R: Source>(alloc: Global, reader: &mut R) -> Result<Vec<u8>, Fault>
 // Writes a whole text, and flushes.
 fn write_all<W: Sink>(writer: &mut W, text: &[u8]) -> Result<(), Fault>
     requires { W.has_failed writer.old ≡ false }
-    ensures written { OnOk result (Appends (W.taken writer.old) (W.taken writer.new) text.now) }
+    ensures written { OnOk result (TakesPart text.now [] (W.taken writer.old) (W.taken writer.new)) }
+    ensures part { OnErr result ((rest : List ℕ) × TakesPart text.now rest (W.taken writer.old) (W.taken writer.new)) }
     ensures fault { IfErr result (λ fault. fault ≡ Fault.Write) }
     ensures flushed { OnOk result (W.is_flushed writer.new ≡ true) }
     ensures failed { IsErr result ↔ IsTrue (W.has_failed writer.new) }
