@@ -1,5 +1,5 @@
 //! The lines of an input, and the numbers that they write.
-ghost use Rattle.std.specs.Prelude.{◌≡◌, ℕ, ◌+◌, ◌^◌, ◌==◌, ◌<◌, ◌≤◌, ◌⊎◌, List, ◌∷◌, length, map, position, None, Some, IfSome, IsNone, MatchOption, MatchResult, true, false};
+ghost use Rattle.std.specs.Prelude.{◌≡◌, ℕ, ◌+◌, ◌^◌, ◌==◌, ◌<◌, ◌≤◌, ◌⊎◌, List, ◌∷◌, length, position, None, Some, MatchOption, MatchResult, true, false};
 ghost use Rattle.std.specs.Fmt.{decimal};
 ghost use Rattle.ne_runs.specs.Faults.{bad_line, most_bytes};
 ghost use Rattle.ne_runs.specs.Lines.{AreLines, lines_of, is_number, number_of, numbers_of, place_value};

@@ -1,6 +1,6 @@
 //! [`Mode`], what a run makes of its numbers: the word that names each mode, and its text.
 ghost use Rattle.std.specs.Prelude.{◌≡◌, ◌∷◌, ◌++◌, OnOk, IfOk, Some, string_bytes, List, ℕ};
-ghost use Rattle.ne_runs.specs.Modes.{mode_of, word_of, row_text, ends_of, IsText};
+ghost use Rattle.ne_runs.specs.Modes.{mode_of, word_of, row_text, IsText};
 ghost use Rattle.ne_runs.specs.declared.mode.Mode.{Mode};
 
 use ne_vec::NEVec;

@@ -1,6 +1,6 @@
 //! A run: from the word of a mode and the bytes that are read to the text that is written.
-ghost use Rattle.std.specs.Prelude.{◌≡◌, ◌≢◌, ℕ, ◌+◌, ◌<◌, ◌≤◌, ◌⊎◌, ◌↔◌, List, [], ◌∷◌, length, map, true, false, None, Some, IfOk, IfErr, OnOk, OnErr, IfSome, IsErr, IsTrue, IsErrOf, MatchBool, MatchResult, nat_lt, string_bytes};
-ghost use Rattle.std.specs.Io.KnownBytes.{Appends, Consumes, IsAtEnd};
+ghost use Rattle.std.specs.Prelude.{◌≡◌, ◌≢◌, ℕ, ◌+◌, ◌⊎◌, ◌↔◌, List, [], ◌∷◌, length, map, true, false, None, IfOk, IfErr, OnOk, OnErr, IfSome, IsErr, IsTrue, IsErrOf, MatchResult, string_bytes};
+ghost use Rattle.std.specs.Io.KnownBytes.{Consumes, IsAtEnd};
 ghost use Rattle.ne_runs.specs.Faults.{most_bytes};
 ghost use Rattle.ne_runs.specs.Modes.{mode_of};
 ghost use Rattle.ne_runs.specs.Runs.{Completes, TakesPart};
@@ -36,8 +36,7 @@ fn read_all<R: Source>(alloc: Global, reader: &mut R) -> Result<Vec<u8>, Fault>
     ensures read { IsErrOf result Fault.Read ↔ IsTrue (R.has_failed reader.new) }
     ensures faults { IfErr result (λ fault. (fault ≡ Fault.Read) ⊎ (fault ≡ Fault.Memory)) }
     ensures bytes { IfOk result (λ input. Consumes (R.left reader.old) (R.left reader.new) input.items) }
-    ensures whole { IfOk result (λ input. MatchBool (nat_lt most_bytes (length input.items))
-        (length input.items ≡ most_bytes + 1) (IsAtEnd (R.left reader.new))) }
+    ensures whole { IfOk result (λ input. IsAtEnd (R.left reader.new) ⊎ (length input.items ≡ most_bytes + 1)) }
 {
     let mut input = Vec::new(alloc);
     let mut chunk = [0u8; CHUNK];
@@ -73,7 +72,9 @@ fn write_all<W: Sink>(writer: &mut W, text: &[u8]) -> Result<(), Fault>
 
 /// Reads numbers, one a line, and writes what the mode that `mode` names makes of them.
 ///
-/// The whole text is built before the first write. At most one byte beyond the limit is read.
+/// No call on the reader or the writer may have failed before. The whole text is built before the first write, and at most one byte
+/// beyond the limit is read. Of the faults, `Usage` comes before all others; of an input, `TooLong` comes before `BadLine`, and that
+/// before `Empty`.
 pub fn run<R: Source, W: Sink>(
     alloc: Global,
     mode: &str,
@@ -94,7 +95,7 @@ pub fn run<R: Source, W: Sink>(
     ensures unwritten { IfErr result (λ fault. fault ≢ Fault.Write → writer.new ≡ writer.old) }
     ensures flushed { OnOk result (W.is_flushed writer.new ≡ true) }
 
-    // In any other case the run ends as the bytes that it read have it.
+    // Where a mode is named, no read failed and memory was there, the run ends as the bytes that it read have it.
     ensures completes { IfSome (mode_of mode.now) (λ m. IsErrOf result Fault.Read ⊎ IsErrOf result Fault.Memory
         ⊎ Completes m (R.left reader.old) (R.left reader.new) (W.taken writer.old) (W.taken writer.new) result) }
 {
