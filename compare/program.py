@@ -1,4 +1,4 @@
-"""The proved program, and what it has to do: a reference that shares nothing with it but the definition of its modes."""
+"""The proved program, and a reference of what it has to do, written from the description of its modes and faults alone."""
 
 import os
 import subprocess

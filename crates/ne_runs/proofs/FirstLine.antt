@@ -6,19 +6,19 @@ use Rattle.std.proofs.lemmas.Bool.Decides.{nat_tests}
 use Rattle.ne_runs.specs.Lines.{lines_of}
 
 -- the first line is what stands before the first line feed
-pub lines_of-ended : (end : ℕ) (text : List ℕ) → end < length text → ((k : ℕ) → k < end → eqb (get_or text k 0) 10 ≡ false) → eqb (get_or text end 0) 10 ≡ true
+pub lines_of-at_feed : (end : ℕ) (text : List ℕ) → end < length text → ((k : ℕ) → k < end → eqb (get_or text k 0) 10 ≡ false) → eqb (get_or text end 0) 10 ≡ true
     → lines_of text ≡ take end text ∷ lines_of (drop (suc end) text)
-lines_of-ended end [] inside before here = absurd (omega arith)
-lines_of-ended zero (byte ∷ text) inside before here = rw here
-lines_of-ended (suc end) (byte ∷ text) inside before here =
-    rw (before 0 (omega arith), lines_of-ended end text (omega arith) (λ k below. before (suc k) (omega arith)) here)
+lines_of-at_feed end [] inside before here = absurd (omega arith)
+lines_of-at_feed zero (byte ∷ text) inside before here = rw here
+lines_of-at_feed (suc end) (byte ∷ text) inside before here =
+    rw (before 0 (omega arith), lines_of-at_feed end text (omega arith) (λ k below. before (suc k) (omega arith)) here)
 
 -- a text without a line feed is one line
-pub lines_of-open : (text : List ℕ) → 0 < length text → ((k : ℕ) → k < length text → eqb (get_or text k 0) 10 ≡ false) → lines_of text ≡ text ∷ []
-lines_of-open [] some none = absurd (omega arith)
-lines_of-open (byte ∷ []) some none = rw (none 0 (omega arith))
-lines_of-open (byte ∷ next ∷ text) some none =
-    rw (none 0 (omega arith), lines_of-open (next ∷ text) (omega arith) (λ k below. none (suc k) (omega arith)))
+pub lines_of-no_feed : (text : List ℕ) → 0 < length text → ((k : ℕ) → k < length text → eqb (get_or text k 0) 10 ≡ false) → lines_of text ≡ text ∷ []
+lines_of-no_feed [] some none = absurd (omega arith)
+lines_of-no_feed (byte ∷ []) some none = rw (none 0 (omega arith))
+lines_of-no_feed (byte ∷ next ∷ text) some none =
+    rw (none 0 (omega arith), lines_of-no_feed (next ∷ text) (omega arith) (λ k below. none (suc k) (omega arith)))
 
 none_before : (first len k : ℕ) → cond (ltb first len) (Some first) None ≡ None → k < len → k < first
 none_before first len k none below = grind (arith, nat_tests)

@@ -12,7 +12,7 @@ word_of Ends = codes "ends"
 
 -- the mode that a word names
 abbrev pub mode_of : List ℕ → Option Mode
-mode_of word = if bytes_eq word (codes "ends") then Some Ends else None
+mode_of word = if bytes_eq word (word_of Ends) then Some Ends else None
 
 -- how many numbers there are, the first and the last
 abbrev pub ends_of : List ℕ → List ℕ

@@ -22,7 +22,7 @@ pub record WritesBut (rest : List ℕ) (mode : Mode) (input : List ℕ) (taken t
   pub takes : TakesPart text rest taken taken'
 
 -- How a run ends that has read this input: nothing is wrong with it, and the whole text was written; or the fault is what is wrong
--- with it; or nothing is wrong with it, and a write failed when some rest of the text was left.
+-- with it; or nothing is wrong with it, and a write or the flush failed when some rest of the text, perhaps none, was left.
 abbrev pub EndsWith : Mode → List ℕ → Option (List ℕ) → Option (List ℕ) → Result (Unit {0}) Fault → Type 0
 EndsWith mode input taken taken' result =
     MatchResult result

@@ -1,7 +1,8 @@
 //! What a run reads from and writes to.
 //!
-//! [`Source`] and [`Sink`] are the two sides of a run. Each tells its bytes, and whether a call on it has failed, so that a run's
-//! contract can say what was read and written, and when a failure was met. [`StdIo`] makes them of std's readers and writers.
+//! [`Source`] and [`Sink`] are the two sides of a run. Each tells its bytes and whether a call on it has failed, and a sink whether it
+//! was flushed, so that a run's contract can say what was read and written, and when a failure was met. [`StdIo`] makes them of std's
+//! readers and writers.
 ghost use Rattle.std.specs.Prelude.{◌≡◌, ℕ, ◌<◌, ◌≤◌, Bool, true, false, ◌||◌, List, length, IfOk, OnOk, Option, is_err};
 ghost use Rattle.std.specs.Io.KnownBytes.{ReadConsumes, WriteAppends, Keeps};
 
@@ -119,8 +120,14 @@ impl<T: io::Write> Sink for StdIo<T> {
 
     ghost is_flushed = { λ device. device.is_flushed };
 
-    /// A write that takes no byte of a text that is not empty has failed.
-    fn write(&mut self, text: &[u8]) -> Result<usize, ()> {
+    /// A write that takes no byte of a text that is not empty has failed. What is taken is to be flushed.
+    fn write(&mut self, text: &[u8]) -> Result<usize, ()>
+        ensures bound { IfOk result (λ count. count ≤ length text.now) }
+        ensures progress { 0 < length text.now → IfOk result (λ count. 0 < count) }
+        ensures bytes { WriteAppends (T.contents self.old.inner) (T.contents self.new.inner) result text.now }
+        ensures failed { self.new.has_failed ≡ (self.old.has_failed || is_err result) }
+        ensures unflushed { OnOk result (self.new.is_flushed ≡ false) }
+    {
         match self.inner.write(text) {
             Ok(count) if count > 0 || text.is_empty() => {
                 self.is_flushed = false;

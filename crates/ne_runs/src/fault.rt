@@ -1,4 +1,4 @@
-//! [`Fault`], what ends a run before its text is written: seven of them, each with its text and its exit status.
+//! [`Fault`], why a run ended otherwise than by writing its text: seven of them, each with its text and its exit status.
 ghost use Rattle.std.specs.Prelude.{◌≡◌, Some};
 ghost use Rattle.ne_runs.specs.Faults.{fault_text, fault_status};
 ghost use Rattle.ne_runs.specs.declared.fault.Fault.TheVariants.{Memory};
@@ -7,7 +7,7 @@ use std::alloc::{AllocError, AllocFailed};
 use std::error::Error;
 use std::fmt;
 
-/// Why a run did not write its text.
+/// Why a run ended otherwise than by writing its whole text and flushing it.
 #[derive(Clone, Copy, Debug, PartialEq, Eq)]
 pub enum Fault {
     /// The input has no line.

@@ -28,8 +28,8 @@ fn line_end(text: &[u8]) -> Option<usize>
     text.iter().position(|byte| *byte == b'\n')
 }
 
-/// The first line of a text, and what follows it.
-pub fn first_line(text: &[u8]) -> (&[u8], &[u8])
+// The first line of a text, and what follows it.
+fn first_line(text: &[u8]) -> (&[u8], &[u8])
     requires { 0 < length text.now }
     ensures lines { lines_of text.now ≡ result.0.now ∷ lines_of result.1.now }
     ensures shorter { length result.1.now < length text.now }
@@ -40,8 +40,8 @@ pub fn first_line(text: &[u8]) -> (&[u8], &[u8])
     }
 }
 
-/// The number that a line of one to nine digits writes; `None` for any other line.
-pub fn number(line: &[u8]) -> Option<u32>
+// The number that a line of one to nine digits writes; `None` for any other line.
+fn number(line: &[u8]) -> Option<u32>
     ensures { MatchOption result (is_number line.now ≡ false)
         (λ number. (is_number line.now ≡ true) × (number ≡ number_of line.now)) }
 {
@@ -58,7 +58,7 @@ pub fn number(line: &[u8]) -> Option<u32>
     Some(value)
 }
 
-/// The numbers of all lines of a text, in order; or its first bad line.
+/// The numbers of all lines of a text, in order; or its first bad line, or `Memory` where there is no memory for them.
 pub fn numbers(alloc: Global, text: &[u8]) -> Result<Vec<u32>, Fault>
     requires { length text.now ≤ most_bytes }
     ensures { MatchResult result

@@ -5,7 +5,7 @@ mod fakes;
 use crate::device::StdIo;
 use crate::fault::Fault;
 use crate::report::{one_word, run};
-use fakes::{Broken, Closed, Endless, empty_tape, reader_of};
+use fakes::{Broken, Clogged, Closed, Endless, empty_tape, reader_of};
 use std::alloc::{AllocError, Global};
 use std::test::Fail;
 
@@ -139,6 +139,15 @@ fn std_readers_and_writers(rt: HostRuntime) -> Result<(), Fail> {
     let mut closed = StdIo::new(Closed);
     let answered = run(rt.alloc(), "ends", &mut reader_of(b"4\n", 1), &mut closed);
     assert_eq!(rt; answered, Err(Fault::Write));
+    for (write_fails, flushes) in [(true, 0), (false, 1)] {
+        let mut clogged = StdIo::new(Clogged {
+            write_fails,
+            flushes: 0,
+        });
+        let answered = run(rt.alloc(), "ends", &mut reader_of(b"4\n", 1), &mut clogged);
+        assert_eq!(rt; answered, Err(Fault::Write));
+        assert_eq!(rt; clogged.into_inner().flushes, flushes);
+    }
     let mut broken = StdIo::new(Broken { line: b"4\n" });
     let mut writer = empty_tape(rt.alloc(), usize::MAX);
     let answered = run(rt.alloc(), "ends", &mut broken, &mut writer);

@@ -139,6 +139,27 @@ impl io::Write for Closed {
     }
 }
 
+/// A writer of std that takes all, or fails where it is told to, and counts its flushes, which fail.
+#[derive(Drop)]
+pub struct Clogged {
+    pub write_fails: bool,
+    pub flushes: usize,
+}
+
+impl io::Write for Clogged {
+    fn write(&mut self, text: &[u8]) -> io::Result<usize> {
+        if self.write_fails {
+            return Err(io::Error::from(io::ErrorKind::Other));
+        }
+        Ok(text.len())
+    }
+
+    fn flush(&mut self) -> io::Result<()> {
+        self.flushes = self.flushes.saturating_add(1);
+        Err(io::Error::from(io::ErrorKind::Other))
+    }
+}
+
 /// A reader of std that gives a line, and then fails.
 #[derive(Drop)]
 pub struct Broken {
