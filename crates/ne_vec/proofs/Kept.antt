@@ -1,0 +1,65 @@
+-- What `retain_mut` and `dedup_by` keep.
+use Rattle.std.proofs.Common.{◌≡◌, ◌<◌, Bool, true, false, cond, List, [], ◌∷◌, ◌++◌, length, map, refl, sym, ap, subst, ◌∙◌, arith}
+use Rattle.std.specs.List.{filter}
+use Rattle.std.specs.List.Retain.{RetainsInTurn, DedupsFrom, IsDeduped}
+use Rattle.std.specs.Bool.{MatchBool}
+use Rattle.std.specs.Fn.{CalledAtMut, ComparesKeys}
+use Rattle.std.specs.Borrow.{MutBor}
+use denote.Param.Members.{Mut}
+use Rattle.ne_vec.specs.Divisions.{by_first, firsts}
+use Rattle.ne_vec.specs.Kept.{KeepsFirsts, ActsAsAtMut}
+use Rattle.ne_vec.proofs.Divisions.{cut, cut_on, cut_off, divides}
+
+-- ---- `retain_mut`, by a test that is a function of the item
+
+module _ {S A : Type 0} (R : S → A → Bool → S → A → Type 0) (keeps : A → Bool) (writes : A → A) (s : S) (pure : (x : A) (b : Bool) (t : S) (y : A) → R s x b t y → (t ≡ s) × (b ≡ keeps x) × (y ≡ writes x)) where
+  pub retains_filtered : (xs ys : List A) → RetainsInTurn R s xs ys → ys ≡ map writes (filter keeps xs)
+  retains_filtered [] ys r = r
+  retains_filtered (x ∷ xs) ys (b, t, y, called, zs, rest, is) =
+      let p = pure x b t y called in
+      let kept : zs ≡ map writes (filter keeps xs) = retains_filtered xs zs (subst (λ v. RetainsInTurn R v xs zs) p.0 rest) in
+      let one : ys ≡ cond (keeps x) (writes x ∷ map writes (filter keeps xs)) (map writes (filter keeps xs)) = rw (is, p.1, p.2, kept) refl in
+      one ∙ elim (keeps x) as (λ v. cond v (writes x ∷ map writes (filter keeps xs)) (map writes (filter keeps xs)) ≡ map writes (cond v (x ∷ filter keeps xs) (filter keeps xs))) [ true ↦ refl | false ↦ refl ]
+
+-- ---- `dedup_by`, by any test
+
+module _ {S A : Type 0} (R : S → A → A → Bool → S → A → A → Type 0) where
+  stays_from : (s : S) (k : A) (xs ys : List A) → DedupsFrom R s k xs ys → 0 < length ys
+  stays_from s k [] ys d = rw d (Prim.omega arith)
+  stays_from s k (x ∷ xs) ys (true, t, x', k', called, rest) = stays_from t k' xs ys rest
+  stays_from s k (x ∷ xs) ys (false, t, x', k', called, rest) = rw rest.2 (Prim.omega arith)
+
+  -- at least one item stays
+  pub stays : (s : S) (xs ys : List A) → IsDeduped R s xs ys → 0 < length xs → 0 < length ys
+  stays s [] ys d some = absurd (Prim.omega (arith, some))
+  stays s (x ∷ xs) ys d some = stays_from s x xs ys d.told
+
+-- ---- by a test that is a function of the items
+
+module _ {S A : Type 0} (R : S → A → A → Bool → S → A → A → Type 0) (same : A → A → Bool) (s : S) (pure : (x k : A) (b : Bool) (t : S) (x' k' : A) → R s x k b t x' k' → (t ≡ s) × (b ≡ same x k) × (x' ≡ x) × (k' ≡ k)) where
+  abbrev goes_on : List A → A → Bool
+  goes_on = by_first (λ kept later. same later kept)
+
+  firsts_from : (xs : List A) (k : A) (run ys : List A) → DedupsFrom R s k xs ys → ys ≡ firsts (cut goes_on (k ∷ run) xs)
+  firsts_from [] k run ys d = d
+  firsts_from (x ∷ xs) k run ys (true, t, x', k', called, d) =
+      let p = pure x k true t x' k' called in
+      let rest : ys ≡ firsts (cut goes_on (k ∷ (run ++ x ∷ [])) xs) = firsts_from xs k (run ++ x ∷ []) ys (subst (λ v. DedupsFrom R v k xs ys) p.0 (subst (λ v. DedupsFrom R t v xs ys) p.3 d)) in
+      rest ∙ ap firsts (sym (cut_on goes_on (k ∷ run) x xs (sym p.1)))
+  firsts_from (x ∷ xs) k run ys (false, t, x', k', called, d) =
+      let p = pure x k false t x' k' called in
+      let rest : d.0 ≡ firsts (cut goes_on (x ∷ []) xs) = firsts_from xs x [] d.0 (subst (λ v. DedupsFrom R v x xs d.0) p.0 (subst (λ v. DedupsFrom R t v xs d.0) p.2 d.1)) in
+      d.2 ∙ ap (λ v. v ∷ d.0) p.3 ∙ ap (λ l. k ∷ l) rest ∙ ap firsts (sym (cut_off goes_on (k ∷ run) x xs (sym p.1)))
+
+  -- the first items of the runs stay
+  pub keeps_firsts : (xs ys : List A) → IsDeduped R s xs ys → KeepsFirsts same xs ys
+  keeps_firsts [] ys d = ([], divides goes_on [], d.told)
+  keeps_firsts (x ∷ xs) ys d = (cut goes_on (x ∷ []) xs, divides goes_on (x ∷ xs), firsts_from xs x [] ys d.told)
+
+-- a comparison by keys, where the key is a function of the item
+pub compares : {F X K : Type 0} (g : Mut F (MutBor X × Unit {0}) (K × (MutBor X × Unit {0}))) (eq : K → K → Bool) (read : X → K) (f : F) → ActsAsAtMut g f read (λ x. x)
+    → (x y : X) (b : Bool) (f' : F) (x' y' : X) → ComparesKeys g eq f x y b f' x' y' → (f' ≡ f) × (b ≡ eq (read x) (read y)) × (x' ≡ x) × (y' ≡ y)
+compares g eq read f pure x y b f' x' y' c =
+    let first = pure x c.key c.between x' c.first in
+    let second = pure y c.other f' y' (subst (λ s. CalledAtMut g s y c.other f' y') first.0 c.second) in
+    (second.0, c.compared ∙ ap (λ k. eq k c.other) first.1 ∙ ap (eq (read x)) second.1, first.2, second.2)

@@ -1,0 +1,5 @@
+pub mod Lists
+pub mod Divisions
+pub mod Relations
+pub mod Kept
+pub mod Chunked

@@ -1,0 +1,8 @@
+use Rattle.ne_vec.proofs.Divisions.{division_goes_on, division_breaks}
+use Rattle.ne_vec.proofs.laws.one_item_more.Goals as goal
+
+pub returns-clause-goes_on : goal.returns-clause-goes_on
+returns-clause-goes_on g c goes_on xs x rs last h on = division_goes_on goes_on xs x rs last h on
+
+pub returns-clause-breaks : goal.returns-clause-breaks
+returns-clause-breaks g c goes_on xs x rs last h off = division_breaks goes_on xs x rs last h off

@@ -1,0 +1,48 @@
+-- The division of a list into runs, as a relation over whole lists.
+use Rattle.std.specs.Prelude.{◌≡◌, ◌≢◌, ⊤, Bool, true, false, List, [], ◌∷◌, ◌++◌}
+use Rattle.std.specs.List.{AllByRecursion}
+
+-- the lists, one after another
+abbrev pub joined : {A : Type 0} → List (List A) → List A
+joined [] = []
+joined (r ∷ rs) = r ++ joined rs
+
+-- R holds of each list and the one after it
+abbrev pub Neighbours : {A : Type 0} → (A → A → Type 0) → List A → Type 0
+Neighbours R [] = ⊤
+Neighbours R (r ∷ []) = ⊤
+Neighbours R (r ∷ s ∷ rs) = R r s × Neighbours R (s ∷ rs)
+
+-- whether x goes on a run, by the run's first item
+abbrev pub by_first : {A : Type 0} → (A → A → Bool) → List A → A → Bool
+by_first same [] x = true
+by_first same (first ∷ later) x = same first x
+
+-- and by its last item, which is the one before x
+abbrev pub by_previous : {A : Type 0} → (A → A → Bool) → List A → A → Bool
+by_previous same [] x = true
+by_previous same (last ∷ []) x = same last x
+by_previous same (first ∷ second ∷ later) x = by_previous same (second ∷ later) x
+
+module _ {A : Type 0} (goes_on : List A → A → Bool) where
+  -- r has an item, and each later item goes on the part of r before it
+  pub record IsRun (r : List A) : Type 0 where
+    pub some : r ≢ []
+    pub inside : (front : List A) (x : A) (back : List A) → front ≢ [] → r ≡ front ++ x ∷ back → goes_on front x ≡ true
+
+  -- the first item of s doesn't go on r
+  abbrev pub Breaks : List A → List A → Type 0
+  Breaks r [] = ⊤
+  Breaks r (x ∷ back) = goes_on r x ≡ false
+
+  -- rs are the runs of xs
+  pub record IsDivision (xs : List A) (rs : List (List A)) : Type 0 where
+    pub whole : joined rs ≡ xs
+    pub runs : AllByRecursion IsRun rs
+    pub breaks : Neighbours Breaks rs
+
+-- the first items of the lists
+abbrev pub firsts : {A : Type 0} → List (List A) → List A
+firsts [] = []
+firsts ([] ∷ rs) = firsts rs
+firsts ((x ∷ r) ∷ rs) = x ∷ firsts rs

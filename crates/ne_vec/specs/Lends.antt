@@ -1,0 +1,24 @@
+-- What a vector ends as once what it lent for writing is given back.
+use Rattle.std.specs.Prelude.{ℕ, List, length, slice_set, Option}
+use Rattle.std.specs.Borrow.{Lends, LendsIf, follows, Fml, RattleType, MutBor, Array}
+use Rattle.std.specs.List.{refill}
+use Rattle.std.specs.Slice.Iter.{iter_mut_name}
+use Rattle.std.specs.declared.slice.IterMut.{IterMut}
+use Rattle.ne_vec.specs.contracts.vector.NEVec.{the_row}
+
+module _ (T : RattleType) (v : MutBor (List T.Denot)) where
+  -- place i has what was last written through r, and the others are as they were
+  abbrev pub LendsItem : ℕ → MutBor T.Denot → Fml
+  LendsItem i r = Lends (the_row T) T v r (slice_set v.now i)
+
+  -- the same, where r is there; without it nothing changes
+  abbrev pub LendsItemIf : ℕ → Option (MutBor T.Denot) → Fml
+  LendsItemIf i r = LendsIf (the_row T) T v r (slice_set v.now i) v.now
+
+  -- the items are those that r shows last, as many as they were
+  abbrev pub LendsItems : MutBor (List T.Denot) → Fml
+  LendsItems r = Lends (the_row T) (Array T 0) v r (refill (length v.now) v.now)
+
+  -- the items are those that the walk left, as many as they were
+  abbrev pub LendsWalk : IterMut T.Denot → Fml
+  LendsWalk it = follows (the_row T) (Array T 0) v.ghost_name (iter_mut_name it) (refill (length v.now) v.now)

@@ -1,0 +1,6 @@
+pub mod Divisions
+pub mod Kept
+pub mod Chunks
+pub mod Walks
+pub mod Lends
+pub mod Held

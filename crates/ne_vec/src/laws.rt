@@ -1,0 +1,41 @@
+//! Laws on what the contracts cite. Each is the contract of a function that does nothing.
+ghost use Rattle.std.specs.Prelude.{◌≡◌, ◌<◌, ◌≤◌, ◌↔◌, ℕ, Bool, true, false, List, [], ◌∷◌, ◌++◌, length};
+ghost use Rattle.std.specs.List.{AllByRecursion};
+ghost use Rattle.std.specs.Cmp.{IsPartialEquivalence};
+ghost use Rattle.ne_vec.specs.Divisions.{IsDivision, by_first, by_previous, joined};
+ghost use Rattle.ne_vec.specs.Chunks.{chunks};
+
+/// Each list has exactly one division into runs, whatever tells which items go on a run.
+pub fn has_one_division<T>()
+    ensures exists { (goes_on : List T → T → Bool) (xs : List T) → (rs : List (List T)) × IsDivision goes_on xs rs }
+    ensures unique { (goes_on : List T → T → Bool) (xs : List T) (rs others : List (List T)) → IsDivision goes_on xs rs → IsDivision goes_on xs others → rs ≡ others }
+{}
+
+/// The runs of a list, all but its last, are the first runs of each longer list.
+pub fn longer_list_keeps_runs<T>()
+    ensures { (goes_on : List T → T → Bool) (xs more : List T) (rs all : List (List T)) (last : List T) → IsDivision goes_on xs (rs ++ last ∷ []) → IsDivision goes_on (xs ++ more) all → (rest : List (List T)) × (all ≡ rs ++ rest) }
+{}
+
+/// One item more goes on the last run, or begins a run of its own.
+pub fn one_item_more<T>()
+    ensures goes_on { (goes_on : List T → T → Bool) (xs : List T) (x : T) (rs : List (List T)) (last : List T) → IsDivision goes_on xs (rs ++ last ∷ []) → goes_on last x ≡ true → IsDivision goes_on (xs ++ x ∷ []) (rs ++ (last ++ x ∷ []) ∷ []) }
+    ensures breaks { (goes_on : List T → T → Bool) (xs : List T) (x : T) (rs : List (List T)) (last : List T) → IsDivision goes_on xs (rs ++ last ∷ []) → goes_on last x ≡ false → IsDivision goes_on (xs ++ x ∷ []) ((rs ++ last ∷ []) ++ (x ∷ []) ∷ []) }
+{}
+
+/// Under a symmetric and transitive relation it is all one whether an item is compared with its run's first item or with the item
+/// before it.
+pub fn first_and_previous_agree<T>()
+    ensures { (same : T → T → Bool) (xs : List T) (rs : List (List T)) → IsPartialEquivalence same → (IsDivision (by_first same) xs rs ↔ IsDivision (by_previous same) xs rs) }
+{}
+
+/// A symmetric relation and its converse have the same division.
+pub fn converse_has_the_same_division<T>()
+    ensures { (same : T → T → Bool) (xs : List T) (rs : List (List T)) → ((x y : T) → same x y ≡ same y x) → IsDivision (by_first same) xs rs → IsDivision (by_first (λ x y. same y x)) xs rs }
+{}
+
+/// The chunks of a list are the list, one after another; each but the last has the size that was asked for, and the last has at
+/// least one item and at most that size.
+pub fn chunks_make_the_whole<T>()
+    ensures whole { (size : ℕ) (xs : List T) → 0 < size → joined (chunks size xs) ≡ xs }
+    ensures sizes { (size : ℕ) (xs : List T) (front : List (List T)) (last : List T) → 0 < size → chunks size xs ≡ front ++ last ∷ [] → AllByRecursion (λ c. length c ≡ size) front × (0 < length last) × (length last ≤ size) }
+{}

@@ -1,0 +1,327 @@
+//! [`NESlice`], a part of a list that is never empty, its chunks, and the walk over it.
+ghost use Rattle.std.specs.Prelude.{◌≡◌, ◌-◌, ◌<◌, ◌↔◌, [], length, false, Some, None, IfSome, slice_get, ⊤};
+ghost use Rattle.std.specs.NonZero.{non_zero_usize_get};
+ghost use Rattle.std.specs.Iterator.{YieldsFirst, item_count};
+ghost use Rattle.std.specs.Cmp.Lexicographic.{pointwise, slice_cmp, slice_partial_cmp, lists_equiv, lists_agrees, lists_total, lists_ties, lists_po, lists_per};
+ghost use Rattle.std.specs.Hash as fed;
+ghost use Rattle.std.specs.Hash.{items_Alike};
+
+use std::alloc::AllocError;
+use std::cmp::Ordering;
+use std::convert::AsSlice;
+use std::fmt::Debug;
+use std::hash::{Hash, Hasher};
+use std::marker::Model;
+use std::num::NonZeroUsize;
+use std::ops::Index;
+use std::{fmt, slice};
+
+/// A part of a list that holds at least one item, borrowed.
+///
+/// A contract sees it as the list of its items. None of its calls takes memory.
+#[derive(Drop)]
+pub struct NESlice<'a, T> {
+    pub(crate) inner: &'a [T],
+}
+
+impl<'a, T> Model for NESlice<'a, T> {
+    ghost use Rattle.std.specs.Prelude.{◌<◌, List, length};
+
+    ghost Value = { List T };
+
+    ghost view = { λ s. s.inner.now };
+
+    ghost invariant = { λ s. 0 < length s.inner.now };
+}
+
+impl<'a, T> NESlice<'a, T> {
+    ghost use Rattle.ne_vec.specs.Walks.{Walks};
+    ghost use Rattle.ne_vec.specs.Chunks.{chunks};
+
+    /// The first item.
+    pub fn first(&self) -> &T
+        ensures { slice_get self.now 0 ≡ Some result.now }
+    {
+        &self.inner[0]
+    }
+
+    /// The last item, which is the first one where there is no other.
+    pub fn last(&self) -> &T
+        ensures { slice_get self.now (length self.now - 1) ≡ Some result.now }
+    {
+        &self.inner[self.inner.len() - 1]
+    }
+
+    /// The slice itself, or `None`, exactly where it is empty.
+    pub fn try_from_slice(slice: &'a [T]) -> Option<Self>
+        ensures empty { (result ≡ None) ↔ (slice.now ≡ []) }
+        ensures same { IfSome result (λ s. s ≡ slice.now) }
+    {
+        if slice.is_empty() {
+            None
+        } else {
+            Some(NESlice { inner: slice })
+        }
+    }
+
+    /// How many items there are.
+    pub fn len(&self) -> NonZeroUsize
+        ensures { non_zero_usize_get result ≡ length self.now }
+    {
+        NonZeroUsize::new(self.inner.len()).unwrap()
+    }
+
+    /// `false`: there is an item.
+    ///
+    /// It is there for code that is written for slices too. In the Rust crate it is deprecated.
+    pub fn is_empty(&self) -> bool
+        ensures { result ≡ false }
+    {
+        false
+    }
+
+    /// Std's walk over the items, in order.
+    pub fn iter(&self) -> slice::Iter<'_, T>
+        ensures { Walks self.now result }
+    {
+        self.inner.iter()
+    }
+
+    /// The walk over the items, in order, that knows that there is one.
+    pub fn nonempty_iter(&self) -> Iter<'_, T>
+        ensures { result ≡ self.now }
+    {
+        Iter { inner: self.inner }
+    }
+
+    /// The chunks of `chunk_size` items, in order, of which the last may be shorter. They are parts of the slice: nothing is
+    /// copied.
+    pub fn nonempty_chunks(&'a self, chunk_size: NonZeroUsize) -> NEChunks<'a, T>
+        ensures { result ≡ chunks (non_zero_usize_get chunk_size) self.now }
+    {
+        NEChunks {
+            inner: self.inner.chunks(chunk_size.get()),
+        }
+    }
+}
+
+/// To read it as a slice. It stands in the place of the Rust crate's `AsRef<[T]>`.
+impl<'a, T> AsSlice<T> for NESlice<'a, T> {
+    ghost items = { λ s. s };
+
+    fn as_slice(&self) -> &[T] {
+        self.inner
+    }
+}
+
+impl<'a, T> IntoIterator for NESlice<'a, T> {
+    ghost use Rattle.ne_vec.specs.Walks.{Walks};
+
+    type Item = &'a T;
+
+    type IntoIter = slice::Iter<'a, T>;
+
+    ghost into_iter_gives = { λ s it. Walks s it };
+
+    fn into_iter(self) -> slice::Iter<'a, T> {
+        self.inner.iter()
+    }
+}
+
+impl<'a, T> IntoIterator for &'a NESlice<'a, T> {
+    ghost use Rattle.ne_vec.specs.Walks.{Walks};
+
+    type Item = &'a T;
+
+    type IntoIter = slice::Iter<'a, T>;
+
+    ghost into_iter_gives = { λ s it. Walks s.now it };
+
+    fn into_iter(self) -> slice::Iter<'a, T> {
+        self.inner.iter()
+    }
+}
+
+/// On the condition that the place is below the length; in the Rust crate it panics otherwise.
+impl<'a, T> Index<usize> for NESlice<'a, T> {
+    type Output = T;
+
+    ghost can_index = { λ s i. i < length s };
+
+    ghost index_gives = { λ s i x. slice_get s i ≡ Some x };
+
+    fn index(&self, index: usize) -> &T
+        requires { index < length self.now }
+        ensures { slice_get self.now index ≡ Some result.now }
+    {
+        let items = self.inner;
+        &items[index]
+    }
+}
+
+/// The same part once more; it takes no memory, and is never refused.
+impl<'a, T> Clone for NESlice<'a, T> {
+    ghost is_clone = { λ s t. t ≡ s };
+
+    ghost is_infallible = { λ _. ⊤ };
+
+    fn clone(&self) -> Result<NESlice<'a, T>, AllocError> {
+        Ok(NESlice { inner: self.inner })
+    }
+}
+
+/// Prints as std prints a list: `[1, 2, 3]`. The Rust crate prints the name `NESlice` and its field.
+impl<'a, T: Debug> Debug for NESlice<'a, T> {
+    fn fmt<W: fmt::Write>(&self, f: &mut fmt::Formatter<W>) -> fmt::Result {
+        self.inner.fmt(f)
+    }
+}
+
+impl<'a, T: PartialEq> PartialEq for NESlice<'a, T> {
+    ghost eq = { pointwise T.eq };
+
+    ghost laws = { lists_per T.laws };
+
+    fn eq(&self, other: &NESlice<'a, T>) -> bool {
+        self.inner == other.inner
+    }
+}
+
+impl<'a, T: Eq> Eq for NESlice<'a, T> {
+    ghost laws = { lists_equiv T.Eq.laws };
+}
+
+impl<'a, T: Hash> Hash for NESlice<'a, T> {
+    ghost hash_input = { fed.slice T.hash_input };
+
+    ghost respects_eq = { (items_Alike (record { fed = T.respects_eq })).fed };
+
+    fn hash<H: Hasher>(&self, state: &mut H) {
+        self.inner.hash(state);
+    }
+}
+
+impl<'a, T: PartialOrd> PartialOrd for NESlice<'a, T> {
+    ghost partial_cmp = { slice_partial_cmp T.partial_cmp };
+
+    ghost laws = { lists_po T.PartialOrd.laws };
+
+    fn partial_cmp(&self, other: &NESlice<'a, T>) -> Option<Ordering> {
+        self.inner.partial_cmp(&other.inner)
+    }
+}
+
+impl<'a, T: Ord> Ord for NESlice<'a, T> {
+    ghost cmp = { slice_cmp T.cmp };
+
+    ghost total = { lists_total T.total };
+
+    ghost matches_partial_cmp = { lists_agrees T.matches_partial_cmp };
+
+    ghost matches_eq = { lists_ties T.cmp T.matches_eq };
+
+    fn cmp(&self, other: &NESlice<'a, T>) -> Ordering {
+        self.inner.cmp(&other.inner)
+    }
+}
+
+/// A walk over the items of an [`NESlice`], at least one. A contract sees it as their list.
+#[derive(Drop)]
+pub struct Iter<'a, T> {
+    inner: &'a [T],
+}
+
+impl<'a, T> Model for Iter<'a, T> {
+    ghost use Rattle.std.specs.Prelude.{◌<◌, List, length};
+
+    ghost Value = { List T };
+
+    ghost view = { λ w. w.inner.now };
+
+    ghost invariant = { λ w. 0 < length w.inner.now };
+}
+
+impl<'a, T> From<NESlice<'a, T>> for Iter<'a, T> {
+    ghost from_gives = { λ s w. w ≡ s };
+
+    fn from(value: NESlice<'a, T>) -> Iter<'a, T> {
+        Iter { inner: value.inner }
+    }
+}
+
+impl<'a, T> IntoIterator for Iter<'a, T> {
+    ghost use Rattle.ne_vec.specs.Walks.{Walks};
+
+    type Item = &'a T;
+
+    type IntoIter = slice::Iter<'a, T>;
+
+    ghost into_iter_gives = { λ v it. Walks v it };
+
+    fn into_iter(self) -> slice::Iter<'a, T> {
+        self.inner.iter()
+    }
+}
+
+/// The chunks of a list, at least one. A contract sees them as the list of the chunks.
+#[derive(Drop)]
+pub struct NEChunks<'a, T> {
+    pub(crate) inner: slice::Chunks<'a, T>,
+}
+
+impl<'a, T> Model for NEChunks<'a, T> {
+    ghost use Rattle.std.specs.Prelude.{◌<◌, List, length};
+    ghost use Rattle.std.specs.Slice.Iter.{chunks_rest, chunks_size};
+    ghost use Rattle.ne_vec.specs.Chunks.{chunks_left};
+
+    ghost Value = { List (List T) };
+
+    ghost view = { λ c. chunks_left c.inner };
+
+    ghost invariant = { λ c. (0 < chunks_size c.inner) × (0 < length (chunks_rest c.inner)) };
+}
+
+impl<'a, T> IntoIterator for NEChunks<'a, T> {
+    type Item = NESlice<'a, T>;
+
+    type IntoIter = ChunksIter<'a, T>;
+
+    ghost into_iter_gives = { λ c it. (0 < length c) × (it ≡ c) };
+
+    fn into_iter(self) -> ChunksIter<'a, T> {
+        ChunksIter { inner: self.inner }
+    }
+}
+
+/// The chunks of a list that are left, one after the other. A contract sees it as the list of these chunks.
+///
+/// It stands in the place of std's `FilterMap`, which the Rust crate's `into_iter` gives.
+#[derive(Drop)]
+pub struct ChunksIter<'a, T> {
+    inner: slice::Chunks<'a, T>,
+}
+
+impl<'a, T> Model for ChunksIter<'a, T> {
+    ghost use Rattle.std.specs.Prelude.{◌<◌, List};
+    ghost use Rattle.std.specs.Slice.Iter.{chunks_size};
+    ghost use Rattle.ne_vec.specs.Chunks.{chunks_left};
+
+    ghost Value = { List (List T) };
+
+    ghost view = { λ c. chunks_left c.inner };
+
+    ghost invariant = { λ c. 0 < chunks_size c.inner };
+}
+
+impl<'a, T> Iterator for ChunksIter<'a, T> {
+    type Item = NESlice<'a, T>;
+
+    ghost next_gives = { YieldsFirst (λ left. left) };
+
+    ghost remaining = { item_count (λ left. left) };
+
+    fn next(&mut self) -> Option<NESlice<'a, T>> {
+        let part = self.inner.next()?;
+        Some(NESlice { inner: part })
+    }
+}

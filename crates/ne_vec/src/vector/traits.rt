@@ -1,0 +1,158 @@
+//! What an [`NEVec`] implements: conversions, places, comparisons as a list, printing.
+ghost use Rattle.std.specs.Prelude.{◌≡◌, ◌<◌, [], length, Some, MatchResult, slice_get};
+ghost use Rattle.std.specs.Cmp.Lexicographic.{pointwise, slice_cmp, slice_partial_cmp, lists_equiv, lists_agrees, lists_total, lists_ties, lists_po, lists_per};
+ghost use Rattle.std.specs.Hash as fed;
+ghost use Rattle.std.specs.Hash.{items_Alike};
+
+use super::NEVec;
+use crate::{Error, Singleton};
+use std::alloc::{AllocError, Global};
+use std::cmp::Ordering;
+use std::convert::AsSlice;
+use std::fmt;
+use std::fmt::Debug;
+use std::hash::{Hash, Hasher};
+use std::ops::{Index, IndexMut};
+
+/// The vector as it is, without the promise.
+impl<T> From<NEVec<T>> for Vec<T> {
+    ghost from_gives = { λ v w. w.items ≡ v };
+
+    fn from(value: NEVec<T>) -> Vec<T> {
+        value.inner
+    }
+}
+
+/// To read what only a `Vec` has. It cannot be written through; for that there is `as_mut_slice`.
+impl<T> AsRef<Vec<T>> for NEVec<T> {
+    fn as_ref(&self) -> &Vec<T>
+        ensures { result.now.items ≡ self.now }
+    {
+        &self.inner
+    }
+}
+
+/// To read it as a slice. It is not in the Rust crate, where `as_ref` comes before.
+impl<T> AsSlice<T> for NEVec<T> {
+    ghost items = { λ v. v };
+
+    fn as_slice(&self) -> &[T] {
+        self.inner.as_slice()
+    }
+}
+
+/// On the condition that the place is below the length; in the Rust crate it panics otherwise, and ranges are taken too.
+impl<T> Index<usize> for NEVec<T> {
+    type Output = T;
+
+    ghost can_index = { λ v i. i < length v };
+
+    ghost index_gives = { λ v i x. slice_get v i ≡ Some x };
+
+    fn index(&self, index: usize) -> &T
+        requires { index < length self.now }
+        ensures { slice_get self.now index ≡ Some result.now }
+    {
+        &self.inner[index]
+    }
+}
+
+/// On the same condition. The other places stay as they are.
+impl<T> IndexMut<usize> for NEVec<T> {
+    ghost use Rattle.std.specs.Borrow.{sem};
+    ghost use Rattle.ne_vec.specs.Lends.{LendsItem};
+
+    fn index_mut(&mut self, index: usize) -> &mut T
+        requires { index < length self.old }
+        ensures* writes_back { sem 𝓛 (LendsItem T.row self.entry index result) }
+        ensures value { slice_get self.old index ≡ Some result.now }
+    {
+        &mut self.inner[index]
+    }
+}
+
+impl<T: PartialEq> PartialEq for NEVec<T> {
+    ghost eq = { pointwise T.eq };
+
+    ghost laws = { lists_per T.laws };
+
+    fn eq(&self, other: &NEVec<T>) -> bool {
+        self.inner == other.inner
+    }
+}
+
+impl<T: Eq> Eq for NEVec<T> {
+    ghost laws = { lists_equiv T.Eq.laws };
+}
+
+impl<T: Hash> Hash for NEVec<T> {
+    ghost hash_input = { fed.slice T.hash_input };
+
+    ghost respects_eq = { (items_Alike (record { fed = T.respects_eq })).fed };
+
+    fn hash<H: Hasher>(&self, state: &mut H) {
+        self.inner.hash(state);
+    }
+}
+
+impl<T: PartialOrd> PartialOrd for NEVec<T> {
+    ghost partial_cmp = { slice_partial_cmp T.partial_cmp };
+
+    ghost laws = { lists_po T.PartialOrd.laws };
+
+    fn partial_cmp(&self, other: &NEVec<T>) -> Option<Ordering> {
+        self.inner.partial_cmp(&other.inner)
+    }
+}
+
+impl<T: Ord> Ord for NEVec<T> {
+    ghost cmp = { slice_cmp T.cmp };
+
+    ghost total = { lists_total T.total };
+
+    ghost matches_partial_cmp = { lists_agrees T.matches_partial_cmp };
+
+    ghost matches_eq = { lists_ties T.cmp T.matches_eq };
+
+    fn cmp(&self, other: &NEVec<T>) -> Ordering {
+        self.inner.cmp(&other.inner)
+    }
+}
+
+/// Prints as std prints a list: `[1, 2, 3]`.
+impl<T: Debug> Debug for NEVec<T> {
+    fn fmt<W: fmt::Write>(&self, f: &mut fmt::Formatter<W>) -> fmt::Result {
+        self.inner.fmt(f)
+    }
+}
+
+/// The vector as `try_from_vec` has it, or `Error::Empty`, exactly where `vec` is empty. It takes no memory.
+impl<T> TryFrom<Vec<T>> for NEVec<T> {
+    ghost use Rattle.std.specs.Prelude.{Result};
+    ghost use Rattle.ne_vec.specs.declared.Error.{Error};
+
+    type Error = Error;
+
+    ghost try_from_gives = { λ vec r. MatchResult r (λ v. v ≡ vec.items) (λ _. vec.items ≡ []) };
+
+    fn try_from(vec: Vec<T>) -> Result<NEVec<T>, Error> {
+        match NEVec::try_from_vec(vec) {
+            Some(made) => Ok(made),
+            None => Err(Error::Empty),
+        }
+    }
+}
+
+impl<T: Drop> Singleton for NEVec<T> {
+    type Item = T;
+
+    ghost collected = { λ xs v. v ≡ xs };
+
+    fn singleton(alloc: Global, item: T) -> Result<NEVec<T>, AllocError> {
+        NEVec::new(alloc, item)
+    }
+
+    fn extend_one(&mut self, item: T) -> Result<(), AllocError> {
+        self.push(item)
+    }
+}
