@@ -3,3 +3,4 @@ pub mod Divisions
 pub mod Relations
 pub mod Kept
 pub mod Chunked
+pub mod Compared

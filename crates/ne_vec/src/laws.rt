@@ -1,9 +1,14 @@
 //! Laws on what the contracts cite. Each is the contract of a function that does nothing.
-ghost use Rattle.std.specs.Prelude.{◌≡◌, ◌<◌, ◌≤◌, ◌↔◌, ℕ, Bool, true, false, List, [], ◌∷◌, ◌++◌, length};
+ghost use Rattle.std.specs.Prelude.{◌≡◌, ◌≢◌, ◌<◌, ◌≤◌, ◌↔◌, ℕ, Bool, true, false, List, [], ◌∷◌, ◌++◌, length};
 ghost use Rattle.std.specs.List.{AllByRecursion};
 ghost use Rattle.std.specs.Cmp.{IsPartialEquivalence};
+ghost use Rattle.std.specs.Cmp.Lexicographic.{pointwise, slice_cmp};
+ghost use Rattle.std.specs.declared.cmp.Ordering.TheVariants.{Less, Equal};
 ghost use Rattle.ne_vec.specs.Divisions.{IsDivision, by_first, by_previous, joined};
 ghost use Rattle.ne_vec.specs.Chunks.{chunks};
+
+use crate::{NESlice, NEVec};
+use std::hash::Hash;
 
 /// Each list has exactly one division into runs, whatever tells which items go on a run.
 pub fn has_one_division<T>()
@@ -38,4 +43,26 @@ pub fn converse_has_the_same_division<T>()
 pub fn chunks_make_the_whole<T>()
     ensures whole { (size : ℕ) (xs : List T) → 0 < size → joined (chunks size xs) ≡ xs }
     ensures sizes { (size : ℕ) (xs : List T) (front : List (List T)) (last : List T) → 0 < size → chunks size xs ≡ front ++ last ∷ [] → AllByRecursion (λ c. length c ≡ size) front × (0 < length last) × (length last ≤ size) }
+{}
+
+/// Vectors compare as their lists do, item by item, and equal ones are hashed alike.
+pub fn vectors_compare_as_lists<T: Ord + Hash>()
+    ensures equal { (v w : List T) → ⟦<NEVec<T> as PartialEq>⟧.eq v w ≡ pointwise T.eq v w }
+    ensures ordered { (v w : List T) → ⟦<NEVec<T> as Ord>⟧.cmp v w ≡ slice_cmp T.cmp v w }
+    ensures hashed { (v w : List T) → ⟦<NEVec<T> as PartialEq>⟧.eq v w ≡ true → ⟦<NEVec<T> as Hash>⟧.hash_input v ≡ ⟦<NEVec<T> as Hash>⟧.hash_input w }
+{}
+
+/// And so do slices.
+pub fn slices_compare_as_lists<'a, T: Ord + Hash + 'a>()
+    ensures equal { (v w : List T) → ⟦<NESlice<'a, T> as PartialEq>⟧.eq v w ≡ pointwise T.eq v w }
+    ensures ordered { (v w : List T) → ⟦<NESlice<'a, T> as Ord>⟧.cmp v w ≡ slice_cmp T.cmp v w }
+    ensures hashed { (v w : List T) → ⟦<NESlice<'a, T> as PartialEq>⟧.eq v w ≡ true → ⟦<NESlice<'a, T> as Hash>⟧.hash_input v ≡ ⟦<NESlice<'a, T> as Hash>⟧.hash_input w }
+{}
+
+/// The order of lists is the lexicographic one: the first place at which they differ decides, and where one is the front of the
+/// other, the shorter is less.
+pub fn lists_are_in_lexicographic_order<T: Ord>()
+    ensures differs { (front v w : List T) (x y : T) → T.cmp x y ≢ Equal → slice_cmp T.cmp (front ++ x ∷ v) (front ++ y ∷ w) ≡ T.cmp x y }
+    ensures shorter { (front w : List T) (y : T) → slice_cmp T.cmp front (front ++ y ∷ w) ≡ Less }
+    ensures same { (v : List T) → slice_cmp T.cmp v v ≡ Equal }
 {}

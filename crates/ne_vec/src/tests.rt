@@ -1,1 +1,2 @@
-//! Tests.
+//! Callers of every kind, each call once with ample memory, and the worked rows.
+mod callers;

@@ -1,0 +1,11 @@
+use Rattle.ne_vec.proofs.Compared.{differs, shorter, same_list}
+use Rattle.ne_vec.proofs.laws.lists_are_in_lexicographic_order.Goals as goal
+
+pub returns-clause-differs : goal.returns-clause-differs
+returns-clause-differs g c front v w x y n = differs g.T.Ord.cmp g.met.T.Ord.total front v w x y n
+
+pub returns-clause-shorter : goal.returns-clause-shorter
+returns-clause-shorter g c front w y = shorter g.T.Ord.cmp g.met.T.Ord.total front w y
+
+pub returns-clause-same : goal.returns-clause-same
+returns-clause-same g c v = same_list g.T.Ord.cmp g.met.T.Ord.total v
