@@ -9,8 +9,6 @@
 pub mod laws;
 mod macros;
 pub mod slice;
-#[cfg(test)]
-mod tests;
 pub mod vector;
 
 ghost use Rattle.std.specs.Prelude.{◌≡◌, List, [], ◌∷◌, ◌++◌, IfOk, OnOk, OnErr};

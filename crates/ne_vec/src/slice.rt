@@ -170,10 +170,12 @@ impl<'a, T> Clone for NESlice<'a, T> {
     }
 }
 
-/// Prints as std prints a list: `[1, 2, 3]`. The Rust crate prints the name `NESlice` and its field.
+/// Prints as in the Rust crate, with its name: `NESlice { inner: [1, 2, 3] }`.
 impl<'a, T: Debug> Debug for NESlice<'a, T> {
     fn fmt<W: fmt::Write>(&self, f: &mut fmt::Formatter<W>) -> fmt::Result {
-        self.inner.fmt(f)
+        f.debug_struct("NESlice")
+            .field("inner", &self.inner)
+            .finish()
     }
 }
 

@@ -1,27 +1,27 @@
-//! Callers that are proved from the contracts alone: what each of them ensures follows from the clauses of the calls that it makes.
+//! Callers of the vector and the slice.
 ghost use Rattle.std.specs.Prelude.{◌≡◌, ◌+◌, ◌-◌, ◌/◌, ◌<◌, ◌≤◌, [], ◌∷◌, ◌++◌, length, map, nat_lt, slice_set, slice_get, IfOk, IfSome, Some, MatchResult, IsSorted, ⊤};
 ghost use Rattle.std.specs.List.{filter};
 
-use crate::{NESlice, NEVec, Singleton, nev};
+use ne_vec::{NESlice, NEVec, Singleton, nev};
 use std::alloc::{AllocError, Global};
 use std::num::NonZeroUsize;
 
 // One, two and three.
-fn small(alloc: Global) -> Result<NEVec<u32>, AllocError>
+pub fn small(alloc: Global) -> Result<NEVec<u32>, AllocError>
     ensures { IfOk result (λ v. v ≡ 1 ∷ 2 ∷ 3 ∷ []) }
 {
     nev![alloc; 1, 2, 3]
 }
 
 // The three items.
-fn any<T: Drop>(alloc: Global, a: T, b: T, c: T) -> Result<NEVec<T>, AllocError>
+pub fn any<T: Drop>(alloc: Global, a: T, b: T, c: T) -> Result<NEVec<T>, AllocError>
     ensures { IfOk result (λ v. v ≡ a ∷ b ∷ c ∷ []) }
 {
     nev![alloc; a, b, c]
 }
 
 // Zero `n` times.
-fn zeros(alloc: Global, n: usize) -> Result<NEVec<u8>, AllocError>
+pub fn zeros(alloc: Global, n: usize) -> Result<NEVec<u8>, AllocError>
     requires { 0 < n }
     ensures { IfOk result (λ v. length v ≡ n) }
 {
@@ -29,7 +29,7 @@ fn zeros(alloc: Global, n: usize) -> Result<NEVec<u8>, AllocError>
 }
 
 // A list of lists.
-fn nested(alloc: Global, x: u8) -> Result<NEVec<NEVec<u8>>, AllocError>
+pub fn nested(alloc: Global, x: u8) -> Result<NEVec<NEVec<u8>>, AllocError>
     ensures { IfOk result (λ v. v ≡ (x ∷ []) ∷ (x ∷ x ∷ []) ∷ []) }
 {
     let one = nev![alloc; x]?;
@@ -37,19 +37,19 @@ fn nested(alloc: Global, x: u8) -> Result<NEVec<NEVec<u8>>, AllocError>
     nev![alloc; one, two]
 }
 
-fn set_first<T: Drop>(v: &mut NEVec<T>, x: T)
+pub fn set_first<T: Drop>(v: &mut NEVec<T>, x: T)
     ensures { v.new ≡ slice_set v.old 0 x }
 {
     *v.first_mut() = x;
 }
 
-fn set_last<T: Drop>(v: &mut NEVec<T>, x: T)
+pub fn set_last<T: Drop>(v: &mut NEVec<T>, x: T)
     ensures { v.new ≡ slice_set v.old (length v.old - 1) x }
 {
     *v.last_mut() = x;
 }
 
-fn set_at<T: Drop>(v: &mut NEVec<T>, i: usize, x: T)
+pub fn set_at<T: Drop>(v: &mut NEVec<T>, i: usize, x: T)
     requires { i < length v.old }
     ensures { v.new ≡ slice_set v.old i x }
 {
@@ -57,7 +57,7 @@ fn set_at<T: Drop>(v: &mut NEVec<T>, i: usize, x: T)
 }
 
 // Writes one item, if it is there.
-fn try_set(v: &mut NEVec<u32>, i: usize)
+pub fn try_set(v: &mut NEVec<u32>, i: usize)
     ensures there { i < length v.old → v.new ≡ slice_set v.old i 7 }
     ensures absent { length v.old ≤ i → v.new ≡ v.old }
 {
@@ -66,14 +66,14 @@ fn try_set(v: &mut NEVec<u32>, i: usize)
     }
 }
 
-fn grown<T: Drop>(v: &mut NEVec<T>, x: T) -> Result<(), AllocError>
+pub fn grown<T: Drop>(v: &mut NEVec<T>, x: T) -> Result<(), AllocError>
     ensures { IfOk result (λ _. length v.new ≡ length v.old + 1) }
 {
     v.push(x)
 }
 
 // Takes the last item and puts it back.
-fn pop_push<T: Drop>(v: &mut NEVec<T>) -> Result<(), AllocError>
+pub fn pop_push<T: Drop>(v: &mut NEVec<T>) -> Result<(), AllocError>
     ensures { IfOk result (λ _. v.new ≡ v.old) }
 {
     if let Some(x) = v.pop() {
@@ -82,26 +82,26 @@ fn pop_push<T: Drop>(v: &mut NEVec<T>) -> Result<(), AllocError>
     Ok(())
 }
 
-fn zero_all(v: &mut NEVec<u8>)
+pub fn zero_all(v: &mut NEVec<u8>)
     ensures { length v.new ≡ length v.old }
 {
     v.as_mut_slice().fill(0);
 }
 
 // Out of the type and back: nothing is lost.
-fn out_and_back<T>(v: NEVec<T>) -> Option<NEVec<T>>
+pub fn out_and_back<T>(v: NEVec<T>) -> Option<NEVec<T>>
     ensures { IfSome result (λ w. w ≡ v) }
 {
     NEVec::try_from_vec(Vec::from(v))
 }
 
-fn joined<T: Drop>(a: &mut NEVec<T>, b: NEVec<T>) -> Result<(), AllocError>
+pub fn joined<T: Drop>(a: &mut NEVec<T>, b: NEVec<T>) -> Result<(), AllocError>
     ensures { IfOk result (λ _. a.new ≡ a.old ++ b) }
 {
     a.extend(b)
 }
 
-fn bump_each(v: &mut NEVec<u32>)
+pub fn bump_each(v: &mut NEVec<u32>)
     ensures { length v.new ≡ length v.old }
 {
     for x in v.iter_mut() {
@@ -109,7 +109,7 @@ fn bump_each(v: &mut NEVec<u32>)
     }
 }
 
-fn bump_nonempty(v: &mut NEVec<u32>)
+pub fn bump_nonempty(v: &mut NEVec<u32>)
     ensures { length v.new ≡ length v.old }
 {
     for x in v.nonempty_iter_mut() {
@@ -117,7 +117,7 @@ fn bump_nonempty(v: &mut NEVec<u32>)
     }
 }
 
-fn bump_loop(v: &mut NEVec<u32>)
+pub fn bump_loop(v: &mut NEVec<u32>)
     ensures { length v.new ≡ length v.old }
 {
     for x in v {
@@ -125,21 +125,21 @@ fn bump_loop(v: &mut NEVec<u32>)
     }
 }
 
-fn ordered<T: Ord>(v: &mut NEVec<T>) -> Result<(), AllocError>
+pub fn ordered<T: Ord>(v: &mut NEVec<T>) -> Result<(), AllocError>
     ensures { IfOk result (λ _. IsSorted T.cmp v.new) }
 {
     v.sort()
 }
 
 // The first item after two removals, without an `Option`.
-fn first_after<T: Drop>(v: &mut NEVec<T>) -> &T {
+pub fn first_after<T: Drop>(v: &mut NEVec<T>) -> &T {
     let _ = v.pop();
     let _ = v.pop();
     v.first()
 }
 
 // Three items in a collection of any kind.
-fn three<C: Singleton + Drop>(
+pub fn three<C: Singleton + Drop>(
     alloc: Global,
     a: C::Item,
     b: C::Item,
@@ -155,41 +155,41 @@ where
     Ok(all)
 }
 
-fn three_numbers(alloc: Global) -> Result<NEVec<u32>, AllocError>
+pub fn three_numbers(alloc: Global) -> Result<NEVec<u32>, AllocError>
     ensures { IfOk result (λ v. v ≡ 1 ∷ 2 ∷ 3 ∷ []) }
 {
     three(alloc, 1, 2, 3)
 }
 
 // A chain over a walk.
-fn halves(alloc: Global, v: &NEVec<u32>) -> Result<Vec<u32>, AllocError>
+pub fn halves(alloc: Global, v: &NEVec<u32>) -> Result<Vec<u32>, AllocError>
     ensures { IfOk result (λ w. w.items ≡ map (λ x. x / 2) v.now) }
 {
     v.iter().map(|x| *x / 2).collect(alloc)
 }
 
 // And over the loop's.
-fn halves_nonempty(alloc: Global, v: &NEVec<u32>) -> Result<Vec<u32>, AllocError>
+pub fn halves_nonempty(alloc: Global, v: &NEVec<u32>) -> Result<Vec<u32>, AllocError>
     ensures { IfOk result (λ w. w.items ≡ map (λ x. x / 2) v.now) }
 {
     v.nonempty_iter().into_iter().map(|x| *x / 2).collect(alloc)
 }
 
 // Keeps the small ones.
-fn small_ones(v: NEVec<u32>) -> Result<NEVec<u32>, Vec<u32>>
+pub fn small_ones(v: NEVec<u32>) -> Result<NEVec<u32>, Vec<u32>>
     ensures { MatchResult result (λ w. w ≡ filter (λ x. nat_lt x 10) v) (λ _. filter (λ x. nat_lt x 10) v ≡ []) }
 {
     v.retain(|x| *x < 10)
 }
 
-fn ends(s: &NESlice<'_, u8>) -> (u8, u8)
+pub fn ends(s: &NESlice<'_, u8>) -> (u8, u8)
     ensures { (slice_get s.now 0 ≡ Some result.0) × (slice_get s.now (length s.now - 1) ≡ Some result.1) }
 {
     (*s.first(), *s.last())
 }
 
 // How many items the chunks have, all together.
-fn parts(xs: &[u8], size: NonZeroUsize) -> usize {
+pub fn parts(xs: &[u8], size: NonZeroUsize) -> usize {
     let mut count = 0usize;
     if let Some(slice) = NESlice::try_from_slice(xs) {
         for part in slice.nonempty_chunks(size) {
@@ -199,6 +199,6 @@ fn parts(xs: &[u8], size: NonZeroUsize) -> usize {
     count
 }
 
-fn same<T: Ord>(a: &NEVec<T>, b: &NEVec<T>) -> bool {
+pub fn same<T: Ord>(a: &NEVec<T>, b: &NEVec<T>) -> bool {
     a == b || a < b
 }

@@ -1,7 +1,7 @@
 use Rattle.std.proofs.Common.{ap, ◌++◌, ◌∙◌, sym}
 use Rattle.std.proofs.lemmas.Iterator.Adapters.{fact_from_extend, YieldsList-from_vec}
 use Rattle.std.proofs.lemmas.List.{map-id}
-use Rattle.ne_vec.proofs.tests.callers.joined.Goals as goal
+use Rattle.callers.proofs.lists.joined.Goals as goal
 
 pub returns : goal.returns
 returns g c =
