@@ -1,5 +1,5 @@
 -- The chunks of a list: the first one, and those of what is left.
-use Rattle.std.proofs.Common.{◌≡◌, ◌≢◌, ℕ, zero, suc, ◌+◌, ◌-◌, ◌*◌, ◌/◌, ◌<◌, ◌≤◌, List, [], ◌∷◌, ◌++◌, map, length, take, drop, min, refl, sym, ap, ◌∙◌, arith, inl, inr, add-one, zero-mul}
+use Rattle.std.proofs.Common.{◌≡◌, ℕ, zero, suc, ◌+◌, ◌-◌, ◌*◌, ◌/◌, ◌<◌, ◌≤◌, List, [], ◌∷◌, ◌++◌, map, length, take, drop, min, refl, sym, ap, ◌∙◌, arith, inl, inr, add-one, zero-mul}
 use Rattle.std.specs.List.{range_with_len, AllByRecursion}
 use Rattle.std.specs.Slice.Iter.{chunk_count}
 use Rattle.std.proofs.iter.Counts.{parts_up}
@@ -7,6 +7,7 @@ use Rattle.std.proofs.Math.Nat.{add-div_right, div-eq_of_lt}
 use Rattle.std.proofs.lemmas.Bool.{cases_lt}
 use Rattle.std.proofs.Math.Seq.{take-append_seam, drop-append_seam}
 use Rattle.std.proofs.Math.ListN.{drop_of_length-le}
+use Rattle.std.proofs.lemmas.List.FromFn.{length-map-range_with_len}
 use Rattle.std.proofs.lemmas.List.{drop-drop, length-drop, length-take, length-append, append-nil, take-append-drop}
 use Rattle.ne_vec.specs.Divisions.{joined}
 use Rattle.ne_vec.specs.Chunks.{chunk, chunks}
@@ -17,6 +18,9 @@ no_items [] e = refl
 no_items (x ∷ xs) e = absurd (Prim.omega (arith, e))
 
 -- ---- how many there are
+
+pub chunks_counted : {X : Type 0} (n : ℕ) (xs : List X) → length (chunks n xs) ≡ chunk_count (length xs) n
+chunks_counted n xs = length-map-range_with_len (chunk n xs) 0 (chunk_count (length xs) n)
 
 none_of_none : (n : ℕ) → 0 < n → chunk_count 0 n ≡ 0
 none_of_none n p = parts_up 0 n p ∙ div-eq_of_lt (Prim.omega (arith, p))

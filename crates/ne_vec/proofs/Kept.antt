@@ -2,7 +2,6 @@
 use Rattle.std.proofs.Common.{◌≡◌, ◌<◌, Bool, true, false, cond, List, [], ◌∷◌, ◌++◌, length, map, refl, sym, ap, subst, ◌∙◌, arith}
 use Rattle.std.specs.List.{filter}
 use Rattle.std.specs.List.Retain.{RetainsInTurn, DedupsFrom, IsDeduped}
-use Rattle.std.specs.Bool.{MatchBool}
 use Rattle.std.specs.Fn.{CalledAtMut, ComparesKeys}
 use Rattle.std.specs.Borrow.{MutBor}
 use denote.Param.Members.{Mut}

@@ -3,8 +3,13 @@ use Rattle.std.specs.Prelude.{ℕ, List, length, slice_set, Option}
 use Rattle.std.specs.Borrow.{Lends, LendsIf, follows, Fml, RattleType, MutBor, Array}
 use Rattle.std.specs.List.{refill}
 use Rattle.std.specs.Slice.Iter.{iter_mut_name}
-use Rattle.std.specs.declared.slice.IterMut.{IterMut}
+use Rattle.std.specs.declared.slice.IterMut.{IterMut as StdIterMut}
+use Rattle.ne_vec.specs.declared.vector.walks.IterMut.{IterMut}
 use Rattle.ne_vec.specs.contracts.vector.NEVec.{the_row}
+
+-- std's walk, which a non-empty one holds and becomes
+abbrev pub std_walk : {X : Type 0} → IterMut X → StdIterMut X
+std_walk w = w.inner
 
 module _ (T : RattleType) (v : MutBor (List T.Denot)) where
   -- place i has what was last written through r, and the others are as they were
@@ -20,5 +25,5 @@ module _ (T : RattleType) (v : MutBor (List T.Denot)) where
   LendsItems r = Lends (the_row T) (Array T 0) v r (refill (length v.now) v.now)
 
   -- the items are those that the walk left, as many as they were
-  abbrev pub LendsWalk : IterMut T.Denot → Fml
+  abbrev pub LendsWalk : StdIterMut T.Denot → Fml
   LendsWalk it = follows (the_row T) (Array T 0) v.ghost_name (iter_mut_name it) (refill (length v.now) v.now)

@@ -3,4 +3,3 @@ pub mod Kept
 pub mod Chunks
 pub mod Walks
 pub mod Lends
-pub mod Held

@@ -326,4 +326,8 @@ impl<'a, T> Iterator for ChunksIter<'a, T> {
         let part = self.inner.next()?;
         Some(NESlice { inner: part })
     }
+
+    fn size_hint(&self) -> (usize, Option<usize>) {
+        self.inner.size_hint()
+    }
 }

@@ -42,9 +42,8 @@ impl<T> Model for NEVec<T> {
 
 impl<T> NEVec<T> {
     ghost use Rattle.std.specs.Borrow.{sem};
-    ghost use Rattle.ne_vec.specs.Lends.{LendsItem, LendsItemIf, LendsItems, LendsWalk};
+    ghost use Rattle.ne_vec.specs.Lends.{LendsItem, LendsItemIf, LendsItems, LendsWalk, std_walk};
     ghost use Rattle.ne_vec.specs.Walks.{Walks, WalksMut};
-    ghost use Rattle.ne_vec.specs.Held.{std_walk};
     ghost use Rattle.ne_vec.specs.Chunks.{chunks};
     ghost use Rattle.ne_vec.specs.Kept.{kept_items, ActsAsAtMut};
 

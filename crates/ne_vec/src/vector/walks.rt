@@ -55,7 +55,7 @@ pub struct IterMut<'a, T> {
 }
 
 impl<'a, T> IntoIterator for IterMut<'a, T> {
-    ghost use Rattle.ne_vec.specs.Held.{std_walk};
+    ghost use Rattle.ne_vec.specs.Lends.{std_walk};
 
     type Item = &'a mut T;
 

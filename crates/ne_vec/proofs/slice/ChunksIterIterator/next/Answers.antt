@@ -1,4 +1,4 @@
-use Rattle.std.proofs.Common.{◌≡◌, ap, length, arith}
+use Rattle.std.proofs.Common.{ap, length, arith}
 use Rattle.ne_vec.proofs.Chunked.{first_chunk}
 use Rattle.ne_vec.proofs.slice.ChunksIterIterator.next.Goals as goal
 
