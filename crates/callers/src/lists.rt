@@ -1,5 +1,5 @@
 //! Callers of the vector and the slice.
-ghost use Rattle.std.specs.Prelude.{◌≡◌, ◌+◌, ◌-◌, ◌/◌, ◌<◌, ◌≤◌, [], ◌∷◌, ◌++◌, length, map, nat_lt, slice_set, slice_get, IfOk, IfSome, Some, MatchResult, IsSorted, ⊤};
+ghost use Rattle.std.specs.Prelude.{◌≡◌, ◌+◌, ◌-◌, ◌/◌, ◌<◌, ◌≤◌, [], ◌∷◌, ◌++◌, length, map, nat_lt, slice_set, slice_get, IfOk, IfSome, Some, MatchResult, IsSorted};
 ghost use Rattle.std.specs.List.{filter};
 
 use ne_vec::{NESlice, NEVec, Singleton, nev};

@@ -3,10 +3,13 @@ use Rattle.std.proofs.Common.{◌≡◌, ℕ, zero, suc, ◌+◌, ◌-◌, ◌*�
 use Rattle.std.specs.List.{range_with_len, AllByRecursion}
 use Rattle.std.specs.Slice.Iter.{chunk_count}
 use Rattle.std.proofs.iter.Counts.{parts_up}
-use Rattle.std.proofs.Math.Nat.{add-div_right, div-eq_of_lt}
+use Rattle.std.proofs.Math.Nat.{add-div_right, div-eq_of_lt, le-div_iff_mul-le}
 use Rattle.std.proofs.lemmas.Bool.{cases_lt}
 use Rattle.std.proofs.Math.Seq.{take-append_seam, drop-append_seam}
 use Rattle.std.proofs.Math.ListN.{drop_of_length-le}
+use Rattle.std.specs.Option.{option_map}
+use Rattle.std.specs.Prelude.{◌↔◌, slice_get, Some}
+use Rattle.std.proofs.lemmas.Option.{slice_get-map}
 use Rattle.std.proofs.lemmas.List.FromFn.{length-map-range_with_len}
 use Rattle.std.proofs.lemmas.List.{drop-drop, length-drop, length-take, length-append, append-nil, take-append-drop}
 use Rattle.ne_vec.specs.Divisions.{joined}
@@ -21,6 +24,27 @@ no_items (x ∷ xs) e = absurd (Prim.omega (arith, e))
 
 pub chunks_counted : {X : Type 0} (n : ℕ) (xs : List X) → length (chunks n xs) ≡ chunk_count (length xs) n
 chunks_counted n xs = length-map-range_with_len (chunk n xs) 0 (chunk_count (length xs) n)
+
+-- there is a chunk j where there is an item at j * n
+pub chunk_there : {X : Type 0} (n : ℕ) (xs : List X) (j : ℕ) → 0 < n → ((j < length (chunks n xs)) ↔ (j * n < length xs))
+chunk_there n xs j p =
+    let counted : length (chunks n xs) ≡ (length xs + n - 1) / n = chunks_counted n xs ∙ parts_up (length xs) n p in
+    let divides : (j + 1 ≤ (length xs + n - 1) / n) ↔ ((j + 1) * n ≤ length xs + n - 1) = le-div_iff_mul-le p in
+    let one_further : (j + 1) * n ≡ j * n + n = Prim.omega arith in (
+      λ h. let fits = divides.0 (Prim.omega (arith, h, counted)) in Prim.omega (arith, fits, one_further, p),
+      λ h. let there = divides.1 (Prim.omega (arith, h, one_further, p)) in Prim.omega (arith, there, counted),
+    )
+
+at_range : (n a j : ℕ) → j < n → slice_get (range_with_len a n) j ≡ Some (a + j)
+at_range zero a j p = absurd (Prim.omega (arith, p))
+at_range (suc n) a zero p = ap Some (Prim.omega arith)
+at_range (suc n) a (suc j) p = at_range n (a + 1) j (Prim.omega (arith, p)) ∙ ap Some (Prim.omega arith)
+
+pub chunk_is : {X : Type 0} (n : ℕ) (xs : List X) (j : ℕ) → j < length (chunks n xs) → slice_get (chunks n xs) j ≡ Some (chunk n xs j)
+chunk_is n xs j h =
+    let count : j < chunk_count (length xs) n = Prim.omega (arith, h, chunks_counted n xs) in
+    slice_get-map (chunk n xs) (range_with_len 0 (chunk_count (length xs) n)) j ∙ ap (option_map (chunk n xs)) (at_range (chunk_count (length xs) n) 0 j count)
+    ∙ ap (λ k. Some (chunk n xs k)) (Prim.omega arith)
 
 none_of_none : (n : ℕ) → 0 < n → chunk_count 0 n ≡ 0
 none_of_none n p = parts_up 0 n p ∙ div-eq_of_lt (Prim.omega (arith, p))

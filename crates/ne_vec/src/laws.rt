@@ -1,5 +1,5 @@
 //! Laws on what the contracts cite. Each is the contract of a function that does nothing.
-ghost use Rattle.std.specs.Prelude.{◌≡◌, ◌≢◌, ◌<◌, ◌≤◌, ◌↔◌, ℕ, Bool, true, false, List, [], ◌∷◌, ◌++◌, length};
+ghost use Rattle.std.specs.Prelude.{◌≡◌, ◌≢◌, ◌<◌, ◌≤◌, ◌↔◌, ◌*◌, ℕ, Bool, true, false, List, [], ◌∷◌, ◌++◌, length, take, drop, slice_get, Some};
 ghost use Rattle.std.specs.List.{AllByRecursion};
 ghost use Rattle.std.specs.Cmp.{IsPartialEquivalence};
 ghost use Rattle.std.specs.Cmp.Lexicographic.{pointwise, slice_cmp};
@@ -38,9 +38,12 @@ pub fn converse_has_the_same_division<T>()
     ensures { (same : T → T → Bool) (xs : List T) (rs : List (List T)) → ((x y : T) → same x y ≡ same y x) → IsDivision (by_first same) xs rs → IsDivision (by_first (λ x y. same y x)) xs rs }
 {}
 
-/// The chunks of a list are the list, one after another; each but the last has the size that was asked for, and the last has at
-/// least one item and at most that size.
+/// There is a chunk j for each j at which the list has an item left, and it is the items from place j times the size on, as many as
+/// the size. One after another the chunks are the list; each but the last has the size that was asked for, and the last has at least
+/// one item and at most that size.
 pub fn chunks_make_the_whole<T>()
+    ensures count { (size : ℕ) (xs : List T) (j : ℕ) → 0 < size → ((j < length (chunks size xs)) ↔ (j * size < length xs)) }
+    ensures each { (size : ℕ) (xs : List T) (j : ℕ) → j < length (chunks size xs) → slice_get (chunks size xs) j ≡ Some (take size (drop (j * size) xs)) }
     ensures whole { (size : ℕ) (xs : List T) → 0 < size → joined (chunks size xs) ≡ xs }
     ensures sizes { (size : ℕ) (xs : List T) (front : List (List T)) (last : List T) → 0 < size → chunks size xs ≡ front ++ last ∷ [] → AllByRecursion (λ c. length c ≡ size) front × (0 < length last) × (length last ≤ size) }
 {}

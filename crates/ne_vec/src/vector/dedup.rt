@@ -1,5 +1,5 @@
 //! The calls of [`NEVec`] that drop items beside one that is the same.
-ghost use Rattle.std.specs.Prelude.{◌≡◌, ◌<◌, Bool, length};
+ghost use Rattle.std.specs.Prelude.{◌<◌, Bool, length};
 ghost use Rattle.std.specs.List.Retain.{IsDeduped};
 ghost use Rattle.std.specs.Fn.{CalledAtPairMut, ComparesKeys};
 

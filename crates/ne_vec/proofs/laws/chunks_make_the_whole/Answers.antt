@@ -1,5 +1,11 @@
-use Rattle.ne_vec.proofs.Chunked.{chunks_joined, chunks_fit}
+use Rattle.ne_vec.proofs.Chunked.{chunk_there, chunk_is, chunks_joined, chunks_fit}
 use Rattle.ne_vec.proofs.laws.chunks_make_the_whole.Goals as goal
+
+pub returns-clause-count : goal.returns-clause-count
+returns-clause-count g c size xs j some = chunk_there size xs j some
+
+pub returns-clause-each : goal.returns-clause-each
+returns-clause-each g c size xs j there = chunk_is size xs j there
 
 pub returns-clause-whole : goal.returns-clause-whole
 returns-clause-whole g c size xs some = chunks_joined size xs some
