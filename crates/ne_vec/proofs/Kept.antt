@@ -1,13 +1,13 @@
 -- What `retain_mut` and `dedup_by` keep.
 use Rattle.std.proofs.Common.{◌≡◌, ◌<◌, Bool, true, false, cond, List, [], ◌∷◌, ◌++◌, length, map, refl, sym, ap, subst, ◌∙◌, arith}
-use Rattle.std.specs.List.{filter}
+use Rattle.std.specs.List.{filter, dedup, dedup_from}
 use Rattle.std.specs.List.Retain.{RetainsInTurn, DedupsFrom, IsDeduped}
 use Rattle.std.specs.Fn.{CalledAtMut, ComparesKeys}
 use Rattle.std.specs.Borrow.{MutBor}
 use denote.Param.Members.{Mut}
 use Rattle.ne_vec.specs.Divisions.{by_first, firsts}
 use Rattle.ne_vec.specs.Kept.{KeepsFirsts, ActsAsAtMut}
-use Rattle.ne_vec.proofs.Divisions.{cut, cut_on, cut_off, divides}
+use Rattle.ne_vec.proofs.Divisions.{cut, divides}
 
 -- ---- `retain_mut`, by a test that is a function of the item
 
@@ -35,30 +35,35 @@ module _ {S A : Type 0} (R : S → A → A → Bool → S → A → A → Type 0
 
 -- ---- by a test that is a function of the items
 
-module _ {S A : Type 0} (R : S → A → A → Bool → S → A → A → Type 0) (same : A → A → Bool) (s : S) (pure : (x k : A) (b : Bool) (t : S) (x' k' : A) → R s x k b t x' k' → (t ≡ s) × (b ≡ same x k) × (x' ≡ x) × (k' ≡ k)) where
+module _ {A : Type 0} (same : A → A → Bool) where
   abbrev goes_on : List A → A → Bool
   goes_on = by_first (λ kept later. same later kept)
 
-  firsts_from : (xs : List A) (k : A) (run ys : List A) → DedupsFrom R s k xs ys → ys ≡ firsts (cut goes_on (k ∷ run) xs)
-  firsts_from [] k run ys d = d
-  firsts_from (x ∷ xs) k run ys (true, t, x', k', called, d) =
-      let p = pure x k true t x' k' called in
-      let rest : ys ≡ firsts (cut goes_on (k ∷ (run ++ x ∷ [])) xs) = firsts_from xs k (run ++ x ∷ []) ys (subst (λ v. DedupsFrom R v k xs ys) p.0 (subst (λ v. DedupsFrom R t v xs ys) p.3 d)) in
-      rest ∙ ap firsts (sym (cut_on goes_on (k ∷ run) x xs (sym p.1)))
-  firsts_from (x ∷ xs) k run ys (false, t, x', k', called, d) =
-      let p = pure x k false t x' k' called in
-      let rest : d.0 ≡ firsts (cut goes_on (x ∷ []) xs) = firsts_from xs x [] d.0 (subst (λ v. DedupsFrom R v x xs d.0) p.0 (subst (λ v. DedupsFrom R t v xs d.0) p.2 d.1)) in
-      d.2 ∙ ap (λ v. v ∷ d.0) p.3 ∙ ap (λ l. k ∷ l) rest ∙ ap firsts (sym (cut_off goes_on (k ∷ run) x xs (sym p.1)))
+  firsts_from : (xs : List A) (k : A) (run : List A) → dedup_from same k xs ≡ firsts (cut goes_on (k ∷ run) xs)
+  firsts_from [] k run = refl
+  firsts_from (x ∷ xs) k run =
+      elim (same x k) as (λ b. cond b (dedup_from same k xs) (k ∷ dedup_from same x xs) ≡ firsts (cond b (cut goes_on (k ∷ (run ++ x ∷ [])) xs) ((k ∷ run) ∷ cut goes_on (x ∷ []) xs))) [
+        | true ↦ firsts_from xs k (run ++ x ∷ [])
+        | false ↦ ap (λ l. k ∷ l) (firsts_from xs x [])
+      ]
 
-  -- the first items of the runs stay
-  pub keeps_firsts : (xs ys : List A) → IsDeduped R s xs ys → KeepsFirsts same xs ys
-  keeps_firsts [] ys d = ([], divides goes_on [], d.told)
-  keeps_firsts (x ∷ xs) ys d = (cut goes_on (x ∷ []) xs, divides goes_on (x ∷ xs), firsts_from xs x [] ys d.told)
+  -- what `dedup` leaves are the first items of the runs
+  pub keeps_firsts : (xs ys : List A) → ys ≡ dedup same xs → KeepsFirsts same xs ys
+  keeps_firsts [] ys e = ([], divides goes_on [], e)
+  keeps_firsts (x ∷ xs) ys e = (cut goes_on (x ∷ []) xs, divides goes_on (x ∷ xs), e ∙ firsts_from xs x [])
+
+  kept_from : (xs : List A) (k : A) → 0 < length (dedup_from same k xs)
+  kept_from [] k = Prim.omega arith
+  kept_from (x ∷ xs) k = elim (same x k) as (λ b. 0 < length (cond b (dedup_from same k xs) (k ∷ dedup_from same x xs))) [ true ↦ kept_from xs k | false ↦ Prim.omega arith ]
+
+  pub some_kept : (xs ys : List A) → ys ≡ dedup same xs → 0 < length xs → 0 < length ys
+  some_kept [] ys e some = absurd (Prim.omega (arith, some))
+  some_kept (x ∷ xs) ys e some = rw e (kept_from xs x)
 
 -- a comparison by keys, where the key is a function of the item
 pub compares : {F X K : Type 0} (g : Mut F (MutBor X × Unit {0}) (K × (MutBor X × Unit {0}))) (eq : K → K → Bool) (read : X → K) (f : F) → ActsAsAtMut g f read (λ x. x)
-    → (x y : X) (b : Bool) (f' : F) (x' y' : X) → ComparesKeys g eq f x y b f' x' y' → (f' ≡ f) × (b ≡ eq (read x) (read y)) × (x' ≡ x) × (y' ≡ y)
+    → (x y : X) (b : Bool) (f' : F) (x' y' : X) → ComparesKeys g eq f x y b f' x' y' → (b ≡ eq (read x) (read y)) × (f' ≡ f) × (x' ≡ x) × (y' ≡ y)
 compares g eq read f pure x y b f' x' y' c =
     let first = pure x c.key c.between x' c.first in
     let second = pure y c.other f' y' (subst (λ s. CalledAtMut g s y c.other f' y') first.0 c.second) in
-    (second.0, c.compared ∙ ap (λ k. eq k c.other) first.1 ∙ ap (eq (read x)) second.1, first.2, second.2)
+    (c.compared ∙ ap (λ k. eq k c.other) first.1 ∙ ap (eq (read x)) second.1, second.0, first.2, second.2)

@@ -43,6 +43,6 @@ impl<T: Drop> NEVec<T> {
         ensures stays { 0 < length self.new }
         ensures firsts { KeepsFirsts T.eq self.old self.new }
     {
-        self.dedup_by(|later, kept| *later == *kept);
+        self.inner.dedup();
     }
 }

@@ -1,5 +1,12 @@
-use Rattle.std.proofs.Common.{rules}
+use Rattle.std.proofs.lemmas.List.Filters.{dedup_is}
+use Rattle.ne_vec.proofs.Kept.{keeps_firsts, some_kept}
 use Rattle.ne_vec.proofs.vector.NEVec.dedup.Goals as goal
 
+pub invariant_of-self : goal.invariant_of-self
+invariant_of-self g c = some_kept _ _ _ (dedup_is _ _ _ c.dedup.ensures.filtered) c.self.invariant
+
+pub returns-clause-stays : goal.returns-clause-stays
+returns-clause-stays g c = some_kept _ _ _ (dedup_is _ _ _ c.dedup.ensures.filtered) c.self.invariant
+
 pub returns-clause-firsts : goal.returns-clause-firsts
-returns-clause-firsts g c = c.dedup_by.ensures.firsts g.T.PartialEq.eq (λ later kept r f later' kept' called. search rules)
+returns-clause-firsts g c = rw (← c.self.view_is) (keeps_firsts _ _ _ (dedup_is _ _ _ c.dedup.ensures.filtered))
