@@ -4,6 +4,7 @@
 //! worked rows, printed texts, and that each call succeeds where there is memory.
 #![tactic(auto)]
 
-pub mod lists;
+#[cfg(test)]
+mod lists;
 #[cfg(test)]
 mod tests;

@@ -7,21 +7,21 @@ use std::alloc::{AllocError, Global};
 use std::num::NonZeroUsize;
 
 // One, two and three.
-pub fn small(alloc: Global) -> Result<NEVec<u32>, AllocError>
+pub(crate) fn small(alloc: Global) -> Result<NEVec<u32>, AllocError>
     ensures { IfOk result (λ v. v ≡ 1 ∷ 2 ∷ 3 ∷ []) }
 {
     nev![alloc; 1, 2, 3]
 }
 
 // The three items.
-pub fn any<T: Drop>(alloc: Global, a: T, b: T, c: T) -> Result<NEVec<T>, AllocError>
+pub(crate) fn any<T: Drop>(alloc: Global, a: T, b: T, c: T) -> Result<NEVec<T>, AllocError>
     ensures { IfOk result (λ v. v ≡ a ∷ b ∷ c ∷ []) }
 {
     nev![alloc; a, b, c]
 }
 
 // Zero `n` times.
-pub fn zeros(alloc: Global, n: usize) -> Result<NEVec<u8>, AllocError>
+pub(crate) fn zeros(alloc: Global, n: usize) -> Result<NEVec<u8>, AllocError>
     requires { 0 < n }
     ensures { IfOk result (λ v. length v ≡ n) }
 {
@@ -29,7 +29,7 @@ pub fn zeros(alloc: Global, n: usize) -> Result<NEVec<u8>, AllocError>
 }
 
 // A list of lists.
-pub fn nested(alloc: Global, x: u8) -> Result<NEVec<NEVec<u8>>, AllocError>
+pub(crate) fn nested(alloc: Global, x: u8) -> Result<NEVec<NEVec<u8>>, AllocError>
     ensures { IfOk result (λ v. v ≡ (x ∷ []) ∷ (x ∷ x ∷ []) ∷ []) }
 {
     let one = nev![alloc; x]?;
@@ -37,19 +37,19 @@ pub fn nested(alloc: Global, x: u8) -> Result<NEVec<NEVec<u8>>, AllocError>
     nev![alloc; one, two]
 }
 
-pub fn set_first<T: Drop>(v: &mut NEVec<T>, x: T)
+pub(crate) fn set_first<T: Drop>(v: &mut NEVec<T>, x: T)
     ensures { v.new ≡ slice_set v.old 0 x }
 {
     *v.first_mut() = x;
 }
 
-pub fn set_last<T: Drop>(v: &mut NEVec<T>, x: T)
+pub(crate) fn set_last<T: Drop>(v: &mut NEVec<T>, x: T)
     ensures { v.new ≡ slice_set v.old (length v.old - 1) x }
 {
     *v.last_mut() = x;
 }
 
-pub fn set_at<T: Drop>(v: &mut NEVec<T>, i: usize, x: T)
+pub(crate) fn set_at<T: Drop>(v: &mut NEVec<T>, i: usize, x: T)
     requires { i < length v.old }
     ensures { v.new ≡ slice_set v.old i x }
 {
@@ -57,7 +57,7 @@ pub fn set_at<T: Drop>(v: &mut NEVec<T>, i: usize, x: T)
 }
 
 // Writes one item, if it is there.
-pub fn try_set(v: &mut NEVec<u32>, i: usize)
+pub(crate) fn try_set(v: &mut NEVec<u32>, i: usize)
     ensures there { i < length v.old → v.new ≡ slice_set v.old i 7 }
     ensures absent { length v.old ≤ i → v.new ≡ v.old }
 {
@@ -66,14 +66,14 @@ pub fn try_set(v: &mut NEVec<u32>, i: usize)
     }
 }
 
-pub fn grown<T: Drop>(v: &mut NEVec<T>, x: T) -> Result<(), AllocError>
+pub(crate) fn grown<T: Drop>(v: &mut NEVec<T>, x: T) -> Result<(), AllocError>
     ensures { IfOk result (λ _. length v.new ≡ length v.old + 1) }
 {
     v.push(x)
 }
 
 // Takes the last item and puts it back.
-pub fn pop_push<T: Drop>(v: &mut NEVec<T>) -> Result<(), AllocError>
+pub(crate) fn pop_push<T: Drop>(v: &mut NEVec<T>) -> Result<(), AllocError>
     ensures { IfOk result (λ _. v.new ≡ v.old) }
 {
     if let Some(x) = v.pop() {
@@ -82,26 +82,26 @@ pub fn pop_push<T: Drop>(v: &mut NEVec<T>) -> Result<(), AllocError>
     Ok(())
 }
 
-pub fn zero_all(v: &mut NEVec<u8>)
+pub(crate) fn zero_all(v: &mut NEVec<u8>)
     ensures { length v.new ≡ length v.old }
 {
     v.as_mut_slice().fill(0);
 }
 
 // Out of the type and back: nothing is lost.
-pub fn out_and_back<T>(v: NEVec<T>) -> Option<NEVec<T>>
+pub(crate) fn out_and_back<T>(v: NEVec<T>) -> Option<NEVec<T>>
     ensures { IfSome result (λ w. w ≡ v) }
 {
     NEVec::try_from_vec(Vec::from(v))
 }
 
-pub fn joined<T: Drop>(a: &mut NEVec<T>, b: NEVec<T>) -> Result<(), AllocError>
+pub(crate) fn joined<T: Drop>(a: &mut NEVec<T>, b: NEVec<T>) -> Result<(), AllocError>
     ensures { IfOk result (λ _. a.new ≡ a.old ++ b) }
 {
     a.extend(b)
 }
 
-pub fn bump_each(v: &mut NEVec<u32>)
+pub(crate) fn bump_each(v: &mut NEVec<u32>)
     ensures { length v.new ≡ length v.old }
 {
     for x in v.iter_mut() {
@@ -109,7 +109,7 @@ pub fn bump_each(v: &mut NEVec<u32>)
     }
 }
 
-pub fn bump_nonempty(v: &mut NEVec<u32>)
+pub(crate) fn bump_nonempty(v: &mut NEVec<u32>)
     ensures { length v.new ≡ length v.old }
 {
     for x in v.nonempty_iter_mut() {
@@ -117,7 +117,7 @@ pub fn bump_nonempty(v: &mut NEVec<u32>)
     }
 }
 
-pub fn bump_loop(v: &mut NEVec<u32>)
+pub(crate) fn bump_loop(v: &mut NEVec<u32>)
     ensures { length v.new ≡ length v.old }
 {
     for x in v {
@@ -125,21 +125,21 @@ pub fn bump_loop(v: &mut NEVec<u32>)
     }
 }
 
-pub fn ordered<T: Ord>(v: &mut NEVec<T>) -> Result<(), AllocError>
+pub(crate) fn ordered<T: Ord>(v: &mut NEVec<T>) -> Result<(), AllocError>
     ensures { IfOk result (λ _. IsSorted T.cmp v.new) }
 {
     v.sort()
 }
 
 // The first item after two removals, without an `Option`.
-pub fn first_after<T: Drop>(v: &mut NEVec<T>) -> &T {
+pub(crate) fn first_after<T: Drop>(v: &mut NEVec<T>) -> &T {
     let _ = v.pop();
     let _ = v.pop();
     v.first()
 }
 
 // Three items in a collection of any kind.
-pub fn three<C: Singleton + Drop>(
+pub(crate) fn three<C: Singleton + Drop>(
     alloc: Global,
     a: C::Item,
     b: C::Item,
@@ -155,41 +155,41 @@ where
     Ok(all)
 }
 
-pub fn three_numbers(alloc: Global) -> Result<NEVec<u32>, AllocError>
+pub(crate) fn three_numbers(alloc: Global) -> Result<NEVec<u32>, AllocError>
     ensures { IfOk result (λ v. v ≡ 1 ∷ 2 ∷ 3 ∷ []) }
 {
     three(alloc, 1, 2, 3)
 }
 
 // A chain over a walk.
-pub fn halves(alloc: Global, v: &NEVec<u32>) -> Result<Vec<u32>, AllocError>
+pub(crate) fn halves(alloc: Global, v: &NEVec<u32>) -> Result<Vec<u32>, AllocError>
     ensures { IfOk result (λ w. w.items ≡ map (λ x. x / 2) v.now) }
 {
     v.iter().map(|x| *x / 2).collect(alloc)
 }
 
 // And over the loop's.
-pub fn halves_nonempty(alloc: Global, v: &NEVec<u32>) -> Result<Vec<u32>, AllocError>
+pub(crate) fn halves_nonempty(alloc: Global, v: &NEVec<u32>) -> Result<Vec<u32>, AllocError>
     ensures { IfOk result (λ w. w.items ≡ map (λ x. x / 2) v.now) }
 {
     v.nonempty_iter().into_iter().map(|x| *x / 2).collect(alloc)
 }
 
 // Keeps the small ones.
-pub fn small_ones(v: NEVec<u32>) -> Result<NEVec<u32>, Vec<u32>>
+pub(crate) fn small_ones(v: NEVec<u32>) -> Result<NEVec<u32>, Vec<u32>>
     ensures { MatchResult result (λ w. w ≡ filter (λ x. nat_lt x 10) v) (λ _. filter (λ x. nat_lt x 10) v ≡ []) }
 {
     v.retain(|x| *x < 10)
 }
 
-pub fn ends(s: &NESlice<'_, u8>) -> (u8, u8)
+pub(crate) fn ends(s: &NESlice<'_, u8>) -> (u8, u8)
     ensures { (slice_get s.now 0 ≡ Some result.0) × (slice_get s.now (length s.now - 1) ≡ Some result.1) }
 {
     (*s.first(), *s.last())
 }
 
 // How many items the chunks have, all together.
-pub fn parts(xs: &[u8], size: NonZeroUsize) -> usize {
+pub(crate) fn parts(xs: &[u8], size: NonZeroUsize) -> usize {
     let mut count = 0usize;
     if let Some(slice) = NESlice::try_from_slice(xs) {
         for part in slice.nonempty_chunks(size) {
@@ -199,6 +199,6 @@ pub fn parts(xs: &[u8], size: NonZeroUsize) -> usize {
     count
 }
 
-pub fn same<T: Ord>(a: &NEVec<T>, b: &NEVec<T>) -> bool {
+pub(crate) fn same<T: Ord>(a: &NEVec<T>, b: &NEVec<T>) -> bool {
     a == b || a < b
 }

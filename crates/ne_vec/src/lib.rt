@@ -31,9 +31,7 @@ impl fmt::Display for Error {
     ghost output = { λ _. Some (codes "Given collection was empty") };
 
     fn fmt<W: fmt::Write>(&self, f: &mut fmt::Formatter<W>) -> fmt::Result {
-        match self {
-            Error::Empty => write!(f, "Given collection was empty"),
-        }
+        f.write_str("Given collection was empty")
     }
 }
 

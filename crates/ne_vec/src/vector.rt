@@ -2,6 +2,10 @@
 //!
 //! The calls stand in the Rust crate's order: here those that read and edit, in `order` those that search, sort and draw, in `dedup`
 //! those that drop neighbours, and in `walks` and `traits` what the types implement.
+//!
+//! Where there is no memory the Rust crate's calls end the process. Here a call that takes memory answers `AllocError`, and says what
+//! then stands; the ones that make a vector of nothing are handed the allocator, and a vector keeps its own. What else differs from
+//! the Rust crate, a call's comment says.
 ghost use Rattle.std.specs.Prelude.{◌≡◌, ◌-◌, ◌<◌, ◌≤◌, ◌↔◌, Bool, false, [], ◌∷◌, ◌++◌, map, length, take, drop, reverse, replicate, Some, None, IsSome, IfSome, IfOk, OnOk, OnErr, IsErr, MatchOption, slice_get};
 ghost use Rattle.std.specs.NonZero.{non_zero_usize_get};
 ghost use Rattle.std.specs.List.{AllZip, AllClonesOf, filter, insert, remove, swap_remove, list_any};
@@ -25,6 +29,14 @@ pub use walks::{IntoIter, Iter, IterMut};
 ///
 /// It grows at its end like std's `Vec`, in whose place it stands, and what asks for a first or a last item is always answered. A
 /// contract sees it as the list of its items. Where a call says of memory nothing, it takes none.
+///
+/// ```
+/// let mut words = nev![alloc; "one"]?;
+/// words.push("two")?;
+/// let (first, last) = (*words.first(), *words.last()); // "one" and "two"
+/// let two = words.pop(); // Some("two")
+/// let none = words.pop(); // None: the last item stays
+/// ```
 #[derive(Drop)]
 pub struct NEVec<T> {
     inner: Vec<T>,
@@ -49,8 +61,7 @@ impl<T> NEVec<T> {
 
     /// The vector of one item, `head`.
     ///
-    /// `AllocError` where there is no memory for it; `head` is then dropped. In the Rust crate this call takes no allocator, and
-    /// ends the process in that case.
+    /// `AllocError` where there is no memory for it; `head` is then dropped.
     pub fn new(alloc: Global, head: T) -> Result<Self, AllocError>
     where
         T: Drop,
@@ -120,8 +131,7 @@ impl<T> NEVec<T> {
 
     /// Adds `e` at the end.
     ///
-    /// `AllocError` where the vector has to grow and there is no memory for it; the vector is then as it was, and `e` is dropped. In
-    /// the Rust crate this call ends the process in that case.
+    /// `AllocError` where the vector has to grow and there is no memory for it; the vector is then as it was, and `e` is dropped.
     pub fn push(&mut self, e: T) -> Result<(), AllocError>
     where
         T: Drop,
@@ -403,7 +413,7 @@ impl<T> NEVec<T> {
     /// Clones of the items, in order, in a vector of their own with the same allocator.
     ///
     /// `AllocError` where there is no memory for them, or where a clone was refused. That the items are the same asks that a clone
-    /// equals its original. In the Rust crate this is `Clone`, which has no answer for want of memory.
+    /// equals its original. In the Rust crate this is `Clone`, whose answer has no place for a refusal.
     pub fn clone(&self) -> Result<Self, AllocError>
     where
         T: Clone,
@@ -449,8 +459,7 @@ impl<T> NEVec<T> {
     /// Adds the items of `iter` at the end, in order.
     ///
     /// The condition is that `iter` ends. `AllocError` where the vector has to grow and there is no memory for it; the items that
-    /// were drawn before that are then added, and what was drawn in vain is dropped. In the Rust crate this is `Extend`, which has
-    /// no answer for want of memory.
+    /// were drawn before that are then added, and one that found no room is dropped. In the Rust crate this is `Extend`.
     pub fn extend<I: IntoIterator<Item = T>>(&mut self, iter: I) -> Result<(), AllocError>
     where
         T: Drop,

@@ -1,8 +1,8 @@
 //! The calls of `NESlice`, and chunks.
 
 use super::{of, part};
-use ne_vec::NESlice;
 use ne_vec::slice::Iter;
+use ne_vec::{NESlice, nev};
 use std::alloc::Global;
 use std::cmp::Ordering;
 use std::collections::HashSet;
@@ -98,5 +98,21 @@ fn chunks(rt: HostRuntime) -> Result<(), Fail> {
         let (shown, count) = chunks_of_seven(rt.alloc(), size)?;
         assert_eq!(rt; (shown.as_slice(), count), (wanted, chunks), "{size}");
     }
+    Ok(())
+}
+
+#[test]
+fn chunks_of_a_vector(rt: HostRuntime) -> Result<(), Fail> {
+    let five = nev![rt.alloc(); 1, 2, 3, 4, 5]?;
+    let mut chunks = five.nonempty_chunks(of(2)?).into_iter();
+    assert_eq!(rt; chunks.size_hint(), (3, Some(3)));
+    for wanted in [[1, 2].as_slice(), [3, 4].as_slice(), [5].as_slice()] {
+        let chunk = chunks.next().ok_or("no chunk left")?;
+        assert_eq!(rt; chunk.as_slice(), wanted);
+    }
+    assert_eq!(rt;
+        (chunks.next().is_none(), chunks.size_hint()),
+        (true, (0, Some(0)))
+    );
     Ok(())
 }
