@@ -57,8 +57,8 @@ fn append(rt: HostRuntime) -> Result<(), Fail> {
     leaves(&rt, "NEVec::append", answer, &items, &[1, 2], &[1, 2, 3, 4])
 }
 
-// Counts down to 0, and hints at more items than any memory holds. Where a hint can be had, `extend` asks for it first, and does
-// without where that is refused; behind this one it asks once each time that it grows.
+// Counts down to 0, and hints at more items than any memory holds. To grow, `extend` asks for the room of the hint, and where that is
+// refused for the room of one item, so that a single refusal is done without. For this hint it does not ask: each growth is one request.
 #[derive(Drop)]
 struct Countdown(u32);
 
