@@ -1,0 +1,81 @@
+//! The calls that make a vector of clones. A clone takes memory of its own, so a later one can be refused when an earlier is made.
+
+use super::tell;
+use ne_vec::NEVec;
+use std::alloc::{AllocError, Global};
+use std::num::NonZeroUsize;
+use std::process::Abort;
+use std::test::Fail;
+
+// A number whose clones take memory, though it takes none itself: so the calls are all that asks.
+#[derive(Drop)]
+struct Number {
+    value: u32,
+    room: Vec<u8>,
+}
+
+impl Clone for Number {
+    fn clone(&self) -> Result<Number, AllocError> {
+        let room = Vec::with_capacity(*self.room.allocator(), 1)?;
+        Ok(Number {
+            value: self.value,
+            room,
+        })
+    }
+}
+
+fn fresh(alloc: Global, value: u32) -> Number {
+    Number {
+        value,
+        room: Vec::new(alloc),
+    }
+}
+
+// Whether the numbers are these.
+fn are(items: &NEVec<Number>, values: &[u32]) -> bool {
+    items
+        .iter()
+        .map(|item| item.value)
+        .eq(values.iter().copied())
+}
+
+// Of a call that makes a vector: with memory it gives these numbers.
+fn gives(
+    rt: &(impl Abort + Print),
+    call: &str,
+    answer: Result<NEVec<Number>, AllocError>,
+    values: &[u32],
+) -> Result<(), Fail> {
+    match answer {
+        Ok(made) => {
+            assert!(rt; are(&made, values), "{call}");
+            tell(rt, "made", call)
+        }
+        Err(AllocError) => tell(rt, "refused", call),
+    }
+}
+
+#[test]
+fn from_elem(rt: HostRuntime) -> Result<(), Fail> {
+    let n = NonZeroUsize::new(3).unwrap();
+    let answer = NEVec::from_elem(rt.alloc(), fresh(rt.alloc(), 7), n);
+    gives(&rt, "NEVec::from_elem", answer, &[7, 7, 7])
+}
+
+#[test]
+fn try_from_slice(rt: HostRuntime) -> Result<(), Fail> {
+    let slice = [fresh(rt.alloc(), 1), fresh(rt.alloc(), 2)];
+    let answer = NEVec::try_from_slice(rt.alloc(), &slice);
+    let answer = answer.map(|made| made.expect(&rt, "the slice has an item"));
+    gives(&rt, "NEVec::try_from_slice", answer, &[1, 2])
+}
+
+#[test]
+fn clone(rt: HostRuntime) -> Result<(), Fail> {
+    let Ok(items) = NEVec::new(rt.alloc(), fresh(rt.alloc(), 7)) else {
+        return tell(&rt, "not reached", "NEVec::clone");
+    };
+    let answer = items.clone();
+    assert!(rt; are(&items, &[7]), "the original stays");
+    gives(&rt, "NEVec::clone", answer, &[7])
+}

@@ -1,0 +1,55 @@
+//! The calls that make a vector of numbers.
+
+use super::{gives, tell, two};
+use ne_vec::{NEVec, Singleton, nev};
+use std::alloc::{AllocError, Global};
+use std::num::NonZeroUsize;
+use std::test::Fail;
+
+#[test]
+fn new(rt: HostRuntime) -> Result<(), Fail> {
+    let answer = NEVec::new(rt.alloc(), 1);
+    gives(&rt, "NEVec::new", answer, &[1])
+}
+
+#[test]
+fn with_capacity(rt: HostRuntime) -> Result<(), Fail> {
+    let answer = NEVec::with_capacity(rt.alloc(), NonZeroUsize::new(3).unwrap(), 1);
+    gives(&rt, "NEVec::with_capacity", answer, &[1])
+}
+
+#[test]
+fn from_parts(rt: HostRuntime) -> Result<(), Fail> {
+    let Ok(tail) = two(rt.alloc(), 2, 3) else {
+        return tell(&rt, "not reached", "NEVec::from_parts");
+    };
+    assert_eq!(rt; tail.capacity(), 2);
+    gives(
+        &rt,
+        "NEVec::from_parts",
+        NEVec::from_parts(1, tail),
+        &[1, 2, 3],
+    )
+}
+
+#[test]
+fn singleton(rt: HostRuntime) -> Result<(), Fail> {
+    let answer: Result<NEVec<u32>, AllocError> = Singleton::singleton(rt.alloc(), 1);
+    gives(&rt, "Singleton::singleton", answer, &[1])
+}
+
+// Five items, so that the vector grows on the way.
+fn five(alloc: Global) -> Result<NEVec<u32>, AllocError> {
+    nev![alloc; 1, 2, 3, 4, 5]
+}
+
+#[test]
+fn nev_of_a_list(rt: HostRuntime) -> Result<(), Fail> {
+    gives(&rt, "nev of a list", five(rt.alloc()), &[1, 2, 3, 4, 5])
+}
+
+#[test]
+fn nev_of_a_repeated_item(rt: HostRuntime) -> Result<(), Fail> {
+    let answer = nev![rt.alloc(); 1; 3];
+    gives(&rt, "nev of a repeated item", answer, &[1, 1, 1])
+}
