@@ -1,5 +1,5 @@
 //! The calls of [`NEVec`] that search, sort and draw.
-ghost use Rattle.std.specs.Prelude.{◌≡◌, ◌≤◌, Bool, true, false, length, Some, IsSome, IfSome, OnOk, OnErr, slice_get, IsPermutation, IsSorted, Contains};
+ghost use Rattle.std.specs.Prelude.{◌≡◌, ◌≤◌, Bool, true, false, length, Some, IsSome, IfSome, IsOk, OnOk, OnErr, slice_get, IsPermutation, IsSorted, Contains};
 ghost use Rattle.std.specs.List.Sorted.{IsStable, IsSortedByClosure, IsStableByClosure, IsSortedByKeyClosure, IsStableByKeyClosure, IsBinarySearchResult, IsSearchInRange, IsPartitionedBy, IsPartitionPoint};
 ghost use Rattle.std.specs.Fn.{ComputesKey};
 ghost use Rattle.std.specs.declared.cmp.Ordering.{Ordering};
@@ -66,6 +66,7 @@ impl<T> NEVec<T> {
         ensures sorted { OnOk result (IsSorted T.cmp self.new) }
         ensures stable { IsStable T.cmp self.old self.new }
         ensures unchanged { OnErr result (self.new ≡ self.old) }
+        ensures small { length self.old ≤ 20 → IsOk result }
     {
         self.inner.sort()
     }
@@ -80,6 +81,7 @@ impl<T> NEVec<T> {
         ensures sorted { OnOk result (IsSortedByClosure F.FnMut f self.new) }
         ensures stable { IsStableByClosure F.FnMut f self.old self.new }
         ensures unchanged { OnErr result (self.new ≡ self.old) }
+        ensures small { length self.old ≤ 20 → IsOk result }
     {
         self.inner.sort_by(f)
     }
@@ -94,6 +96,7 @@ impl<T> NEVec<T> {
         ensures sorted { OnOk result (IsSortedByKeyClosure F.FnMut K.cmp f self.new) }
         ensures stable { IsStableByKeyClosure F.FnMut K.cmp f self.old self.new }
         ensures unchanged { OnErr result (self.new ≡ self.old) }
+        ensures small { length self.old ≤ 20 → IsOk result }
     {
         self.inner.sort_by_key(f)
     }
