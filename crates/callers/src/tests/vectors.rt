@@ -267,6 +267,15 @@ fn neighbours_dropped(rt: HostRuntime) -> Result<(), Fail> {
     Ok(())
 }
 
+// Whether the later item is the kept one's successor, which tells the two arguments apart.
+#[test]
+fn successors_dropped(rt: HostRuntime) -> Result<(), Fail> {
+    let mut four = list(rt.alloc(), &[1u8, 2, 3, 4])?;
+    four.dedup_by(|later, kept| *later == kept.wrapping_add(1));
+    assert_eq!(rt; four.as_slice(), [1, 3].as_slice());
+    Ok(())
+}
+
 #[test]
 fn neighbours_of_one_key_dropped(rt: HostRuntime) -> Result<(), Fail> {
     let mut tens = list(rt.alloc(), &[10, 20, 21, 30, 20])?;
