@@ -2,7 +2,7 @@
 
 use super::{gives, tell, two};
 use ne_vec::{NEVec, Singleton, nev};
-use std::alloc::{AllocError, Global};
+use std::alloc::AllocError;
 use std::num::NonZeroUsize;
 use std::test::Fail;
 
@@ -38,14 +38,17 @@ fn singleton(rt: HostRuntime) -> Result<(), Fail> {
     gives(&rt, "Singleton::singleton", answer, &[1])
 }
 
-// Five items, so that the vector grows on the way.
-fn five(alloc: Global) -> Result<NEVec<u32>, AllocError> {
-    nev![alloc; 1, 2, 3, 4, 5]
-}
-
+// Six items, so that the vector grows on the way. None is evaluated after a refusal.
 #[test]
 fn nev_of_a_list(rt: HostRuntime) -> Result<(), Fail> {
-    gives(&rt, "nev of a list", five(rt.alloc()), &[1, 2, 3, 4, 5])
+    let mut evaluated = 0u32;
+    let mut next = || {
+        evaluated = evaluated.wrapping_add(1);
+        evaluated
+    };
+    let answer = nev![rt.alloc(); next(), next(), next(), next(), next(), next()];
+    assert!(rt; answer.is_ok() || evaluated < 6);
+    gives(&rt, "nev of a list", answer, &[1, 2, 3, 4, 5, 6])
 }
 
 #[test]
