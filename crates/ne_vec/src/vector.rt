@@ -4,8 +4,8 @@
 //! those that drop neighbours, and in `walks` and `traits` what the types implement.
 //!
 //! Where there is no memory the Rust crate's calls end the process. Here a call that takes memory answers `AllocError`, and says what
-//! then stands; the ones that make a vector of nothing are handed the allocator, and a vector keeps its own. What else differs from
-//! the Rust crate, a call's comment says.
+//! then stands; constructors are handed the allocator, and a vector keeps its own. What else differs from the Rust crate, a call's
+//! comment says.
 ghost use Rattle.std.specs.Prelude.{◌≡◌, ◌-◌, ◌<◌, ◌≤◌, ◌↔◌, Bool, false, [], ◌∷◌, ◌++◌, map, length, take, drop, reverse, replicate, Some, None, IsSome, IfSome, IfOk, OnOk, OnErr, IsErr, MatchOption, slice_get};
 ghost use Rattle.std.specs.NonZero.{non_zero_usize_get};
 ghost use Rattle.std.specs.List.{AllZip, AllClonesOf, filter, insert, remove, swap_remove, list_any};
@@ -28,7 +28,7 @@ pub use walks::{IntoIter, Iter, IterMut};
 /// A vector that holds at least one item.
 ///
 /// It grows at its end like std's `Vec`, in whose place it stands, and what asks for a first or a last item is always answered. A
-/// contract sees it as the list of its items. Where a call says of memory nothing, it takes none.
+/// contract sees it as the list of its items. A call that says nothing of memory takes none.
 ///
 /// ```
 /// let mut words = nev![alloc; "one"]?;
