@@ -24,7 +24,11 @@ def ends(numbers):
     return [[len(numbers), numbers[0], numbers[-1]]]
 
 
-MODES = {"ends": ends}
+def stats(numbers):
+    return [[min(numbers), max(numbers), sum(numbers)]]
+
+
+MODES = {"ends": ends, "stats": stats}
 
 
 def number(line):

@@ -7,8 +7,12 @@ mod changes;
 mod clones;
 mod makes;
 mod sorts;
+mod sources;
 
-use ne_vec::NEVec;
+ghost use Rattle.std.specs.Prelude.{◌+◌, ◌^◌};
+ghost use Rattle.std.specs.Iterator.{at_most};
+
+use nonempty_collections::NEVec;
 use std::alloc::{AllocError, Global};
 use std::convert::AsSlice;
 use std::process::Abort;
@@ -67,5 +71,28 @@ fn leaves(
             assert_eq!(rt; items.as_slice(), before, "{call} without memory");
             tell(rt, "refused", call)
         }
+    }
+}
+
+// Counts down to 0, and hints at more items than any memory holds. To grow, `extend` asks for the room of the hint, and where that is
+// refused for the room of one item, so that a single refusal is done without. For this hint it does not ask: each growth is one request.
+#[derive(Drop)]
+struct Countdown(u32);
+
+impl Iterator for Countdown {
+    type Item = u32;
+
+    ghost remaining = { λ s. at_most (2 ^ 64 + s.0) };
+
+    fn next(&mut self) -> Option<u32> {
+        if self.0 == 0 {
+            return None;
+        }
+        self.0 -= 1;
+        Some(self.0)
+    }
+
+    fn size_hint(&self) -> (usize, Option<usize>) {
+        (usize::MAX, None)
     }
 }

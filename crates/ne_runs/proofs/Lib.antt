@@ -1,5 +1,7 @@
 pub mod FirstLine
+pub mod ModeRows
 pub mod Numbers
 pub mod OneList
 pub mod Rows
+pub mod Stats
 pub mod Writes

@@ -1,26 +1,37 @@
 -- The modes: the word that names each, and what it writes of a list of numbers. A space is 32.
-use Rattle.std.specs.Prelude.{◌≡◌, ℕ, ◌-◌, List, [], ◌∷◌, ◌++◌, if◌then◌else◌, length, map, slice_index, codes, Option, None, Some}
+use Rattle.std.specs.Prelude.{◌≡◌, ℕ, ◌≤◌, ◌-◌, List, [], ◌∷◌, ◌++◌, if◌then◌else◌, length, map, slice_index, codes, All, Contains, sum, Option, None, Some}
 use Rattle.std.specs.List.{flat_map, join_with_byte}
 use Rattle.std.specs.Fmt.{decimal}
 use Rattle.std.specs.Str.{bytes_eq}
 use Rattle.ne_runs.specs.declared.mode.Mode.{Mode}
-use Rattle.ne_runs.specs.declared.mode.Mode.TheVariants.{Ends}
+use Rattle.ne_runs.specs.declared.mode.Mode.TheVariants.{Ends, Stats}
 
 -- the word that names a mode
 abbrev pub word_of : Mode → List ℕ
 word_of Ends = codes "ends"
+word_of Stats = codes "stats"
 
 -- the mode that a word names
 abbrev pub mode_of : List ℕ → Option Mode
-mode_of word = if bytes_eq word (word_of Ends) then Some Ends else None
+mode_of word = if bytes_eq word (word_of Ends) then Some Ends else if bytes_eq word (word_of Stats) then Some Stats else None
 
 -- how many numbers there are, the first and the last
 abbrev pub ends_of : List ℕ → List ℕ
 ends_of numbers = length numbers ∷ slice_index numbers 0 ∷ slice_index numbers (length numbers - 1) ∷ []
 
+-- one of the numbers, which is at most each of them
+abbrev pub IsLeast : List ℕ → ℕ → Type 0
+IsLeast numbers least = Contains numbers least × All (λ n. least ≤ n) numbers
+
+-- one of the numbers, which is at least each of them
+abbrev pub IsGreatest : List ℕ → ℕ → Type 0
+IsGreatest numbers greatest = Contains numbers greatest × All (λ n. n ≤ greatest) numbers
+
 -- the rows that a mode makes of numbers, of which there is at least one
 abbrev pub AreRows : Mode → List ℕ → List (List ℕ) → Type 0
 AreRows Ends numbers rows = rows ≡ ends_of numbers ∷ []
+AreRows Stats numbers rows =
+    (least : ℕ) × (greatest : ℕ) × IsLeast numbers least × IsGreatest numbers greatest × (rows ≡ (least ∷ greatest ∷ sum numbers ∷ []) ∷ [])
 
 -- a row as a line of text: in decimal, with one space between
 abbrev pub row_text : List ℕ → List ℕ

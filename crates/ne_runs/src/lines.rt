@@ -1,5 +1,5 @@
 //! The lines of an input, and the numbers that they write.
-ghost use Rattle.std.specs.Prelude.{◌≡◌, ℕ, ◌+◌, ◌^◌, ◌==◌, ◌<◌, ◌≤◌, ◌⊎◌, List, ◌∷◌, length, position, None, Some, MatchOption, MatchResult, true, false};
+ghost use Rattle.std.specs.Prelude.{◌≡◌, ℕ, ◌+◌, ◌^◌, ◌==◌, ◌<◌, ◌≤◌, ◌⊎◌, List, ◌∷◌, length, sum, position, None, Some, IfOk, MatchOption, MatchResult, true, false};
 ghost use Rattle.std.specs.Fmt.{decimal};
 ghost use Rattle.ne_runs.specs.Faults.{bad_line, most_bytes};
 ghost use Rattle.ne_runs.specs.Lines.{AreLines, lines_of, is_number, number_of, numbers_of, place_value};
@@ -59,9 +59,12 @@ fn number(line: &[u8]) -> Option<u32>
 }
 
 /// The numbers of all lines of a text, in order; or its first bad line, or `Memory` where there is no memory for them.
+///
+/// Their sum fits in 64 bits: there are no more of them than bytes, and each fits in 32.
 pub fn numbers(alloc: Global, text: &[u8]) -> Result<Vec<u32>, Fault>
     requires { length text.now ≤ most_bytes }
-    ensures { MatchResult result
+    ensures fits { IfOk result (λ numbers. sum numbers.items < 2 ^ 64) }
+    ensures lines { MatchResult result
         (λ numbers. (bad_line (lines_of text.now) ≡ None) × (numbers.items ≡ numbers_of text.now))
         (λ fault. (fault ≡ Fault.Memory) ⊎ (bad_line (lines_of text.now) ≡ Some fault)) }
 {

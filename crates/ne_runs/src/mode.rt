@@ -1,9 +1,12 @@
 //! [`Mode`], what a run makes of its numbers: the word that names each mode, and its text.
-ghost use Rattle.std.specs.Prelude.{◌≡◌, ◌∷◌, ◌++◌, OnOk, IfOk, Some, string_bytes, List, ℕ};
-ghost use Rattle.ne_runs.specs.Modes.{mode_of, word_of, row_text, IsText};
+//!
+//! The laws of the library that are called here do nothing. What they ensure is cited by the proofs.
+ghost use Rattle.std.specs.Prelude.{◌≡◌, ◌^◌, ◌<◌, ◌∷◌, ◌++◌, OnOk, IfOk, Some, string_bytes, List, ℕ, length, sum};
+ghost use Rattle.ne_runs.specs.Modes.{mode_of, word_of, row_text, AreRows, IsText, IsLeast, IsGreatest};
 ghost use Rattle.ne_runs.specs.declared.mode.Mode.{Mode};
 
-use ne_vec::NEVec;
+use ne_iter::laws::{calls_of_a_function, vectors_give_their_items};
+use nonempty_collections::{NEVec, NonEmptyIterator};
 use std::alloc::{AllocError, Global};
 
 /// What a run makes of its numbers.
@@ -11,12 +14,20 @@ use std::alloc::{AllocError, Global};
 pub enum Mode {
     /// How many numbers there are, the first and the last, on one line.
     Ends,
+    /// The least number, the greatest and the sum of all, on one line.
+    Stats,
 }
 
 /// Each mode has a word that names it, and no other word does.
 pub fn modes_have_words()
     ensures named { (mode : Mode) → mode_of (word_of mode) ≡ Some mode }
     ensures only { (word : List ℕ) (mode : Mode) → mode_of word ≡ Some mode → word ≡ word_of mode }
+{}
+
+/// Each mode makes rows of numbers, of which there is at least one, and no other rows.
+pub fn rows_are_one()
+    ensures there { (mode : Mode) (numbers : List ℕ) → 0 < length numbers → (rows : List (List ℕ)) × AreRows mode numbers rows }
+    ensures only { (mode : Mode) (numbers : List ℕ) (rows others : List (List ℕ)) → AreRows mode numbers rows → AreRows mode numbers others → rows ≡ others }
 {}
 
 impl Mode {
@@ -26,16 +37,21 @@ impl Mode {
     {
         match word {
             "ends" => Some(Mode::Ends),
+            "stats" => Some(Mode::Stats),
             _ => None,
         }
     }
 
     /// The text that the mode writes of the numbers. `AllocError` where there is no memory for it.
+    ///
+    /// The sum of the numbers has to fit in 64 bits, whichever mode it is.
     pub fn text(&self, alloc: Global, numbers: &NEVec<u32>) -> Result<String, AllocError>
+        requires { sum numbers.now < 2 ^ 64 }
         ensures { IfOk result (λ text. IsText self.now numbers.now (string_bytes text)) }
     {
         match self {
             Mode::Ends => ends_text(alloc, numbers),
+            Mode::Stats => stats_text(alloc, numbers),
         }
     }
 }
@@ -50,6 +66,45 @@ fn ends_text(alloc: Global, numbers: &NEVec<u32>) -> Result<String, AllocError>
     let last = u64::from(*numbers.last());
     push_row(&mut text, count, &[first, last])?;
     Ok(text)
+}
+
+// The least number, the greatest and the sum of all.
+fn stats_text(alloc: Global, numbers: &NEVec<u32>) -> Result<String, AllocError>
+    requires { sum numbers.now < 2 ^ 64 }
+    ensures { IfOk result (λ text. IsText Mode.Stats numbers.now (string_bytes text)) }
+{
+    let mut text = String::new(alloc);
+    let least = u64::from(least(numbers));
+    let greatest = u64::from(greatest(numbers));
+    push_row(&mut text, least, &[greatest, sum(numbers)])?;
+    Ok(text)
+}
+
+// The least number.
+fn least(numbers: &NEVec<u32>) -> u32
+    ensures { IsLeast numbers.now result }
+{
+    vectors_give_their_items::<u32>();
+    numbers.nonempty_iter().copied().min()
+}
+
+// The greatest number.
+fn greatest(numbers: &NEVec<u32>) -> u32
+    ensures { IsGreatest numbers.now result }
+{
+    vectors_give_their_items::<u32>();
+    numbers.nonempty_iter().copied().max()
+}
+
+// The sum of all numbers.
+fn sum(numbers: &NEVec<u32>) -> u64
+    requires { sum numbers.now < 2 ^ 64 }
+    ensures { result ≡ sum numbers.now }
+{
+    let widen = |number| u64::from(number);
+    vectors_give_their_items::<u32>();
+    calls_of_a_function(&widen);
+    numbers.nonempty_iter().copied().map(widen).sum()
 }
 
 // Adds a row to a text: its first number, and the rest of them.

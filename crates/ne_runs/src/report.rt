@@ -9,7 +9,7 @@ use crate::device::{Sink, Source};
 use crate::fault::Fault;
 use crate::lines::numbers;
 use crate::mode::Mode;
-use ne_vec::NEVec;
+use nonempty_collections::NEVec;
 use std::alloc::Global;
 
 /// The most bytes that a run takes.

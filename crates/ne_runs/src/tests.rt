@@ -43,9 +43,38 @@ fn worked_rows(rt: HostRuntime) -> Result<(), Fail> {
 }
 
 #[test]
+fn rows_of_stats(rt: HostRuntime) -> Result<(), Fail> {
+    let rows: [(&[u8], Result<(), Fault>, &[u8]); 8] = [
+        (b"5\n1\n5\n", Ok(()), b"1 5 11\n"),
+        (b"0", Ok(()), b"0 0 0\n"),
+        (b"007\n3\n", Ok(()), b"3 7 10\n"),
+        (b"999999999\n", Ok(()), b"999999999 999999999 999999999\n"),
+        (
+            b"999999999\n999999999\n999999999\n999999999\n999999999\n0\n",
+            Ok(()),
+            b"0 999999999 4999999995\n",
+        ),
+        (b"1234567890\n", Err(Fault::BadLine(1)), b""),
+        (b"1\n\n", Err(Fault::BadLine(2)), b""),
+        (b"", Err(Fault::Empty), b""),
+    ];
+    for (input, answer, text) in rows {
+        for step in [1, 2, usize::MAX] {
+            let mut reader = reader_of(input, step);
+            let mut writer = empty_tape(rt.alloc(), step);
+            let answered = run(rt.alloc(), "stats", &mut reader, &mut writer);
+            assert_eq!(rt; answered, answer, "{input:?}");
+            assert_eq!(rt; writer.text.as_slice(), text, "{input:?}");
+            assert_eq!(rt; writer.flushed, true);
+        }
+    }
+    Ok(())
+}
+
+#[test]
 fn words_that_name_no_mode(rt: HostRuntime) -> Result<(), Fail> {
     for word in [
-        "runs", "stats", "equal", "end", "endss", "", "ENDS", "ends ",
+        "equal", "runs", "end", "endss", "stat", "statss", "", "ENDS", "Stats", "ends ", "stats\n",
     ] {
         let mut reader = reader_of(b"1\n", 1);
         let mut writer = empty_tape(rt.alloc(), 1);
@@ -56,18 +85,18 @@ fn words_that_name_no_mode(rt: HostRuntime) -> Result<(), Fail> {
     Ok(())
 }
 
-// The line `1`, that often.
-fn ones(alloc: Global, count: usize) -> Result<Vec<u8>, AllocError> {
+// A line, that often.
+fn repeated(alloc: Global, line: &[u8], count: usize) -> Result<Vec<u8>, AllocError> {
     let mut text = Vec::new(alloc);
     for _ in 0..count {
-        text.extend_from_slice(b"1\n")?;
+        text.extend_from_slice(line)?;
     }
     Ok(text)
 }
 
 #[test]
 fn longest_input(rt: HostRuntime) -> Result<(), Fail> {
-    let mut input = ones(rt.alloc(), 524_288)?;
+    let mut input = repeated(rt.alloc(), b"1\n", 524_288)?;
     for (step, turns) in [(usize::MAX, 65), (1, 1_048_577)] {
         let mut reader = reader_of(input.as_slice(), step);
         let mut writer = empty_tape(rt.alloc(), usize::MAX);
@@ -83,6 +112,27 @@ fn longest_input(rt: HostRuntime) -> Result<(), Fail> {
         let answered = run(rt.alloc(), "ends", &mut reader, &mut writer);
         assert_eq!(rt; answered, Err(Fault::TooLong));
         assert_eq!(rt; writer.calls, 0);
+    }
+    Ok(())
+}
+
+#[test]
+fn greatest_sums(rt: HostRuntime) -> Result<(), Fail> {
+    let rows: [(&[u8], usize, &[u8]); 2] = [
+        (
+            b"999999999\n",
+            104_857,
+            b"999999999 999999999 104856999895143\n",
+        ),
+        (b"9\n", 524_288, b"9 9 4718592\n"),
+    ];
+    for (line, count, text) in rows {
+        let input = repeated(rt.alloc(), line, count)?;
+        let mut reader = reader_of(input.as_slice(), usize::MAX);
+        let mut writer = empty_tape(rt.alloc(), usize::MAX);
+        let answered = run(rt.alloc(), "stats", &mut reader, &mut writer);
+        assert_eq!(rt; answered, Ok(()));
+        assert_eq!(rt; writer.text.as_slice(), text);
     }
     Ok(())
 }

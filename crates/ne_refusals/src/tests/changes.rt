@@ -1,9 +1,7 @@
 //! The calls that add to a vector, each onto one that has to grow.
-ghost use Rattle.std.specs.Prelude.{◌+◌, ◌^◌};
-ghost use Rattle.std.specs.Iterator.{at_most};
 
-use super::{leaves, pair, tell, two};
-use ne_vec::Singleton;
+use super::{Countdown, leaves, pair, tell, two};
+use nonempty_collections::Singleton;
 use std::alloc::AllocError;
 use std::convert::AsSlice;
 use std::test::Fail;
@@ -55,29 +53,6 @@ fn append(rt: HostRuntime) -> Result<(), Fail> {
     let kept: &[u32] = if answer.is_ok() { &[] } else { &[3, 4] };
     assert_eq!(rt; other.as_slice(), kept);
     leaves(&rt, "NEVec::append", answer, &items, &[1, 2], &[1, 2, 3, 4])
-}
-
-// Counts down to 0, and hints at more items than any memory holds. To grow, `extend` asks for the room of the hint, and where that is
-// refused for the room of one item, so that a single refusal is done without. For this hint it does not ask: each growth is one request.
-#[derive(Drop)]
-struct Countdown(u32);
-
-impl Iterator for Countdown {
-    type Item = u32;
-
-    ghost remaining = { λ s. at_most (2 ^ 64 + s.0) };
-
-    fn next(&mut self) -> Option<u32> {
-        if self.0 == 0 {
-            return None;
-        }
-        self.0 -= 1;
-        Some(self.0)
-    }
-
-    fn size_hint(&self) -> (usize, Option<usize>) {
-        (usize::MAX, None)
-    }
 }
 
 // The vector grows twice: without memory for the first time it takes nothing, and for the second time a first part.

@@ -1,7 +1,7 @@
-//! The calls that make a vector of clones. A clone takes memory of its own, so a later one can be refused when an earlier is made.
+//! The calls that clone. A clone takes memory of its own, so a later one can be refused when an earlier is made.
 
 use super::tell;
-use ne_vec::NEVec;
+use nonempty_collections::{IntoNonEmptyIterator, NEVec, NonEmptyIterator};
 use std::alloc::{AllocError, Global};
 use std::num::NonZeroUsize;
 use std::process::Abort;
@@ -78,4 +78,19 @@ fn clone(rt: HostRuntime) -> Result<(), Fail> {
     let answer = items.clone();
     assert!(rt; are(&items, &[7]), "the original stays");
     gives(&rt, "NEVec::clone", answer, &[7])
+}
+
+// A refused clone is an `Err` in its place, and the others are there.
+#[test]
+fn cloned(rt: HostRuntime) -> Result<(), Fail> {
+    let two = [fresh(rt.alloc(), 1), fresh(rt.alloc(), 2)];
+    let clones = (&two).into_nonempty_iter().cloned();
+    let clones = clones.map(|clone| clone.map_or(0, |it| it.value));
+    let told = clones.fold(
+        0u32,
+        |told, value| told.wrapping_mul(10).wrapping_add(value),
+    );
+    assert!(rt; told == 12 || told == 10 || told == 2);
+    let outcome = if told == 12 { "made" } else { "refused" };
+    tell(&rt, outcome, "NonEmptyIterator::cloned")
 }

@@ -1,7 +1,7 @@
 //! The calls that make a vector of numbers.
 
 use super::{gives, tell, two};
-use ne_vec::{NEVec, Singleton, nev};
+use nonempty_collections::{NEVec, Singleton, nev};
 use std::alloc::AllocError;
 use std::num::NonZeroUsize;
 use std::test::Fail;

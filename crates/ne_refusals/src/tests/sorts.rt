@@ -1,7 +1,7 @@
 //! The calls that sort, which take memory for more than twenty items.
 
 use super::{leaves, tell};
-use ne_vec::NEVec;
+use nonempty_collections::NEVec;
 use std::alloc::{AllocError, Global};
 use std::test::Fail;
 

@@ -1,0 +1,53 @@
+//! A clone that is refused.
+
+use nonempty_collections::{IntoNonEmptyIterator, NEVec, NonEmptyIterator};
+use std::alloc::AllocError;
+use std::cell::Cell;
+use std::convert::AsSlice;
+use std::test::Fail;
+
+// A number that counts its clones, of which the second is refused.
+#[derive(Drop)]
+struct Number<'a> {
+    value: u32,
+    clones: &'a Cell<u32>,
+}
+
+impl<'a> Clone for Number<'a> {
+    fn clone(&self) -> Result<Number<'a>, AllocError> {
+        self.clones.set(self.clones.get().wrapping_add(1));
+        if self.clones.get() == 2 {
+            return Err(AllocError);
+        }
+        Ok(Number {
+            value: self.value,
+            clones: self.clones,
+        })
+    }
+}
+
+fn numbered<'a>(value: u32, clones: &'a Cell<u32>) -> Number<'a> {
+    Number { value, clones }
+}
+
+// The refusal stands in its place, and the walk goes on behind it.
+#[test]
+fn second_refused(rt: HostRuntime) -> Result<(), Fail> {
+    let clones = Cell::new(0u32);
+    let three = [
+        numbered(1, &clones),
+        numbered(2, &clones),
+        numbered(3, &clones),
+    ];
+    let values: NEVec<Result<u32, AllocError>> = (&three)
+        .into_nonempty_iter()
+        .cloned()
+        .map(|clone| clone.map(|it| it.value))
+        .collect(rt.alloc())?;
+    assert_eq!(rt;
+        values.as_slice(),
+        [Ok(1), Err(AllocError), Ok(3)].as_slice()
+    );
+    assert_eq!(rt; clones.get(), 3);
+    Ok(())
+}

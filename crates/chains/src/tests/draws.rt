@@ -1,0 +1,115 @@
+//! How often a source is drawn: no method draws an item beyond the one that decides.
+ghost use Rattle.std.specs.Prelude.{◌≡◌, ◌<◌, IfNone};
+ghost use Rattle.std.specs.Iterator.{at_most};
+ghost use Rattle.std.proofs.Common.{arith};
+
+use super::of;
+use nonempty_collections::{IntoIteratorExt, NEVec, NonEmptyIterator};
+use std::cell::Cell;
+use std::convert::AsSlice;
+use std::test::Fail;
+
+// The numbers from `first` down to 1, of which each draw is counted.
+#[derive(Drop)]
+struct Countdown<'a> {
+    first: u32,
+    draws: &'a Cell<u32>,
+    ghost has_item: { 0 < first },
+}
+
+#[derive(Drop)]
+struct Steps<'a> {
+    left: u32,
+    draws: &'a Cell<u32>,
+}
+
+impl<'a> Iterator for Steps<'a> {
+    type Item = u32;
+
+    ghost next_gives = { λ s r t. IfNone r (s.left ≡ 0) };
+
+    ghost remaining = { λ s. at_most s.left };
+
+    fn next(&mut self) -> Option<u32> {
+        self.draws.set(self.draws.get().wrapping_add(1));
+        let item = self.left;
+        if item == 0 {
+            return None;
+        }
+        self.left = item - 1;
+        Some(item)
+    }
+}
+
+impl<'a> IntoIterator for Countdown<'a> {
+    type Item = u32;
+
+    type IntoIter = Steps<'a>;
+
+    ghost into_iter_gives = { λ s it. it.left ≡ s.first };
+
+    fn into_iter(self) -> Steps<'a> {
+        Steps {
+            left: self.first,
+            draws: self.draws,
+        }
+    }
+}
+
+impl<'a> NonEmptyIterator for Countdown<'a> {
+    ghost not_empty = { λ s it made t ended. Prim.omega (arith, made, s.has_item, ended) };
+}
+
+// 3, 2 and 1.
+fn three(draws: &Cell<u32>) -> Countdown<'_>
+    ensures { result.first ≡ 3 }
+{
+    Countdown { first: 3, draws }
+}
+
+#[test]
+fn deciding(rt: HostRuntime) {
+    let draws = Cell::new(0u32);
+    assert_eq!(rt; (three(&draws).all(|x| x > 2), draws.take()), (false, 2));
+    assert_eq!(rt; (three(&draws).any(|x| x == 2), draws.take()), (true, 2));
+    assert_eq!(rt;
+        (three(&draws).find(|x| *x < 3), draws.take()),
+        (Some(2), 2)
+    );
+}
+
+#[test]
+fn at_a_place(rt: HostRuntime) {
+    let draws = Cell::new(0u32);
+    assert_eq!(rt; (three(&draws).nth(1), draws.take()), (Some(2), 2));
+    assert_eq!(rt; (three(&draws).next().0, draws.take()), (3, 1));
+}
+
+#[test]
+fn taken(rt: HostRuntime) -> Result<(), Fail> {
+    let draws = Cell::new(0u32);
+    let two: NEVec<u32> = three(&draws).take(of(2)?).collect(rt.alloc())?;
+    assert_eq!(rt; (two.as_slice(), draws.get()), ([3, 2].as_slice(), 2));
+    Ok(())
+}
+
+// What looks ahead draws one item, and gives it.
+#[test]
+fn looked_at(rt: HostRuntime) -> Result<(), Fail> {
+    let draws = Cell::new(0u32);
+    let source = three(&draws).peekable();
+    assert_eq!(rt; (source.next().0, draws.take()), (3, 1));
+    let source = three(&draws).try_into_nonempty_iter();
+    let source = source.ok_or("nothing there")?;
+    assert_eq!(rt; (source.next().0, draws.take()), (3, 1));
+    Ok(())
+}
+
+// An adapter draws nothing before it is asked, and then no more than it has to.
+#[test]
+fn adapted(rt: HostRuntime) {
+    let draws = Cell::new(0u32);
+    let tower = three(&draws).map(|x| x / 2).enumerate().chain([(9, 9)]);
+    assert_eq!(rt; draws.get(), 0);
+    assert_eq!(rt; (tower.next().0, draws.get()), ((0, 1), 1));
+}

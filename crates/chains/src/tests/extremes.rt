@@ -1,0 +1,112 @@
+//! The extremes, which of several equal items is answered, and sorting.
+ghost use Rattle.std.specs.Iterator.{IsFiniteIterable};
+
+use nonempty_collections::{IntoNonEmptyIterator, NEVec, NonEmptyIterator};
+use std::alloc::{AllocError, Global};
+use std::cmp::Ordering;
+use std::convert::AsSlice;
+use std::test::Fail;
+
+// A number with a mark that no comparison reads.
+#[derive(Drop)]
+#[derive_where(PartialEq, Eq, PartialOrd, Ord)]
+struct Marked {
+    number: u32,
+    #[derive_where(skip(EqHashOrd))]
+    mark: char,
+}
+
+// Two that are equal but for their marks.
+fn twins() -> [Marked; 2] {
+    let (a, b) = ('a', 'b');
+    [Marked { number: 5, mark: a }, Marked { number: 5, mark: b }]
+}
+
+fn greatest<T: Ord + Drop, S: NonEmptyIterator<Item = T>>(s: S) -> T
+    requires { IsFiniteIterable S.into_iter_gives S.IntoIter.can_next S.IntoIter.remaining s }
+{
+    s.max()
+}
+
+fn least<T: Ord + Drop, S: NonEmptyIterator<Item = T>>(s: S) -> T
+    requires { IsFiniteIterable S.into_iter_gives S.IntoIter.can_next S.IntoIter.remaining s }
+{
+    s.min()
+}
+
+// The same, by a closure.
+fn greatest_by<T: Ord + Drop, S: NonEmptyIterator<Item = T>>(s: S) -> T
+    requires { IsFiniteIterable S.into_iter_gives S.IntoIter.can_next S.IntoIter.remaining s }
+{
+    s.max_by(|x, y| x.cmp(y))
+}
+
+fn least_by<T: Ord + Drop, S: NonEmptyIterator<Item = T>>(s: S) -> T
+    requires { IsFiniteIterable S.into_iter_gives S.IntoIter.can_next S.IntoIter.remaining s }
+{
+    s.min_by(|x, y| x.cmp(y))
+}
+
+fn longest<'a, S: NonEmptyIterator<Item = &'a str>>(s: S) -> &'a str
+    requires { IsFiniteIterable S.into_iter_gives S.IntoIter.can_next S.IntoIter.remaining s }
+{
+    s.max_by_key(|word| word.len())
+}
+
+fn shortest<'a, S: NonEmptyIterator<Item = &'a str>>(s: S) -> &'a str
+    requires { IsFiniteIterable S.into_iter_gives S.IntoIter.can_next S.IntoIter.remaining s }
+{
+    s.min_by_key(|word| word.len())
+}
+
+fn oldest_first<'a, S: NonEmptyIterator<Item = (&'a str, i32)>>(
+    alloc: Global,
+    s: S,
+) -> Result<NEVec<(&'a str, i32)>, AllocError>
+    requires { IsFiniteIterable S.into_iter_gives S.IntoIter.can_next S.IntoIter.remaining s }
+{
+    s.sorted_by_key(alloc, |p| p.1.wrapping_neg())?
+        .collect(alloc)
+}
+
+#[test]
+fn of_numbers(rt: HostRuntime) {
+    assert_eq!(rt; greatest([1i32, -2, 33, 4].into_nonempty_iter()), 33);
+    assert_eq!(rt; least([1i32, -2, 33, 4].into_nonempty_iter()), -2);
+    assert_eq!(rt; greatest_by([1i32, -2, 33, 4].into_nonempty_iter()), 33);
+    assert_eq!(rt; least_by([1i32, -2, 33, 4].into_nonempty_iter()), -2);
+}
+
+#[test]
+fn first_of_equal_ones(rt: HostRuntime) {
+    assert_eq!(rt; greatest(twins().into_nonempty_iter()).mark, 'a');
+    assert_eq!(rt; least(twins().into_nonempty_iter()).mark, 'a');
+    assert_eq!(rt; greatest_by(twins().into_nonempty_iter()).mark, 'a');
+    assert_eq!(rt; least_by(twins().into_nonempty_iter()).mark, 'a');
+}
+
+#[test]
+fn of_words(rt: HostRuntime) {
+    let words = ["hi", "hey", "rust", "yolo"];
+    assert_eq!(rt; longest(words.into_nonempty_iter()), "rust");
+    let words = ["hi", "hello", "greetings", "hy"];
+    assert_eq!(rt; shortest(words.into_nonempty_iter()), "hi");
+}
+
+// A comparison that is no order still answers an item.
+#[test]
+fn always_less(rt: HostRuntime) {
+    let three = [1u32, 2, 3].into_nonempty_iter();
+    let some = three.max_by(|_, _| Ordering::Less);
+    assert!(rt; 1 <= some && some <= 3);
+}
+
+#[test]
+fn sorted(rt: HostRuntime) -> Result<(), Fail> {
+    let people = [("Jane", 20i32), ("John", 18), ("Jill", 30), ("Jack", 30)];
+    assert_eq!(rt;
+        oldest_first(rt.alloc(), people.into_nonempty_iter())?.as_slice(),
+        [("Jill", 30), ("Jack", 30), ("Jane", 20), ("John", 18)].as_slice()
+    );
+    Ok(())
+}

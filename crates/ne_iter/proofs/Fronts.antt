@@ -1,0 +1,58 @@
+-- What a run of calls says of the list that an iterator has left, where each call takes the first item of that list.
+use Rattle.std.proofs.Common.{arith, subst, sym, ap, ◌∙◌, map-id}
+use Rattle.std.specs.Prelude.{◌≡◌, List, [], ◌∷◌, ◌++◌, length, map, Option, Some, None, refl}
+use Rattle.std.specs.Borrow.{Bor}
+use Rattle.std.specs.Iterator.{DrainsIf, YieldsFirst, ActsAs}
+use Rattle.std.specs.Fn.{Mut}
+use Rattle.std.specs.Slice.Iter.{iter_steps, iter_rest}
+use Rattle.std.specs.Vec.Iter.{into_iter_items, into_iter_len, into_iter_steps}
+use Rattle.std.specs.declared.slice.Iter.{Iter}
+use Rattle.std.specs.declared.vec.IntoIter.{IntoIter}
+use Rattle.ne_iter.specs.Calls.{Calls}
+
+pub none_left : {T : Type 0} (xs : List T) → length xs ≡ 0 → xs ≡ []
+none_left [] e = refl
+none_left (x ∷ xs) e = absurd (omega (arith, e))
+
+module _ {S A B : Type 0} (steps : S → Option A → S → Type 0) (view : A → B) (rest : S → List B)
+    (took : (s t : S) (x : A) → steps s (Some x) t → rest s ≡ view x ∷ rest t) (ended : (s t : S) → steps s None t → rest s ≡ []) where
+  -- the items that came are a front of the list, and all of it where the end came
+  pub viewed_front : {W : Type 0} (s : S) (ys : List A) → DrainsIf steps W s ys → (more : List B) × (rest s ≡ map view ys ++ more) × (W → more ≡ [])
+  viewed_front s [] (t, e, fin) = (rest s, refl, λ w. ap rest e ∙ ended t (fin w).0 (fin w).1)
+  viewed_front s (y ∷ ys) (t, (j, st, run), fin) =
+      let m = viewed_front j ys (t, run, fin) in
+      (m.0, took s j y st ∙ ap (λ l. view y ∷ l) m.1, m.2)
+
+-- the same, where the items are those of the list
+pub front : {S A W : Type 0} (steps : S → Option A → S → Type 0) (rest : S → List A) → ((s t : S) (x : A) → steps s (Some x) t → rest s ≡ x ∷ rest t)
+    → ((s t : S) → steps s None t → rest s ≡ []) → (s : S) (ys : List A) → DrainsIf steps W s ys → (more : List A) × (rest s ≡ ys ++ more) × (W → more ≡ [])
+front steps rest took ended s ys run =
+    let m = viewed_front steps (λ x. x) rest took ended s ys run in
+    (m.0, subst (λ l. rest s ≡ l ++ m.0) (map-id ys) m.1, m.2)
+
+-- the walks of slices
+pub shown_front : {T W : Type 0} (s : Iter T) (ys : List (Bor T)) → DrainsIf iter_steps W s ys → (more : List T) × (iter_rest s ≡ map (λ y. y.now) ys ++ more) × (W → more ≡ [])
+shown_front s ys run = viewed_front iter_steps (λ y. y.now) iter_rest (λ s t x st. st) (λ s t st. none_left (iter_rest s) st.0) s ys run
+
+-- what shows its list by `YieldsFirst`
+pub first_front : {S T W : Type 0} (rest : S → List T) (s : S) (ys : List T) → DrainsIf (YieldsFirst rest) W s ys → (more : List T) × (rest s ≡ ys ++ more) × (W → more ≡ [])
+first_front rest s ys run = front (YieldsFirst rest) rest (λ s t x st. st) (λ s t st. st.0) s ys run
+
+-- vectors by value, whose iterator counts its items
+pub counted_front : {T Z W : Type 0} (s : IntoIter T Z) (ys : List T) → into_iter_len s ≡ length (into_iter_items s) → DrainsIf into_iter_steps W s ys
+    → (more : List T) × (into_iter_items s ≡ ys ++ more) × (W → more ≡ [])
+counted_front s [] fit (t, e, fin) = (into_iter_items s, refl, λ w. none_left (into_iter_items s) (sym fit ∙ ap into_iter_len e ∙ (fin w).1.0))
+counted_front s (y ∷ ys) fit (t, (j, st, run), fin) =
+    let long = ap length st.0 in
+    let m = counted_front j ys (omega (arith, fit, st.1, long)) (t, run, fin) in
+    (m.0, st.0 ∙ ap (λ l. y ∷ l) m.1, m.2)
+
+-- a closure that acts as a function
+pub function_values : {F A B : Type 0} (calls : Mut F (A × Unit {0}) B) (f : F) (h : A → B) (xs : List A) (ys : List B) (g : F) → ActsAs calls f h → Calls calls f xs ys g → (ys ≡ map h xs) × (g ≡ f)
+function_values calls f h [] [] g acts e = (refl, sym e)
+function_values calls f h [] (y ∷ ys) g acts e = absurd e
+function_values calls f h (x ∷ xs) [] g acts e = absurd e
+function_values calls f h (x ∷ xs) (y ∷ ys) g acts e =
+    let one = acts x y e.0 e.1 in
+    let more = function_values calls f h xs ys g acts (subst (λ q. Calls calls q xs ys g) one.0 e.2) in
+    (let a = one.1 in let b = more.0 in cc, more.1)

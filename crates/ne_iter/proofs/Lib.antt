@@ -1,0 +1,12 @@
+pub mod Runs
+pub mod CopiedRuns
+pub mod FlatRuns
+pub mod PeekedRuns
+pub mod LookedRuns
+pub mod Unzipped
+pub mod Fronts
+pub mod JoinedRuns
+pub mod Stops
+pub mod KeptRuns
+pub mod Loops
+pub mod Best

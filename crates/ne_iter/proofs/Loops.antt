@@ -1,0 +1,21 @@
+-- A loop over the items after the first one: what its run says of the whole source. `begun` is the loop's iterator, and `left` what
+-- the first item left.
+use Rattle.std.proofs.Common.{subst, sym}
+use Rattle.std.specs.Prelude.{◌≡◌, true, List, [], ◌∷◌, ◌++◌, Option, Some, None, refl}
+use Rattle.std.specs.Iterator.{Yields}
+use Rattle.ne_iter.specs.Sources.{Reads}
+
+-- one more item
+pub Yields-push : {S A : Type 0} (steps : S → Option A → S → Type 0) (s : S) (xs : List A) (t : S) (x : A) (u : S) → Yields steps s xs t → steps t (Some x) u → Yields steps s (xs ++ x ∷ []) u
+Yields-push steps s [] t x u e h = (u, subst (λ q. steps q (Some x) u) (sym e) h, refl)
+Yields-push steps s (y ∷ ys) t x u (j, st, rest) h = (j, st, Yields-push steps j ys t x u rest h)
+
+-- the first item, and those of the loop so far
+pub Yields-first : {S A : Type 0} (steps : S → Option A → S → Type 0) (it : S) (first : A) {left begun : S} (xs : List A) (t : S)
+    → steps it (Some first) left → begun ≡ left → Yields steps begun xs t → Yields steps it (first ∷ xs) t
+Yields-first steps it first {left} xs t h e y = (left, h, subst (λ q. Yields steps q xs t) e y)
+
+-- where the loop has ended, the source is read to its end
+pub Reads-loop : {U S A : Type 0} {becomes : U → S → Type 0} {steps : S → Option A → S → Type 0} {source : U} (it : S) {first : A} {left begun : S} {xs : List A} (t end : S)
+    → becomes source it → steps it (Some first) left → begun ≡ left → Yields steps begun xs t → steps t None end → Reads becomes steps true source (first ∷ xs)
+Reads-loop {steps = steps} it {first} {xs = xs} t end made h e y fin = record { it = it; made = made; given = (t, Yields-first steps it first xs t h e y, λ _. (end, fin)) }

@@ -1,0 +1,21 @@
+use Rattle.std.proofs.Common.{refl, sym, ◌∙◌}
+use Rattle.std.specs.Iterator.Adapters.{peekable_source}
+use Rattle.std.specs.Prelude.{◌≡◌, true}
+use Rattle.ne_iter.proofs.LookedRuns.{looked, reads_looked, found}
+use Rattle.ne_iter.specs.Looked.{has_looked}
+use Rattle.std.proofs.Common.{rules}
+use Rattle.ne_iter.proofs.iter.looked.AnyIntoIteratorExt.try_into_nonempty_iter.Goals as goal
+
+pub returns-then-is_some : goal.returns-then-is_some
+returns-then-is_some g c =
+    let steps = g.T.IntoIter.Iterator.next_gives in
+    let v = c.peek.follows.lender-at-none in
+    let full : has_looked v ≡ true = found _ c.peek.result c.peek.follows.holds-at-none.2 (sym c.is_some.ensures ∙ c.if-is_some.true) in
+    let h = looked steps c.into_iter.result c.peekable-iter.result v c.peekable-iter.ensures.source c.peekable-iter.ensures.peeked c.peek.follows.holds-at-none.0 full in (
+      (h.0, record { it = c.into_iter.result; made = c.into_iter.ensures.into_iter_gives; given = (peekable_source v, (peekable_source v, h.1, refl), λ w. let w = w in search rules) }),
+      λ whole xs r. record {
+        it = c.into_iter.result;
+        made = c.into_iter.ensures.into_iter_gives;
+        given = reads_looked steps c.into_iter.result v r.it xs r.made.0 h full r.given;
+      },
+    )

@@ -1,0 +1,9 @@
+use Rattle.std.proofs.Common.{◌≡◌, Bool, ◌∷◌}
+use Rattle.std.specs.List.{best_of, Contains}
+use Rattle.ne_iter.specs.Answers.{ComparesBy}
+use Rattle.ne_iter.proofs.iter.non_empty.NonEmptyIterator.min_by.Given as goal
+
+-- the best item is one of those so far, and the best of them by each test that `compare` answers
+abbrev pub invariant-loop-x : goal.invariant-loop-x
+invariant-loop-x g l = Contains (l.initial.best ∷ l.yielded) l.best
+    × ((less : g.row.Self-Item.Denot → g.row.Self-Item.Denot → Bool) → ComparesBy g.F.Fn l.compare (l.initial.best ∷ l.yielded) less → l.best ≡ best_of (less) l.initial.best l.yielded)

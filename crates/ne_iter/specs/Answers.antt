@@ -1,0 +1,71 @@
+-- The answers of the methods that use a source up. Each is said of a list that the source may give, to its end or up to the item that
+-- decided.
+use Rattle.std.specs.Prelude.{◌≡◌, ℕ, ◌≤◌, Bool, true, false, List, [], ◌∷◌, ◌++◌, length, Option, Some, MatchOption, slice_get}
+use Rattle.std.specs.Bool.{MatchBool}
+use Rattle.std.specs.Borrow.{Bor}
+use Rattle.std.specs.Cmp.{IsStrictWeakOrder}
+use Rattle.std.specs.Fn.{Called, CalledAt, Mut, Shared, FnReturnsAtPair}
+use Rattle.std.specs.Iterator.{Yields}
+use Rattle.std.specs.List.{IsFirstBest, Contains}
+use Rattle.std.specs.Ordering.{is_lt}
+use Rattle.std.specs.declared.cmp.Ordering.{Ordering}
+use Rattle.ne_iter.specs.Calls.{AnswersEach, AnswersEachAt, Folds}
+
+module _ {U A : Type 0} (reads : Bool → U → List A → Type 0) where
+  -- `all`: f answered true at the items xs. Then, at `true`, the source ended; at `false`, f answered false at the next item.
+  abbrev pub TellsAll : {F : Type 0} → Mut F (A × Unit {0}) Bool → U → F → Bool → Type 0
+  TellsAll {F} calls source f result = (xs : List A) × (g : F) × AnswersEach calls true f xs g
+      × MatchBool result (reads true source xs) ((x : A) × (h : F) × reads false source (xs ++ x ∷ []) × Called calls g (x, tt) false h)
+
+  -- `any`: f answered false at the items xs. Then, at `true`, f answered true at the next item; at `false`, the source ended.
+  abbrev pub TellsAny : {F : Type 0} → Mut F (A × Unit {0}) Bool → U → F → Bool → Type 0
+  TellsAny {F} calls source f result = (xs : List A) × (g : F) × AnswersEach calls false f xs g
+      × MatchBool result ((x : A) × (h : F) × reads false source (xs ++ x ∷ []) × Called calls g (x, tt) true h) (reads true source xs)
+
+  -- `find`: f answered false at the items xs. Then the source ended, or the result came, at which f answered true.
+  abbrev pub FindsFirst : {F : Type 0} → Mut F (Bor A × Unit {0}) Bool → U → F → Option A → Type 0
+  FindsFirst {F} calls source f result = (xs : List A) × (g : F) × AnswersEachAt calls false f xs g
+      × MatchOption result (reads true source xs) (λ x. (h : F) × reads false source (xs ++ x ∷ []) × CalledAt calls g x true h)
+
+  -- `nth`: the item behind n others, or `None` where the source ended with at most n.
+  abbrev pub GivesNth : U → ℕ → Option A → Type 0
+  GivesNth source n result = (xs : List A)
+      × MatchOption result (reads true source xs × (length xs ≤ n)) (λ x. reads false source (xs ++ x ∷ []) × (length xs ≡ n))
+
+  -- `fold`: f, called on the total so far and the next item, took the total from init to the result.
+  abbrev pub FoldsAll : {B F : Type 0} → Mut F (B × (A × Unit {0})) B → U → F → B → B → Type 0
+  FoldsAll {F = F} calls source f init result = (xs : List A) × (g : F) × reads true source xs × Folds calls f init xs result g
+
+  -- `reduce`: the same over the others, from the first item.
+  abbrev pub ReducesAll : {F : Type 0} → Mut F (A × (A × Unit {0})) A → U → F → A → Type 0
+  ReducesAll {F} calls source f result = (x : A) × (xs : List A) × (g : F) × reads true source (x ∷ xs) × Folds calls f x xs result g
+
+-- x is less than y, by cmp.
+abbrev pub less_by : {A : Type 0} → (A → A → Ordering) → A → A → Bool
+less_by cmp x y = is_lt (cmp x y)
+
+module _ {A : Type 0} (less : A → A → Bool) where
+  -- m is the first greatest of xs: it stands at a place such that it is less than none, and each item before it is less.
+  abbrev pub IsFirstGreatest : List A → A → Type 0
+  IsFirstGreatest xs m = (place : ℕ) × IsFirstBest (λ x y. less y x) xs (length xs) place × (slice_get xs place ≡ Some m)
+
+  -- m is the first least of xs: no item is less, and it is less than each item before it.
+  abbrev pub IsFirstLeast : List A → A → Type 0
+  IsFirstLeast xs m = (place : ℕ) × IsFirstBest less xs (length xs) place × (slice_get xs place ≡ Some m)
+
+module _ {A : Type 0} where
+  -- f may be called at any two items that the iterator may give.
+  abbrev pub CallableOnTwo : {S F : Type 0} → (S → Option A → S → Type 0) → Shared F (Bor A × (Bor A × Unit {0})) Ordering → S → F → Type 0
+  CallableOnTwo {S} steps calls it f = (xs : List A) (t : S) (x y : Bor A) → Yields steps it xs t → Contains xs x.now → Contains xs y.now → calls.pre f (x, (y, tt))
+
+  -- f, called at two items of xs, answers `Less` just where `less` holds.
+  abbrev pub ComparesBy : {F : Type 0} → Shared F (Bor A × (Bor A × Unit {0})) Ordering → F → List A → (A → A → Bool) → Type 0
+  ComparesBy calls f xs less = (x y : A) (r : Ordering) → Contains xs x → Contains xs y → FnReturnsAtPair calls f x y r → is_lt r ≡ less x y
+
+  -- `max_by`: m is an item of xs; where the answers of f are a total preorder, the first greatest.
+  abbrev pub PicksGreatest : {F : Type 0} → Shared F (Bor A × (Bor A × Unit {0})) Ordering → F → List A → A → Type 0
+  PicksGreatest calls f xs m = Contains xs m × ((less : A → A → Bool) → IsStrictWeakOrder less → ComparesBy calls f xs less → IsFirstGreatest less xs m)
+
+  -- `min_by`: the same, the first least.
+  abbrev pub PicksLeast : {F : Type 0} → Shared F (Bor A × (Bor A × Unit {0})) Ordering → F → List A → A → Type 0
+  PicksLeast calls f xs m = Contains xs m × ((less : A → A → Bool) → IsStrictWeakOrder less → ComparesBy calls f xs less → IsFirstLeast less xs m)

@@ -1,0 +1,100 @@
+-- What each adapter gives, by what its source gives.
+-- A source is named by what it reads: `reads whole u xs` says that u may give the items xs first, and where whole is true may then
+-- end. So each word below speaks of every list that an adapter may have given so far, and of every list that it may give to its end.
+use Rattle.std.specs.Prelude.{◌≡◌, ℕ, ◌≤◌, Bool, true, false, ◌||◌, ◌&&◌, ltb, List, [], ◌∷◌, ◌++◌, length, zip, ⊤, Option, map, IsTrue, Result, IfOk, drop, filter, filter_map}
+use Rattle.std.specs.List.{AllZip, enumerate_from}
+use Rattle.std.specs.Fn.{Mut, CalledAt}
+use Rattle.std.specs.Borrow.{Bor}
+use Rattle.std.proofs.Common.{◌⊎◌}
+use Rattle.ne_vec.specs.Divisions.{joined}
+use Rattle.ne_iter.specs.Calls.{Calls, ShownEach, AnswersEachAt}
+
+-- f, shown the first of the items ys, if there is one, may answer false.
+abbrev pub FailsFirst : {F A : Type 0} → Mut F (Bor A × Unit {0}) Bool → F → List A → Type 0
+FailsFirst calls f [] = ⊤
+FailsFirst {F} calls f (y ∷ ys) = (g : F) × CalledAt calls f y false g
+
+-- Each of the sources us may give its list of yss to its end; the last one only where whole is true.
+abbrev pub ReadsEach : {U A : Type 0} → (Bool → U → List A → Type 0) → Bool → List U → List (List A) → Type 0
+ReadsEach reads whole [] [] = ⊤
+ReadsEach reads whole [] (ys ∷ yss) = ⊥
+ReadsEach reads whole (u ∷ us) [] = ⊥
+ReadsEach reads whole (u ∷ us) (ys ∷ yss) = reads (whole || ltb 0 (length us)) u ys × ReadsEach reads whole us yss
+
+-- The source u gives the list xs and no other: what it reads is a front of xs, and what it gives to its end is all of xs.
+abbrev pub GivesList : {U A : Type 0} → (Bool → U → List A → Type 0) → U → List A → Type 0
+GivesList {A = A} reads u xs = (whole : Bool) (ys : List A) → reads whole u ys → (more : List A) × (xs ≡ ys ++ more) × (whole ≡ true → more ≡ [])
+
+-- The same of a source of references, which show the items of xs.
+abbrev pub ShowsList : {U A : Type 0} → (Bool → U → List (Bor A) → Type 0) → U → List A → Type 0
+ShowsList {A = A} reads u xs = (whole : Bool) (ys : List (Bor A)) → reads whole u ys → (more : List A) × (xs ≡ map (λ y. y.now) ys ++ more) × (whole ≡ true → more ≡ [])
+
+module _ {U V A : Type 0} (reads : Bool → U → List A → Type 0) where
+  -- `map`: the answers of f, called on the source's items in order.
+  abbrev pub MapGives : {B F : Type 0} → (Bool → V → List B → Type 0) → Mut F (A × Unit {0}) B → U → F → V → Type 0
+  MapGives {B} {F} mapped calls source f result = (whole : Bool) (ys : List B) → mapped whole result ys
+      → (xs : List A) × (g : F) × reads whole source xs × Calls calls f xs ys g
+
+  -- `enumerate`: the items with their places, from 0.
+  abbrev pub EnumerateGives : (Bool → V → List (ℕ × A) → Type 0) → U → V → Type 0
+  EnumerateGives numbered source result = (whole : Bool) (ys : List (ℕ × A)) → numbered whole result ys
+      → (xs : List A) × reads whole source xs × (ys ≡ enumerate_from 0 xs)
+
+  -- `take`: at most n items; where they are fewer and no more come, the source has ended.
+  abbrev pub TakeGives : (Bool → V → List A → Type 0) → ℕ → U → V → Type 0
+  TakeGives taken n source result = (whole : Bool) (xs : List A) → taken whole result xs
+      → reads (whole && ltb (length xs) n) source xs × (length xs ≤ n)
+
+  -- `chain`: the items of the one, to its end, and then those of the other.
+  abbrev pub ChainGives : {W : Type 0} → (Bool → W → List A → Type 0) → (Bool → V → List A → Type 0) → U → W → V → Type 0
+  ChainGives others chained source other result = (whole : Bool) (zs : List A) → chained whole result zs
+      → (xs : List A) × (ys : List A) × reads (whole || ltb 0 (length ys)) source xs × others whole other ys × (zs ≡ xs ++ ys)
+
+  -- `zip`: pairs of an item of each side; where no more come, one of the sides has ended.
+  abbrev pub ZipGives : {W B : Type 0} → (Bool → W → List B → Type 0) → (Bool → V → List (A × B) → Type 0) → U → W → V → Type 0
+  ZipGives {B = B} others zipped source other result = (whole : Bool) (ps : List (A × B)) → zipped whole result ps
+      → (xs : List A) × (ys : List B) × (a : Bool) × (b : Bool) × reads a source xs × others b other ys
+      × (ps ≡ zip xs ys) × (length xs ≡ length ys) × (whole ≡ true → IsTrue (a || b))
+
+  -- `filter`: the items at which f answers true.
+  abbrev pub FilterGives : {F : Type 0} → (Bool → V → List A → Type 0) → Mut F (Bor A × Unit {0}) Bool → U → F → V → Type 0
+  FilterGives {F} kept calls source f result = (whole : Bool) (xs : List A) → kept whole result xs
+      → (ps : List (A × Bool)) × (g : F) × reads whole source (map (λ p. p.0) ps) × ShownEach calls f ps g × (xs ≡ map (λ p. p.0) (filter (λ p. p.1) ps))
+
+  -- `filter_map`: the values among the answers of f, called on the source's items in order.
+  abbrev pub FilterMapGives : {B F : Type 0} → (Bool → V → List B → Type 0) → Mut F (A × Unit {0}) (Option B) → U → F → V → Type 0
+  FilterMapGives {B} {F} kept calls source f result = (whole : Bool) (ys : List B) → kept whole result ys
+      → (xs : List A) × (os : List (Option B)) × (g : F) × reads whole source xs × Calls calls f xs os g × (ys ≡ filter_map (λ o. o) os)
+
+  -- `skip`: all but the first n items.
+  abbrev pub SkipGives : (Bool → V → List A → Type 0) → ℕ → U → V → Type 0
+  SkipGives left n source result = (whole : Bool) (ys : List A) → left whole result ys
+      → (xs : List A) × reads whole source xs × (ys ≡ drop n xs)
+
+  -- `skip_while`: the items from the first one on at which f answers false; f is not called after it.
+  abbrev pub SkipWhileGives : {F : Type 0} → (Bool → V → List A → Type 0) → Mut F (Bor A × Unit {0}) Bool → U → F → V → Type 0
+  SkipWhileGives {F} left calls source f result = (whole : Bool) (ys : List A) → left whole result ys
+      → (xs : List A) × (g : F) × reads whole source (xs ++ ys) × AnswersEachAt calls true f xs g × FailsFirst calls g ys
+
+  -- `take_while`: the items up to the first one at which f answers false. That one is drawn too.
+  abbrev pub TakeWhileGives : {F : Type 0} → (Bool → V → List A → Type 0) → Mut F (Bor A × Unit {0}) Bool → U → F → V → Type 0
+  TakeWhileGives {F} taken calls source f result = (whole : Bool) (xs : List A) → taken whole result xs
+      → (g : F) × AnswersEachAt calls true f xs g
+      × (reads whole source xs ⊎ ((x : A) × (h : F) × reads false source (xs ++ x ∷ []) × CalledAt calls g x false h))
+
+  -- `flat_map`: the lists of f's answers, one after the other.
+  abbrev pub FlatMapGives : {W B F : Type 0} → (Bool → W → List B → Type 0) → (Bool → V → List B → Type 0) → Mut F (A × Unit {0}) W → U → F → V → Type 0
+  FlatMapGives {W} {B} {F} inner flat calls source f result = (whole : Bool) (zs : List B) → flat whole result zs
+      → (xs : List A) × (us : List W) × (yss : List (List B)) × (g : F)
+      × reads whole source xs × Calls calls f xs us g × ReadsEach inner whole us yss × (zs ≡ joined yss)
+
+module _ {U V T : Type 0} (reads : Bool → U → List (Bor T) → Type 0) where
+  -- `copied`: what the references show.
+  abbrev pub CopiedGives : (Bool → V → List T → Type 0) → U → V → Type 0
+  CopiedGives copied source result = (whole : Bool) (ys : List T) → copied whole result ys
+      → (xs : List (Bor T)) × reads whole source xs × (ys ≡ map (λ x. x.now) xs)
+
+  -- `cloned`: for each reference a clone of what it shows, or an error in its place.
+  abbrev pub ClonedGives : {E : Type 0} → (T → T → Type 0) → (Bool → V → List (Result T E) → Type 0) → U → V → Type 0
+  ClonedGives {E} clones cloned source result = (whole : Bool) (ys : List (Result T E)) → cloned whole result ys
+      → (xs : List (Bor T)) × reads whole source xs × AllZip (λ x r. IfOk r (clones x.now)) xs ys

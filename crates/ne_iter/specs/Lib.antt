@@ -1,0 +1,11 @@
+pub mod Sources
+pub mod SourceLaws
+pub mod Walks
+pub mod Calls
+pub mod Parts
+pub mod Gives
+pub mod Peeks
+pub mod PeekLends
+pub mod Clones
+pub mod Looked
+pub mod Answers

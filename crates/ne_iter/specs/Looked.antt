@@ -1,0 +1,30 @@
+-- An iterator that was looked ahead in, and has an item.
+use Rattle.std.proofs.Common.{rules}
+use Rattle.std.specs.Prelude.{◌≡◌, Option, None, Some, MatchOption, List, [], ◌∷◌, Bool, true, false}
+use Rattle.std.specs.Iterator.Adapters.{peekable_source, peekable_peeked, peekable_steps}
+use Rattle.std.specs.declared.iter.Ahead.{Ahead}
+use Rattle.ne_iter.specs.Sources.{HasFirst}
+
+-- an item was peeked
+abbrev pub is_item : {X : Type 0} → Option (Option X) → Bool
+is_item None = false
+is_item (Some None) = false
+is_item (Some (Some x)) = true
+
+-- whether the next item is in hand
+abbrev pub has_looked : {I X : Type 0} → Ahead I X → Bool
+has_looked s = is_item (peekable_peeked s)
+
+module _ {S A : Type 0} (steps : S → Option A → S → Type 0) (s t : Ahead S A) where
+  not_none : (p : Option (Option A)) → is_item p ≡ true → MatchOption p (steps (peekable_source s) None (peekable_source t)) (λ o. (◌≡◌ {A = Option A} None o) × (peekable_source t ≡ peekable_source s)) → ⊥
+  not_none None e h = let e = e in search rules
+  not_none (Some None) e h = let e = e in search rules
+  not_none (Some (Some x)) e h = let f = h.0 in search rules
+
+pub HasFirst-looked : {S A : Type 0} (steps : S → Option A → S → Type 0) (s : Ahead S A) → has_looked s ≡ true → HasFirst (peekable_steps steps) s
+HasFirst-looked steps s h t ended = not_none steps s t (peekable_peeked s) h ended.1
+
+-- None where the source may end at once; else the source's items, of which there is one
+abbrev pub LooksWhole : {U V A : Type 0} → (Bool → U → List A → Type 0) → (Bool → V → List A → Type 0) → U → Option V → Type 0
+LooksWhole {A = A} reads looked source result = MatchOption result (reads true source [])
+    (λ v. ((x : A) × reads false source (x ∷ [])) × ((whole : Bool) (xs : List A) → looked whole v xs → reads whole source xs))

@@ -1,0 +1,62 @@
+-- The parts of the adapters, by name.
+use Rattle.std.specs.Prelude.{ℕ}
+use Rattle.std.specs.Int.NonZero.{non_zero_usize_get}
+use Rattle.ne_iter.specs.declared.iter.adapters.Map.{Map}
+use Rattle.ne_iter.specs.declared.iter.adapters.Enumerate.{Enumerate}
+use Rattle.ne_iter.specs.declared.iter.adapters.Take.{Take}
+use Rattle.ne_iter.specs.declared.iter.adapters.Chain.{Chain}
+use Rattle.ne_iter.specs.declared.iter.adapters.Once.{Once}
+use Rattle.ne_iter.specs.declared.iter.adapters.Zip.{Zip}
+use Rattle.ne_iter.specs.declared.iter.copies.Cloned.{Cloned}
+use Rattle.ne_iter.specs.declared.iter.copies.ClonedIter.{ClonedIter}
+use Rattle.ne_iter.specs.declared.iter.copies.Copied.{Copied}
+use Rattle.ne_iter.specs.declared.iter.flat.FlatMap.{FlatMap}
+
+-- the source and the closure of a `Map`
+abbrev pub source_of_map : {I F : Type 0} → Map I F → I
+source_of_map s = s.iter
+
+abbrev pub closure_of_map : {I F : Type 0} → Map I F → F
+closure_of_map s = s.f
+
+abbrev pub source_of_enumerate : {I : Type 0} → Enumerate I → I
+source_of_enumerate s = s.iter
+
+-- the source of a `Take`, and how many items it takes at most
+abbrev pub source_of_take : {I : Type 0} → Take I → I
+source_of_take s = s.iter
+
+abbrev pub count_of_take : {I : Type 0} → Take I → ℕ
+count_of_take s = non_zero_usize_get s.n
+
+abbrev pub first_of_chain : {A B : Type 0} → Chain A B → A
+first_of_chain s = s.a
+
+abbrev pub second_of_chain : {A B : Type 0} → Chain A B → B
+second_of_chain s = s.b
+
+abbrev pub item_of_once : {T : Type 0} → Once T → T
+item_of_once s = s.item
+
+abbrev pub first_of_zip : {A B : Type 0} → Zip A B → A
+first_of_zip s = s.a
+
+abbrev pub second_of_zip : {A B : Type 0} → Zip A B → B
+second_of_zip s = s.b
+
+abbrev pub source_of_cloned : {I : Type 0} → Cloned I → I
+source_of_cloned s = s.iter
+
+-- the iterator of references in a `ClonedIter`
+abbrev pub iterator_of_cloned : {I : Type 0} → ClonedIter I → I
+iterator_of_cloned s = s.iter
+
+abbrev pub source_of_copied : {I : Type 0} → Copied I → I
+source_of_copied s = s.iter
+
+-- the source and the closure of a `FlatMap`
+abbrev pub source_of_flat_map : {I U F : Type 0} → FlatMap I U F → I
+source_of_flat_map s = s.iter
+
+abbrev pub closure_of_flat_map : {I U F : Type 0} → FlatMap I U F → F
+closure_of_flat_map s = s.f

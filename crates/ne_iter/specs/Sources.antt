@@ -1,0 +1,28 @@
+-- What a source of items may give, and the two laws of sources.
+use Rattle.std.specs.Prelude.{◌≡◌, Bool, true, List, Option, Some, None}
+use Rattle.std.specs.Iterator.{DrainsIf}
+
+-- The source u may give the items xs, in this order and first; where whole is true, it may then end.
+-- `becomes` is the `into_iter_gives` of the source, and `steps` the `next_gives` of its iterator.
+pub record Reads {U S A : Type 0} (becomes : U → S → Type 0) (steps : S → Option A → S → Type 0) (whole : Bool) (u : U) (xs : List A) : Type 0 where
+  pub it : S
+  pub made : becomes u it
+  pub given : DrainsIf steps (whole ≡ true) it xs
+
+-- The iterator it answers an item first, whatever it does.
+abbrev pub HasFirst : {S A : Type 0} → (S → Option A → S → Type 0) → S → Type 0
+HasFirst {S = S} steps it = (t : S) → steps it None t → ⊥
+
+-- Never empty: whatever a source of this kind becomes answers an item first.
+abbrev pub IsNonEmpty : {U S A : Type 0} → (U → S → Type 0) → (S → Option A → S → Type 0) → Type 0
+IsNonEmpty {U} {S} becomes steps = (u : U) (it : S) → becomes u it → HasFirst steps it
+
+-- Same lists: a source of this kind, and what is made of it, may read the same lists.
+abbrev pub SameLists : {U S V T A : Type 0} → (U → S → Type 0) → (S → Option A → S → Type 0) → (U → V → Type 0) → (V → T → Type 0) → (T → Option A → T → Type 0) → Type 0
+SameLists {U} {V = V} {A = A} becomes steps makes becomes' steps' = (u : U) (whole : Bool) (xs : List A)
+    → (Reads becomes steps whole u xs → (v : V) × makes u v × Reads becomes' steps' whole v xs)
+    × ((v : V) → makes u v → Reads becomes' steps' whole v xs → Reads becomes steps whole u xs)
+
+-- The source u gives x first, and rest is the iterator of what comes after.
+abbrev pub FirstAndRest : {U S A : Type 0} → (U → S → Type 0) → (S → Option A → S → Type 0) → U → A → S → Type 0
+FirstAndRest {S = S} becomes steps u x rest = (it : S) × becomes u it × steps it (Some x) rest

@@ -1,0 +1,23 @@
+-- The walks over what has an item answer an item first.
+use Rattle.std.proofs.Common.{arith, ap}
+use Rattle.std.specs.Prelude.{◌≡◌, ◌<◌, List, length}
+use Rattle.std.specs.Slice.Iter.{iter_steps, iter_mut_steps, iter_mut_rest}
+use Rattle.std.specs.Vec.Iter.{into_iter_steps}
+use Rattle.std.specs.Iterator.{YieldsFirst}
+use Rattle.std.specs.declared.slice.Iter.{Iter}
+use Rattle.std.specs.declared.slice.IterMut.{IterMut}
+use Rattle.std.specs.declared.vec.IntoIter.{IntoIter}
+use Rattle.ne_vec.specs.Walks.{Walks, WalksOut}
+use Rattle.ne_iter.specs.Sources.{HasFirst}
+
+pub HasFirst-walk : {X : Type 0} (xs : List X) (it : Iter X) → Walks xs it → HasFirst iter_steps it
+HasFirst-walk xs it made t ended = omega (arith, made.0, ap length made.1, ended.0)
+
+pub HasFirst-walk_mut : {X : Type 0} (it : IterMut X) → 0 < length (iter_mut_rest it) → HasFirst iter_mut_steps it
+HasFirst-walk_mut it some t ended = omega (arith, some, ended.0)
+
+pub HasFirst-walk_out : {X Z : Type 0} (xs : List X) (it : IntoIter X Z) → WalksOut xs it → HasFirst into_iter_steps it
+HasFirst-walk_out xs it made t ended = omega (arith, made.0, made.2, ended.0)
+
+pub HasFirst-chunks : {X : Type 0} (c it : List X) → (0 < length c) × (it ≡ c) → HasFirst (YieldsFirst (λ s. s)) it
+HasFirst-chunks c it made t ended = omega (arith, made.0, ap length made.1, ap length ended.0)

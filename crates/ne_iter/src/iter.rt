@@ -1,0 +1,28 @@
+//! Sources that give at least one item: the traits, and the adapters that keep an item.
+ghost use Rattle.std.specs.Prelude.{◌≡◌, ◌∷◌, []};
+ghost use Rattle.ne_iter.specs.Parts.{item_of_once};
+ghost use Rattle.ne_iter.specs.Gives.{GivesList};
+
+mod adapters;
+mod copies;
+mod flat;
+mod looked;
+mod non_empty;
+mod peek;
+mod sources;
+
+pub use adapters::{Chain, Enumerate, Map, Once, Take, Zip};
+pub use copies::{Cloned, ClonedIter, Copied};
+pub use flat::FlatMap;
+pub use looked::{IntoIteratorExt, LooksAhead, NonEmptyIterAdapter};
+pub use non_empty::NonEmptyIterator;
+pub use peek::Peekable;
+pub use sources::{FromNonEmptyIterator, IntoNonEmptyIterator, Source};
+
+/// The source of one item.
+pub fn once<T: Drop>(value: T) -> Once<T>
+    ensures holds { item_of_once result ≡ value }
+    ensures gives { GivesList (⟦<Once<T> as Source>⟧.reads) result (value ∷ []) }
+{
+    Once { item: value }
+}

@@ -1,0 +1,191 @@
+//! The plain adapters. Each holds its source, and becomes std's adapter of the same name.
+
+use super::{IntoNonEmptyIterator, NonEmptyIterator};
+use std::iter;
+use std::num::NonZeroUsize;
+
+/// The answers of a closure, called on the items of a source: see [`NonEmptyIterator::map`].
+#[derive(Drop)]
+pub struct Map<I, F> {
+    pub(super) iter: I,
+    pub(super) f: F,
+}
+
+impl<U, I: NonEmptyIterator, F: FnMut(I::Item) -> U> IntoIterator for Map<I, F> {
+    ghost use Rattle.std.specs.Prelude.{◌≡◌};
+    ghost use Rattle.std.specs.Iterator.Adapters.{map_source, map_callee};
+    ghost use Rattle.ne_iter.specs.Parts.{source_of_map, closure_of_map};
+
+    type Item = U;
+
+    type IntoIter = iter::Map<I::IntoIter, F>;
+
+    ghost into_iter_gives = { λ s it. I.into_iter_gives (source_of_map s) (map_source it) × (map_callee it ≡ closure_of_map s) };
+
+    fn into_iter(self) -> iter::Map<I::IntoIter, F> {
+        self.iter.into_iter().map(self.f)
+    }
+}
+
+impl<U, I: NonEmptyIterator, F: FnMut(I::Item) -> U> NonEmptyIterator for Map<I, F> {
+    ghost use Rattle.std.specs.Iterator.Adapters.{map_source};
+    ghost use Rattle.ne_iter.specs.Parts.{source_of_map};
+
+    ghost not_empty = { λ s it made t ended. I.not_empty (source_of_map s) (map_source it) made.0 (map_source t) ended.0 };
+}
+
+/// The items of a source with their places: see [`NonEmptyIterator::enumerate`].
+#[derive(Drop)]
+pub struct Enumerate<I> {
+    pub(super) iter: I,
+}
+
+impl<I: NonEmptyIterator> IntoIterator for Enumerate<I> {
+    ghost use Rattle.std.specs.Prelude.{◌≡◌};
+    ghost use Rattle.std.specs.Iterator.Adapters.{enumerate_source, enumerate_count};
+    ghost use Rattle.ne_iter.specs.Parts.{source_of_enumerate};
+
+    type Item = (usize, I::Item);
+
+    type IntoIter = iter::Enumerate<I::IntoIter>;
+
+    ghost into_iter_gives = { λ s it. I.into_iter_gives (source_of_enumerate s) (enumerate_source it) × (enumerate_count it ≡ 0) };
+
+    fn into_iter(self) -> iter::Enumerate<I::IntoIter> {
+        self.iter.into_iter().enumerate()
+    }
+}
+
+impl<I: NonEmptyIterator> NonEmptyIterator for Enumerate<I> {
+    ghost use Rattle.std.specs.Iterator.Adapters.{enumerate_source};
+    ghost use Rattle.ne_iter.specs.Parts.{source_of_enumerate};
+
+    ghost not_empty = { λ s it made t ended. I.not_empty (source_of_enumerate s) (enumerate_source it) made.0 (enumerate_source t) ended.0 };
+}
+
+/// The first items of a source: see [`NonEmptyIterator::take`].
+#[derive(Drop)]
+pub struct Take<I> {
+    pub(super) iter: I,
+    pub(super) n: NonZeroUsize,
+}
+
+impl<I: NonEmptyIterator> IntoIterator for Take<I> {
+    ghost use Rattle.std.specs.Prelude.{◌≡◌, ◌<◌};
+    ghost use Rattle.std.specs.Iterator.Adapters.{take_source, take_count};
+    ghost use Rattle.ne_iter.specs.Parts.{source_of_take, count_of_take};
+
+    type Item = I::Item;
+
+    type IntoIter = iter::Take<I::IntoIter>;
+
+    ghost into_iter_gives = { λ s it. I.into_iter_gives (source_of_take s) (take_source it) × (take_count it ≡ count_of_take s) };
+
+    fn into_iter(self) -> iter::Take<I::IntoIter> {
+        self.iter.into_iter().take(self.n.get())
+    }
+}
+
+impl<I: NonEmptyIterator> NonEmptyIterator for Take<I> {
+    ghost use Rattle.std.specs.Iterator.Adapters.{take_source};
+    ghost use Rattle.std.proofs.Common.{rules};
+    ghost use Rattle.ne_iter.specs.Parts.{source_of_take};
+
+    ghost not_empty = { λ s it made t ended. I.not_empty (source_of_take s) (take_source it) made.0 (take_source t) (ended (let some = s.n.ok in let count = made.1 in Prim.search rules)) };
+}
+
+/// The items of a source and then those of another: see [`NonEmptyIterator::chain`].
+#[derive(Drop)]
+pub struct Chain<A, B> {
+    pub(super) a: A,
+    pub(super) b: B,
+}
+
+impl<A: NonEmptyIterator, B: IntoIterator<Item = A::Item>> IntoIterator for Chain<A, B> {
+    ghost use Rattle.std.specs.Prelude.{◌≡◌, false};
+    ghost use Rattle.std.specs.Iterator.Adapters.{chain_first, chain_second, chain_first_done, chain_second_done};
+    ghost use Rattle.ne_iter.specs.Parts.{first_of_chain, second_of_chain};
+
+    type Item = A::Item;
+
+    type IntoIter = iter::Chain<A::IntoIter, B::IntoIter>;
+
+    ghost into_iter_gives = { λ s it. A.into_iter_gives (first_of_chain s) (chain_first it) × B.into_iter_gives (second_of_chain s) (chain_second it) × (chain_first_done it ≡ false) × (chain_second_done it ≡ false) };
+
+    fn into_iter(self) -> iter::Chain<A::IntoIter, B::IntoIter> {
+        self.a.into_iter().chain(self.b)
+    }
+}
+
+impl<A: NonEmptyIterator, B: IntoIterator<Item = A::Item>> NonEmptyIterator for Chain<A, B> {
+    ghost use Rattle.std.specs.Iterator.Adapters.{chain_first};
+    ghost use Rattle.ne_iter.specs.Parts.{first_of_chain};
+    ghost use Rattle.ne_iter.specs.SourceLaws.{HasFirst-chain};
+
+    ghost not_empty = { λ s it made. HasFirst-chain A.IntoIter.next_gives B.IntoIter.next_gives it made.2 (A.not_empty (first_of_chain s) (chain_first it) made.0) };
+}
+
+/// A source of one item: see [`once`](super::once).
+#[derive(Drop)]
+pub struct Once<T> {
+    pub(super) item: T,
+}
+
+impl<T: Drop> IntoIterator for Once<T> {
+    ghost use Rattle.std.specs.Prelude.{◌≡◌, Some};
+    ghost use Rattle.std.specs.Iterator.Adapters.{once_item};
+    ghost use Rattle.ne_iter.specs.Parts.{item_of_once};
+
+    type Item = T;
+
+    type IntoIter = iter::Once<T>;
+
+    ghost into_iter_gives = { λ s it. once_item it ≡ Some (item_of_once s) };
+
+    fn into_iter(self) -> iter::Once<T> {
+        iter::once(self.item)
+    }
+}
+
+impl<T: Drop> NonEmptyIterator for Once<T> {
+    ghost use Rattle.ne_iter.specs.SourceLaws.{HasFirst-once};
+    ghost use Rattle.ne_iter.specs.Parts.{item_of_once};
+
+    ghost not_empty = { λ s it made. HasFirst-once it (item_of_once s) made };
+}
+
+/// Pairs of an item of one source and an item of another: see [`NonEmptyIterator::zip`].
+#[derive(Drop)]
+pub struct Zip<A, B> {
+    pub(super) a: A,
+    pub(super) b: B,
+}
+
+impl<A: NonEmptyIterator, B: IntoNonEmptyIterator> IntoIterator for Zip<A, B>
+where
+    A::Item: Drop,
+{
+    ghost use Rattle.std.specs.Iterator.Adapters.{zip_first, zip_second};
+    ghost use Rattle.ne_iter.specs.Parts.{first_of_zip, second_of_zip};
+
+    type Item = (A::Item, B::Item);
+
+    type IntoIter = iter::Zip<A::IntoIter, B::IntoIter>;
+
+    ghost into_iter_gives = { λ s it. A.into_iter_gives (first_of_zip s) (zip_first it) × B.into_iter_gives (second_of_zip s) (zip_second it) };
+
+    fn into_iter(self) -> iter::Zip<A::IntoIter, B::IntoIter> {
+        self.a.into_iter().zip(self.b)
+    }
+}
+
+impl<A: NonEmptyIterator, B: IntoNonEmptyIterator> NonEmptyIterator for Zip<A, B>
+where
+    A::Item: Drop,
+{
+    ghost use Rattle.std.specs.Iterator.Adapters.{zip_first, zip_second};
+    ghost use Rattle.ne_iter.specs.Parts.{first_of_zip, second_of_zip};
+    ghost use Rattle.ne_iter.specs.SourceLaws.{HasFirst-zip, IsNonEmpty-into};
+
+    ghost not_empty = { λ s it made. HasFirst-zip A.IntoIter.next_gives B.IntoIter.next_gives it (A.not_empty (first_of_zip s) (zip_first it) made.0) (IsNonEmpty-into B.into_iter_gives B.IntoIter.next_gives B.into_nonempty_iter_gives B.IntoNEIter.into_iter_gives B.IntoNEIter.IntoIter.next_gives B.same_lists B.IntoNEIter.not_empty (second_of_zip s) (zip_second it) made.1) };
+}

@@ -1,0 +1,95 @@
+//! The adapters over references: what they show, copied or cloned.
+
+use super::NonEmptyIterator;
+use std::alloc::AllocError;
+use std::iter;
+
+/// Clones of what the references of a source show: see [`NonEmptyIterator::cloned`].
+#[derive(Drop)]
+pub struct Cloned<I> {
+    pub(super) iter: I,
+}
+
+impl<'a, T: Clone + 'a, I: NonEmptyIterator<Item = &'a T>> IntoIterator for Cloned<I> {
+    ghost use Rattle.ne_iter.specs.Parts.{source_of_cloned, iterator_of_cloned};
+
+    type Item = Result<T, AllocError>;
+
+    type IntoIter = ClonedIter<I::IntoIter>;
+
+    ghost into_iter_gives = { λ s it. I.into_iter_gives (source_of_cloned s) (iterator_of_cloned it) };
+
+    fn into_iter(self) -> ClonedIter<I::IntoIter> {
+        ClonedIter {
+            iter: self.iter.into_iter(),
+        }
+    }
+}
+
+impl<'a, T: Clone + 'a, I: NonEmptyIterator<Item = &'a T>> NonEmptyIterator for Cloned<I> {
+    ghost use Rattle.ne_iter.specs.Parts.{source_of_cloned, iterator_of_cloned};
+    ghost use Rattle.ne_iter.specs.SourceLaws.{none_cloned};
+
+    ghost not_empty = { λ s it made t ended. I.not_empty (source_of_cloned s) (iterator_of_cloned it) made (iterator_of_cloned t) (none_cloned I.IntoIter.next_gives _ T.is_clone (iterator_of_cloned it) (iterator_of_cloned t) ended.0 ended.1 ended.2) };
+}
+
+/// The iterator of a [`Cloned`]: for each reference a clone of what it shows, or an `Err` where that clone was refused.
+///
+/// The Rust crate has std's `Cloned` here, whose clones cannot be refused.
+#[derive(Drop)]
+pub struct ClonedIter<I> {
+    iter: I,
+}
+
+impl<'a, T: Clone + 'a, I: Iterator<Item = &'a T>> Iterator for ClonedIter<I> {
+    ghost use Rattle.ne_iter.specs.Parts.{iterator_of_cloned};
+    ghost use Rattle.ne_iter.specs.Clones.{ClonesNext};
+
+    type Item = Result<T, AllocError>;
+
+    ghost can_next = { λ s. I.can_next (iterator_of_cloned s) };
+
+    ghost next_gives = { λ s r t. ClonesNext I.next_gives T.is_clone (iterator_of_cloned s) r (iterator_of_cloned t) };
+
+    ghost remaining = { λ s. I.remaining (iterator_of_cloned s) };
+
+    fn next(&mut self) -> Option<Result<T, AllocError>> {
+        match self.iter.next() {
+            Some(x) => Some(x.clone()),
+            None => None,
+        }
+    }
+
+    fn size_hint(&self) -> (usize, Option<usize>) {
+        self.iter.size_hint()
+    }
+}
+
+/// What the references of a source show: see [`NonEmptyIterator::copied`].
+#[derive(Drop)]
+pub struct Copied<I> {
+    pub(super) iter: I,
+}
+
+impl<'a, T: Copy + 'a, I: NonEmptyIterator<Item = &'a T>> IntoIterator for Copied<I> {
+    ghost use Rattle.std.specs.Iterator.Adapters.{copied_source};
+    ghost use Rattle.ne_iter.specs.Parts.{source_of_copied};
+
+    type Item = T;
+
+    type IntoIter = iter::Copied<I::IntoIter>;
+
+    ghost into_iter_gives = { λ s it. I.into_iter_gives (source_of_copied s) (copied_source it) };
+
+    fn into_iter(self) -> iter::Copied<I::IntoIter> {
+        self.iter.into_iter().copied()
+    }
+}
+
+impl<'a, T: Copy + 'a, I: NonEmptyIterator<Item = &'a T>> NonEmptyIterator for Copied<I> {
+    ghost use Rattle.std.specs.Iterator.Adapters.{copied_source};
+    ghost use Rattle.ne_iter.specs.Parts.{source_of_copied};
+    ghost use Rattle.ne_iter.specs.SourceLaws.{none_copied};
+
+    ghost not_empty = { λ s it made t ended. I.not_empty (source_of_copied s) (copied_source it) made (copied_source t) (none_copied I.IntoIter.next_gives (copied_source it) (copied_source t) ended.0 ended.1 ended.2) };
+}

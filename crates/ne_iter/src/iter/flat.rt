@@ -1,0 +1,39 @@
+//! The adapter whose closure answers a source for each item.
+
+use super::{IntoNonEmptyIterator, NonEmptyIterator};
+use std::iter;
+use std::marker::PhantomData;
+
+/// The items of what a closure answers at each item of a source: see [`NonEmptyIterator::flat_map`].
+#[derive(Drop)]
+pub struct FlatMap<I, U, F> {
+    pub(super) iter: I,
+    pub(super) f: F,
+    pub(super) of: PhantomData<U>,
+}
+
+impl<U: IntoNonEmptyIterator, I: NonEmptyIterator, F: FnMut(I::Item) -> U> IntoIterator
+    for FlatMap<I, U, F> {
+    ghost use Rattle.std.specs.Prelude.{◌≡◌, None, false};
+    ghost use Rattle.std.specs.Iterator.Adapters.{map_source, map_callee, flatten_source, flatten_front, flatten_back, flatten_done};
+    ghost use Rattle.ne_iter.specs.Parts.{source_of_flat_map, closure_of_flat_map};
+
+    type Item = U::Item;
+
+    type IntoIter = iter::FlatMap<I::IntoIter, U, F>;
+
+    ghost into_iter_gives = { λ s it. I.into_iter_gives (source_of_flat_map s) (map_source (flatten_source it)) × (map_callee (flatten_source it) ≡ closure_of_flat_map s) × (flatten_front it ≡ None) × (flatten_back it ≡ None) × (flatten_done it ≡ false) };
+
+    fn into_iter(self) -> iter::FlatMap<I::IntoIter, U, F> {
+        self.iter.into_iter().flat_map(self.f)
+    }
+}
+
+impl<U: IntoNonEmptyIterator, I: NonEmptyIterator, F: FnMut(I::Item) -> U> NonEmptyIterator
+    for FlatMap<I, U, F> {
+    ghost use Rattle.std.specs.Iterator.Adapters.{map_source, flatten_source};
+    ghost use Rattle.ne_iter.specs.Parts.{source_of_flat_map};
+    ghost use Rattle.ne_iter.specs.SourceLaws.{HasFirst-flatten, IsNonEmpty-into};
+
+    ghost not_empty = { λ s it made. HasFirst-flatten (⟦<iter::Map<I::IntoIter, F> as Iterator>⟧.next_gives) U.into_iter_gives U.IntoIter.next_gives it made.2 made.4 (λ t ended. I.not_empty (source_of_flat_map s) (map_source (flatten_source it)) made.0 (map_source t) ended.0) (IsNonEmpty-into U.into_iter_gives U.IntoIter.next_gives U.into_nonempty_iter_gives U.IntoNEIter.into_iter_gives U.IntoNEIter.IntoIter.next_gives U.same_lists U.IntoNEIter.not_empty) };
+}

@@ -1,0 +1,86 @@
+//! Any iterator, where it has an item.
+ghost use Rattle.std.specs.Prelude.{◌≡◌, Bool, Option, true};
+ghost use Rattle.ne_iter.specs.Looked.{has_looked, LooksWhole, HasFirst-looked};
+
+use super::{NonEmptyIterator, Source};
+use std::iter;
+
+/// An iterator that can tell whether it has an item in hand. It is for contracts alone, and has no method.
+pub trait LooksAhead {
+    ghost has_looked: { Self → Bool };
+}
+
+impl<I, X> LooksAhead for iter::Ahead<I, X> {
+    ghost has_looked = { has_looked };
+}
+
+/// An iterator that was found to have an item: see [`IntoIteratorExt::try_into_nonempty_iter`].
+#[derive(Drop)]
+pub struct NonEmptyIterAdapter<I: LooksAhead> {
+    inner: I,
+    ghost looked: { I.has_looked inner ≡ true },
+}
+
+impl<I: Iterator> IntoIterator for NonEmptyIterAdapter<iter::Peekable<I>>
+where
+    I::Item: Drop,
+{
+    type Item = I::Item;
+
+    type IntoIter = iter::Peekable<I>;
+
+    ghost into_iter_gives = { λ s it. (it ≡ s.inner) × (has_looked it ≡ true) };
+
+    fn into_iter(self) -> iter::Peekable<I> {
+        self.inner
+    }
+}
+
+impl<I: Iterator> NonEmptyIterator for NonEmptyIterAdapter<iter::Peekable<I>>
+where
+    I::Item: Drop,
+{
+    ghost not_empty = { λ s it made t ended. HasFirst-looked I.next_gives it made.1 t ended };
+}
+
+/// Sources that may be empty.
+pub trait IntoIteratorExt {
+    /// What it gives.
+    type Item;
+
+    /// The source that it becomes, where it has an item.
+    type IntoIter: NonEmptyIterator<Item = Self::Item>;
+
+    ghost can_look: { Self → Type 0 };
+
+    ghost looks: { Self → Option Self.IntoIter → Type 0 };
+
+    /// Draws the first item, to see whether there is one: `None` exactly where there is none. What it gives has all items, with the
+    /// one that was drawn.
+    fn try_into_nonempty_iter(self) -> Option<Self::IntoIter>
+        requires { can_look self }
+        ensures { looks self result };
+}
+
+impl<T: IntoIterator> IntoIteratorExt for T
+where
+    T::Item: Drop,
+    T::IntoIter: Drop,
+{
+    type Item = T::Item;
+
+    type IntoIter = NonEmptyIterAdapter<iter::Peekable<T::IntoIter>>;
+
+    ghost can_look = { λ s. (it : T.IntoIter) → T.into_iter_gives s it → T.IntoIter.can_next it };
+
+    ghost looks = { LooksWhole (⟦<T as Source>⟧.reads) (⟦<NonEmptyIterAdapter<iter::Peekable<T::IntoIter>> as Source>⟧.reads) };
+
+    fn try_into_nonempty_iter(self) -> Option<NonEmptyIterAdapter<iter::Peekable<T::IntoIter>>> {
+        let mut iter = self.into_iter().peekable();
+        if iter.peek().is_some() {
+            Some(NonEmptyIterAdapter { inner: iter })
+        } else {
+            None
+        }
+    }
+}

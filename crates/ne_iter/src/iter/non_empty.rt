@@ -1,0 +1,524 @@
+//! [`NonEmptyIterator`]: a source that gives at least one item, with its methods.
+ghost use Rattle.std.specs.Prelude.{◌≡◌, true, false, List, length, map, Some, IfOk, OnOk, IsPermutation};
+ghost use Rattle.std.specs.Iterator.{IsFinite, IsFiniteIterable, MakesProgress, AfterFirst, CallableInFold, CallableWhile, CallableWhileAt, CallableOnAllAt};
+ghost use Rattle.std.specs.Iterator.Runs.{CountFits, EachRunFrom};
+ghost use Rattle.std.specs.Iterator.Adapters.{filter_source, filter_callee, filter_map_source, filter_map_callee, skip_source, skip_count, skip_while_source, skip_while_callee, skip_while_done_skipping, take_while_source, take_while_callee, take_while_done};
+ghost use Rattle.std.specs.Int.NonZero.{non_zero_usize_get};
+ghost use Rattle.std.specs.List.Sorted.{IsSortedByKeyClosure, IsStableByKeyClosure};
+ghost use Rattle.ne_iter.specs.Sources.{IsNonEmpty, FirstAndRest};
+ghost use Rattle.ne_iter.specs.Calls.{ShownEach};
+ghost use Rattle.ne_iter.specs.Parts.{source_of_map, closure_of_map, source_of_enumerate, source_of_take, count_of_take, first_of_chain, second_of_chain, first_of_zip, second_of_zip, source_of_cloned, source_of_copied, source_of_flat_map, closure_of_flat_map};
+ghost use Rattle.ne_iter.specs.Gives.{MapGives, EnumerateGives, TakeGives, ChainGives, ZipGives, FlatMapGives, CopiedGives, ClonedGives, FilterGives, FilterMapGives, SkipGives, SkipWhileGives, TakeWhileGives};
+ghost use Rattle.ne_iter.specs.Peeks.{peekable_first, peekable_rest, PeekableGives};
+ghost use Rattle.ne_iter.specs.Answers.{TellsAll, TellsAny, FindsFirst, GivesNth, FoldsAll, ReducesAll, IsFirstGreatest, IsFirstLeast, PicksGreatest, PicksLeast, CallableOnTwo, less_by};
+
+use super::sources::{FromNonEmptyIterator, IntoNonEmptyIterator, Source};
+use super::{Chain, Cloned, Copied, Enumerate, FlatMap, Map, Peekable, Take, Zip};
+use ne_vec::{NEVec, Singleton, vector};
+use std::alloc::{AllocError, Global};
+use std::cmp::Ordering;
+use std::iter::{self, Product, Sum};
+use std::marker::PhantomData;
+use std::num::NonZeroUsize;
+
+/// A source that gives at least one item.
+///
+/// Its law is `not_empty`: whatever `into_iter` makes of a value answers an item first. An implementation proves it, and has to do
+/// nothing else; all methods but `next` are final.
+///
+/// The methods that use up the source ask that it ends. A closure is called on the items in order, once for each that is drawn, and
+/// may have state. No method takes memory but those that answer `AllocError`.
+pub trait NonEmptyIterator: IntoIterator {
+    /// The first item, which always is there, and the iterator of the others.
+    ///
+    /// Not final, unlike the others: the toolchain refuses a trait without such a method where an implementation asks for a closure.
+    /// The contract leaves no room for another answer.
+    fn next(self) -> (Self::Item, Self::IntoIter)
+    where
+        Self: Sized,
+        requires { (it : Self.IntoIter) → Self.into_iter_gives self it → Self.IntoIter.can_next it }
+        ensures first { (it : Self.IntoIter) × Self.into_iter_gives self it × Self.IntoIter.next_gives it (Some result.0) result.1 × MakesProgress Self.IntoIter.can_next Self.IntoIter.remaining it (Some result.0) result.1 }
+    {
+        let mut it = self.into_iter();
+        match it.next() {
+            Some(x) => (x, it),
+            None => unreachable!(),
+        }
+    }
+
+    /// A source of the same items whose first item can be seen and written. That item is drawn at once.
+    final fn peekable(self) -> Peekable<Self::IntoIter>
+    where
+        Self: Sized,
+        Self::Item: Drop,
+        requires { (it : Self.IntoIter) → Self.into_iter_gives self it → Self.IntoIter.can_next it }
+        ensures drawn { FirstAndRest Self.into_iter_gives Self.IntoIter.next_gives self (peekable_first result) (peekable_rest result) }
+        ensures goes_on { (it : Self.IntoIter) × Self.into_iter_gives self it × MakesProgress Self.IntoIter.can_next Self.IntoIter.remaining it (Some (peekable_first result)) (peekable_rest result) }
+        ensures gives { PeekableGives (⟦<Self as Source>⟧.reads) (⟦<Peekable<Self::IntoIter> as Source>⟧.reads) self result }
+    {
+        let (first, rest) = self.next();
+        Peekable { first, rest }
+    }
+
+    /// Whether `f` answers true at each item. It stops at the first item at which it does not.
+    final fn all<F: FnMut(Self::Item) -> bool>(self, f: F) -> bool
+    where
+        Self: Sized,
+        requires runs { IsFiniteIterable Self.into_iter_gives Self.IntoIter.can_next Self.IntoIter.remaining self }
+        requires callable { (it : Self.IntoIter) → Self.into_iter_gives self it → CallableWhile Self.IntoIter.next_gives F.FnMut true it f }
+        ensures { TellsAll (⟦<Self as Source>⟧.reads) F.FnMut self f result }
+    {
+        self.into_iter().all(f)
+    }
+
+    /// Whether `f` answers true at an item. It stops at the first item at which it does.
+    final fn any<F: FnMut(Self::Item) -> bool>(self, f: F) -> bool
+    where
+        Self: Sized,
+        requires runs { IsFiniteIterable Self.into_iter_gives Self.IntoIter.can_next Self.IntoIter.remaining self }
+        requires callable { (it : Self.IntoIter) → Self.into_iter_gives self it → CallableWhile Self.IntoIter.next_gives F.FnMut false it f }
+        ensures { TellsAny (⟦<Self as Source>⟧.reads) F.FnMut self f result }
+    {
+        self.into_iter().any(f)
+    }
+
+    /// The items, and then those of `other`, which may have none.
+    ///
+    /// In the Rust crate a [`Chain`] holds the iterators; here it holds what they are made of, and its own iterator is std's.
+    final fn chain<U: IntoIterator<Item = Self::Item>>(self, other: U) -> Chain<Self, U>
+    where
+        Self: Sized,
+        ensures holds { (first_of_chain result ≡ self) × (second_of_chain result ≡ other) }
+        ensures gives { ChainGives (⟦<Self as Source>⟧.reads) (⟦<U as Source>⟧.reads) (⟦<Chain<Self, U> as Source>⟧.reads) self other result }
+    {
+        Chain { a: self, b: other }
+    }
+
+    /// For each reference a clone of what it shows, or an `Err` where that clone is refused.
+    ///
+    /// What follows an `Err` is up to the clones that come then. In the Rust crate the items are plain.
+    final fn cloned<'a, T: Clone + 'a>(self) -> Cloned<Self>
+    where
+        Self: Sized + IntoIterator<Item = &'a T>,
+        ensures holds { source_of_cloned result ≡ self }
+        ensures gives { ClonedGives (⟦<Self as Source>⟧.reads) T.is_clone (⟦<Cloned<Self> as Source>⟧.reads) self result }
+    {
+        Cloned { iter: self }
+    }
+
+    /// What the items make: see [`FromNonEmptyIterator`].
+    ///
+    /// `AllocError` where there is no memory for it; what was taken is dropped.
+    final fn collect<B: FromNonEmptyIterator<Self::Item>>(
+        self,
+        alloc: Global,
+    ) -> Result<B, AllocError>
+    where
+        Self: Sized,
+        requires { IsFiniteIterable Self.into_iter_gives Self.IntoIter.can_next Self.IntoIter.remaining self }
+        ensures { IfOk result (λ c. (xs : List Self.Item) × ⟦<Self as Source>⟧.reads (B.is_complete c) self xs × B.collected xs c) }
+    {
+        B::from_nonempty_iter(alloc, self)
+    }
+
+    /// What the references show, copied.
+    ///
+    /// In the Rust crate a [`Copied`] holds the iterator; here it holds what that is made of, and its own iterator is std's.
+    final fn copied<'a, T: Copy + 'a>(self) -> Copied<Self>
+    where
+        Self: Sized + IntoIterator<Item = &'a T>,
+        ensures holds { source_of_copied result ≡ self }
+        ensures gives { CopiedGives (⟦<Self as Source>⟧.reads) (⟦<Copied<Self> as Source>⟧.reads) self result }
+    {
+        Copied { iter: self }
+    }
+
+    /// How many items there are, at least 1. The number has to fit.
+    final fn count(self) -> NonZeroUsize
+    where
+        Self: Sized,
+        Self::Item: Drop,
+        requires { (it : Self.IntoIter) → Self.into_iter_gives self it → Self.IntoIter.can_next it × IsFinite (Self.IntoIter.remaining it) × CountFits Self.IntoIter.next_gives Self.IntoIter.remaining 0 it }
+        ensures { (xs : List Self.Item) × ⟦<Self as Source>⟧.reads true self xs × (non_zero_usize_get result ≡ length xs) }
+    {
+        match NonZeroUsize::new(self.into_iter().count()) {
+            Some(n) => n,
+            None => unreachable!(),
+        }
+    }
+
+    /// Each item with its place before it, from 0.
+    final fn enumerate(self) -> Enumerate<Self>
+    where
+        Self: Sized,
+        ensures holds { source_of_enumerate result ≡ self }
+        ensures gives { EnumerateGives (⟦<Self as Source>⟧.reads) (⟦<Enumerate<Self> as Source>⟧.reads) self result }
+    {
+        Enumerate { iter: self }
+    }
+
+    /// The items at which `predicate` answers true. There may be none, so this is std's iterator.
+    final fn filter<P: FnMut(&Self::Item) -> bool>(
+        self,
+        predicate: P,
+    ) -> iter::Filter<Self::IntoIter, P>
+    where
+        Self: Sized,
+        Self::Item: Drop,
+        ensures holds { Self.into_iter_gives self (filter_source result) × (filter_callee result ≡ predicate) }
+        ensures gives { FilterGives (⟦<Self as Source>⟧.reads) (⟦<iter::Filter<Self::IntoIter, P> as Source>⟧.reads) P.FnMut self predicate result }
+    {
+        self.into_iter().filter(predicate)
+    }
+
+    /// The values among the answers of `f`. There may be none, so this is std's iterator.
+    final fn filter_map<B, F: FnMut(Self::Item) -> Option<B>>(
+        self,
+        f: F,
+    ) -> iter::FilterMap<Self::IntoIter, F>
+    where
+        Self: Sized,
+        ensures holds { Self.into_iter_gives self (filter_map_source result) × (filter_map_callee result ≡ f) }
+        ensures gives { FilterMapGives (⟦<Self as Source>⟧.reads) (⟦<iter::FilterMap<Self::IntoIter, F> as Source>⟧.reads) F.FnMut self f result }
+    {
+        self.into_iter().filter_map(f)
+    }
+
+    /// The first item at which `predicate` answers true, if there is one. It stops there.
+    final fn find<P: FnMut(&Self::Item) -> bool>(self, predicate: P) -> Option<Self::Item>
+    where
+        Self: Sized,
+        Self::Item: Drop,
+        requires runs { IsFiniteIterable Self.into_iter_gives Self.IntoIter.can_next Self.IntoIter.remaining self }
+        requires callable { (it : Self.IntoIter) → Self.into_iter_gives self it → CallableWhileAt Self.IntoIter.next_gives P.FnMut false it predicate }
+        ensures { FindsFirst (⟦<Self as Source>⟧.reads) P.FnMut self predicate result }
+    {
+        self.into_iter().find(predicate)
+    }
+
+    /// The items of what `f` answers at each item, one after another. Each answer has an item.
+    ///
+    /// In the Rust crate a [`FlatMap`] holds the iterator; here it holds what that is made of, and its own iterator is std's.
+    final fn flat_map<U: IntoNonEmptyIterator, F: FnMut(Self::Item) -> U>(
+        self,
+        f: F,
+    ) -> FlatMap<Self, U, F>
+    where
+        Self: Sized,
+        ensures holds { (source_of_flat_map result ≡ self) × (closure_of_flat_map result ≡ f) }
+        ensures gives { FlatMapGives (⟦<Self as Source>⟧.reads) (⟦<U as Source>⟧.reads) (⟦<FlatMap<Self, U, F> as Source>⟧.reads) F.FnMut self f result }
+    {
+        FlatMap {
+            iter: self,
+            f,
+            of: PhantomData,
+        }
+    }
+
+    /// The total: `init`, to which `f` adds each item.
+    final fn fold<B, F: FnMut(B, Self::Item) -> B>(self, init: B, f: F) -> B
+    where
+        Self: Sized,
+        requires runs { IsFiniteIterable Self.into_iter_gives Self.IntoIter.can_next Self.IntoIter.remaining self }
+        requires callable { (it : Self.IntoIter) → Self.into_iter_gives self it → CallableInFold Self.IntoIter.next_gives F.FnMut it f init }
+        ensures { FoldsAll (⟦<Self as Source>⟧.reads) F.FnMut self f init result }
+    {
+        self.into_iter().fold(init, f)
+    }
+
+    /// The answers of `f`, called on the items.
+    final fn map<U, F: FnMut(Self::Item) -> U>(self, f: F) -> Map<Self, F>
+    where
+        Self: Sized,
+        ensures holds { (source_of_map result ≡ self) × (closure_of_map result ≡ f) }
+        ensures gives { MapGives (⟦<Self as Source>⟧.reads) (⟦<Map<Self, F> as Source>⟧.reads) F.FnMut self f result }
+    {
+        Map { iter: self, f }
+    }
+
+    /// The greatest item, and of several equal ones the first. std's `max` answers the last of them.
+    final fn max(self) -> Self::Item
+    where
+        Self: Sized,
+        Self::Item: Ord + Drop,
+        requires { IsFiniteIterable Self.into_iter_gives Self.IntoIter.can_next Self.IntoIter.remaining self }
+        ensures { (xs : List Self.Item) × ⟦<Self as Source>⟧.reads true self xs × IsFirstGreatest (less_by Self.Item.cmp) xs result }
+    {
+        let (first, rest) = self.next();
+        let mut best = first;
+        for x in rest {
+            if best < x {
+                best = x;
+            }
+        }
+        best
+    }
+
+    /// The greatest item by `compare`, and of several equal ones the first. std's `max_by` answers the last of them.
+    ///
+    /// That it is the greatest asks that the answers of `compare` are a total preorder; else it is some item.
+    final fn max_by<F: Fn(&Self::Item, &Self::Item) -> Ordering>(self, compare: F) -> Self::Item
+    where
+        Self: Sized,
+        Self::Item: Drop,
+        requires runs { IsFiniteIterable Self.into_iter_gives Self.IntoIter.can_next Self.IntoIter.remaining self }
+        requires callable { (it : Self.IntoIter) → Self.into_iter_gives self it → CallableOnTwo Self.IntoIter.next_gives F.Fn it compare }
+        ensures { (xs : List Self.Item) × ⟦<Self as Source>⟧.reads true self xs × PicksGreatest F.Fn compare xs result }
+    {
+        let (first, rest) = self.next();
+        let mut best = first;
+        for x in rest {
+            if compare(&best, &x).is_lt() {
+                best = x;
+            }
+        }
+        best
+    }
+
+    /// The item of the greatest key, and of several equal ones the first. std's `max_by_key` answers the last of them. The key is
+    /// asked once for each item.
+    final fn max_by_key<B: Ord + Drop, F: FnMut(&Self::Item) -> B>(self, key: F) -> Self::Item
+    where
+        Self: Sized,
+        Self::Item: Drop,
+        requires runs { IsFiniteIterable Self.into_iter_gives Self.IntoIter.can_next Self.IntoIter.remaining self }
+        requires callable { (it : Self.IntoIter) → Self.into_iter_gives self it → CallableOnAllAt Self.IntoIter.next_gives F.FnMut it key }
+        ensures { (ps : List (Self.Item × B)) × (k : B) × (g : F) × ⟦<Self as Source>⟧.reads true self (map (λ p. p.0) ps) × ShownEach F.FnMut key ps g × IsFirstGreatest (λ p q. less_by B.cmp p.1 q.1) ps (result, k) }
+    {
+        let mut key = key;
+        let (first, rest) = self.next();
+        let mut best_key = key(&first);
+        let mut best = first;
+        for x in rest {
+            let next_key = key(&x);
+            if best_key < next_key {
+                best = x;
+                best_key = next_key;
+            }
+        }
+        best
+    }
+
+    /// The least item, and of several equal ones the first.
+    final fn min(self) -> Self::Item
+    where
+        Self: Sized,
+        Self::Item: Ord + Drop,
+        requires { IsFiniteIterable Self.into_iter_gives Self.IntoIter.can_next Self.IntoIter.remaining self }
+        ensures { (xs : List Self.Item) × ⟦<Self as Source>⟧.reads true self xs × IsFirstLeast (less_by Self.Item.cmp) xs result }
+    {
+        let (first, rest) = self.next();
+        let mut best = first;
+        for x in rest {
+            if x < best {
+                best = x;
+            }
+        }
+        best
+    }
+
+    /// The least item by `compare`, and of several equal ones the first.
+    ///
+    /// That it is the least asks that the answers of `compare` are a total preorder; else it is some item.
+    final fn min_by<F: Fn(&Self::Item, &Self::Item) -> Ordering>(self, compare: F) -> Self::Item
+    where
+        Self: Sized,
+        Self::Item: Drop,
+        requires runs { IsFiniteIterable Self.into_iter_gives Self.IntoIter.can_next Self.IntoIter.remaining self }
+        requires callable { (it : Self.IntoIter) → Self.into_iter_gives self it → CallableOnTwo Self.IntoIter.next_gives F.Fn it compare }
+        ensures { (xs : List Self.Item) × ⟦<Self as Source>⟧.reads true self xs × PicksLeast F.Fn compare xs result }
+    {
+        let (first, rest) = self.next();
+        let mut best = first;
+        for x in rest {
+            if compare(&x, &best).is_lt() {
+                best = x;
+            }
+        }
+        best
+    }
+
+    /// The item of the least key, and of several equal ones the first. The key is asked once for each item.
+    final fn min_by_key<B: Ord + Drop, F: FnMut(&Self::Item) -> B>(self, key: F) -> Self::Item
+    where
+        Self: Sized,
+        Self::Item: Drop,
+        requires runs { IsFiniteIterable Self.into_iter_gives Self.IntoIter.can_next Self.IntoIter.remaining self }
+        requires callable { (it : Self.IntoIter) → Self.into_iter_gives self it → CallableOnAllAt Self.IntoIter.next_gives F.FnMut it key }
+        ensures { (ps : List (Self.Item × B)) × (k : B) × (g : F) × ⟦<Self as Source>⟧.reads true self (map (λ p. p.0) ps) × ShownEach F.FnMut key ps g × IsFirstLeast (λ p q. less_by B.cmp p.1 q.1) ps (result, k) }
+    {
+        let mut key = key;
+        let (first, rest) = self.next();
+        let mut best_key = key(&first);
+        let mut best = first;
+        for x in rest {
+            let next_key = key(&x);
+            if next_key < best_key {
+                best = x;
+                best_key = next_key;
+            }
+        }
+        best
+    }
+
+    /// The items in the order of their keys, the least first; those of equal keys keep their order.
+    ///
+    /// `f` may be called at any item. That they are in order asks that the key depends on the item alone; else it is some
+    /// permutation. `AllocError` where there is no memory for the items or for the work; they are then dropped.
+    final fn sorted_by_key<K: Ord + Drop, F: FnMut(&Self::Item) -> K>(
+        self,
+        alloc: Global,
+        f: F,
+    ) -> Result<vector::IntoIter<Self::Item>, AllocError>
+    where
+        Self: Sized,
+        Self::Item: Drop,
+        requires runs { IsFiniteIterable Self.into_iter_gives Self.IntoIter.can_next Self.IntoIter.remaining self }
+        requires callable { F.IsAlwaysCallable f }
+        ensures { IfOk result (λ ys. (xs : List Self.Item) × ⟦<Self as Source>⟧.reads true self xs × IsPermutation xs ys × IsSortedByKeyClosure F.FnMut K.cmp f ys × IsStableByKeyClosure F.FnMut K.cmp f xs ys) }
+    {
+        let mut items: NEVec<Self::Item> = self.collect(alloc)?;
+        items.sort_by_key(f)?;
+        Ok(vector::IntoIter::from(items))
+    }
+
+    /// The item behind `n` others, so from 0; `None` where there is none.
+    final fn nth(self, n: usize) -> Option<Self::Item>
+    where
+        Self: Sized,
+        Self::Item: Drop,
+        requires { (it : Self.IntoIter) → Self.into_iter_gives self it → Self.IntoIter.can_next it }
+        ensures { GivesNth (⟦<Self as Source>⟧.reads) self n result }
+    {
+        self.into_iter().nth(n)
+    }
+
+    /// All items but the first `n`. There may be none, so this is std's iterator.
+    final fn skip(self, n: usize) -> iter::Skip<Self::IntoIter>
+    where
+        Self: Sized,
+        Self::Item: Drop,
+        ensures holds { Self.into_iter_gives self (skip_source result) × (skip_count result ≡ n) }
+        ensures gives { SkipGives (⟦<Self as Source>⟧.reads) (⟦<iter::Skip<Self::IntoIter> as Source>⟧.reads) n self result }
+    {
+        self.into_iter().skip(n)
+    }
+
+    /// The items from the first one on at which `pred` answers false; it is not asked after that one. There may be none, so this is
+    /// std's iterator.
+    final fn skip_while<P: FnMut(&Self::Item) -> bool>(
+        self,
+        pred: P,
+    ) -> iter::SkipWhile<Self::IntoIter, P>
+    where
+        Self: Sized,
+        Self::Item: Drop,
+        ensures holds { Self.into_iter_gives self (skip_while_source result) × (skip_while_callee result ≡ pred) × (skip_while_done_skipping result ≡ false) }
+        ensures gives { SkipWhileGives (⟦<Self as Source>⟧.reads) (⟦<iter::SkipWhile<Self::IntoIter, P> as Source>⟧.reads) P.FnMut self pred result }
+    {
+        self.into_iter().skip_while(pred)
+    }
+
+    /// The sum of the items. No partial sum may leave the range of `S`.
+    final fn sum<S: Sum<Self::Item>>(self) -> S
+    where
+        Self: Sized,
+        requires runs { IsFiniteIterable Self.into_iter_gives Self.IntoIter.can_next Self.IntoIter.remaining self }
+        requires fits { (it : Self.IntoIter) → Self.into_iter_gives self it → EachRunFrom Self.IntoIter.next_gives it (λ p. S.can_sum p.items) }
+        ensures { (xs : List Self.Item) × (S.is_complete result → ⟦<Self as Source>⟧.reads true self xs) × S.sum_gives xs result }
+    {
+        self.into_iter().sum()
+    }
+
+    /// The first `n` items, or all where there are no more.
+    final fn take(self, n: NonZeroUsize) -> Take<Self>
+    where
+        Self: Sized,
+        ensures holds { (source_of_take result ≡ self) × (count_of_take result ≡ non_zero_usize_get n) }
+        ensures gives { TakeGives (⟦<Self as Source>⟧.reads) (⟦<Take<Self> as Source>⟧.reads) (non_zero_usize_get n) self result }
+    {
+        Take { iter: self, n }
+    }
+
+    /// The items before the first one at which `pred` answers false; that one is drawn too. There may be none, so this is std's
+    /// iterator.
+    final fn take_while<P: FnMut(&Self::Item) -> bool>(
+        self,
+        pred: P,
+    ) -> iter::TakeWhile<Self::IntoIter, P>
+    where
+        Self: Sized,
+        Self::Item: Drop,
+        ensures holds { Self.into_iter_gives self (take_while_source result) × (take_while_callee result ≡ pred) × (take_while_done result ≡ false) }
+        ensures gives { TakeWhileGives (⟦<Self as Source>⟧.reads) (⟦<iter::TakeWhile<Self::IntoIter, P> as Source>⟧.reads) P.FnMut self pred result }
+    {
+        self.into_iter().take_while(pred)
+    }
+
+    /// The product of the items. No partial product may leave the range of `P`.
+    final fn product<P: Product<Self::Item>>(self) -> P
+    where
+        Self: Sized,
+        requires runs { IsFiniteIterable Self.into_iter_gives Self.IntoIter.can_next Self.IntoIter.remaining self }
+        requires fits { (it : Self.IntoIter) → Self.into_iter_gives self it → EachRunFrom Self.IntoIter.next_gives it (λ p. P.can_product p.items) }
+        ensures { (xs : List Self.Item) × (P.is_complete result → ⟦<Self as Source>⟧.reads true self xs) × P.product_gives xs result }
+    {
+        self.into_iter().product()
+    }
+
+    /// Pairs of an item of this source and an item of `other`, as many as the shorter one has.
+    ///
+    /// How far the longer one is drawn is not said. In the Rust crate a [`Zip`] holds the iterators; here it holds what they are made
+    /// of, and its own iterator is std's.
+    final fn zip<U: IntoNonEmptyIterator>(self, other: U) -> Zip<Self, U>
+    where
+        Self: Sized,
+        Self::Item: Drop,
+        ensures holds { (first_of_zip result ≡ self) × (second_of_zip result ≡ other) }
+        ensures gives { ZipGives (⟦<Self as Source>⟧.reads) (⟦<U as Source>⟧.reads) (⟦<Zip<Self, U> as Source>⟧.reads) self other result }
+    {
+        Zip { a: self, b: other }
+    }
+
+    /// Two collections: of the first parts of the items, and of the second parts. Each begins with one item and takes the others one
+    /// at a time: see [`Singleton`].
+    ///
+    /// `AllocError` where there is no memory for them; what was taken is dropped. The Rust crate asks for `Extend` besides
+    /// [`Singleton`].
+    final fn unzip<
+        A: Drop,
+        B: Drop,
+        FromA: Singleton<Item = A> + Drop,
+        FromB: Singleton<Item = B> + Drop,
+    >(self, alloc: Global) -> Result<(FromA, FromB), AllocError>
+    where
+        Self: Sized + IntoIterator<Item = (A, B)>,
+        requires { IsFiniteIterable Self.into_iter_gives Self.IntoIter.can_next Self.IntoIter.remaining self }
+        ensures { IfOk result (λ r. (ps : List (A × B)) × ⟦<Self as Source>⟧.reads true self ps × FromA.collected (map (λ p. p.0) ps) r.0 × FromB.collected (map (λ p. p.1) ps) r.1) }
+    {
+        let ((a, b), rest) = self.next();
+        let mut firsts = FromA::singleton(alloc, a)?;
+        let mut seconds = FromB::singleton(alloc, b)?;
+        for (a, b) in rest {
+            firsts.extend_one(a)?;
+            seconds.extend_one(b)?;
+        }
+        Ok((firsts, seconds))
+    }
+
+    /// The total: the first item, to which `f` adds each other one.
+    final fn reduce<F: FnMut(Self::Item, Self::Item) -> Self::Item>(self, f: F) -> Self::Item
+    where
+        Self: Sized,
+        requires runs { IsFiniteIterable Self.into_iter_gives Self.IntoIter.can_next Self.IntoIter.remaining self }
+        requires callable { (it : Self.IntoIter) → Self.into_iter_gives self it → AfterFirst Self.IntoIter.next_gives it (λ x rest. CallableInFold Self.IntoIter.next_gives F.FnMut rest f x) }
+        ensures { ReducesAll (⟦<Self as Source>⟧.reads) F.FnMut self f result }
+    {
+        match self.into_iter().reduce(f) {
+            Some(x) => x,
+            None => unreachable!(),
+        }
+    }
+
+    ghost not_empty: { IsNonEmpty Self.into_iter_gives Self.IntoIter.next_gives };
+}

@@ -1,0 +1,69 @@
+//! The adapter that shows the first item.
+
+use super::NonEmptyIterator;
+use std::iter;
+
+/// A source whose first item was drawn, and can be seen and written: see [`NonEmptyIterator::peekable`].
+#[derive(Drop)]
+pub struct Peekable<I: Iterator>
+where
+    I::Item: Drop,
+{
+    pub(super) first: I::Item,
+    pub(super) rest: I,
+}
+
+impl<I: Iterator> Peekable<I>
+where
+    I::Item: Drop,
+{
+    ghost use Rattle.std.specs.Prelude.{◌≡◌};
+    ghost use Rattle.std.specs.Borrow.{sem};
+    ghost use Rattle.ne_iter.specs.Peeks.{peekable_first};
+    ghost use Rattle.ne_iter.specs.PeekLends.{lends_first};
+
+    /// The first item. There always is one, so this is no `Option`, unlike std's.
+    pub fn peek(&self) -> &I::Item
+        ensures { result.now ≡ peekable_first self.now }
+    {
+        &self.first
+    }
+
+    /// The first item, for writing: the source gives it as it was last written.
+    pub fn peek_mut(&mut self) -> &mut I::Item
+        ensures* writes_back { sem 𝓛 (lends_first I.row I.Item.row self.entry result) }
+        ensures value { result.now ≡ peekable_first self.old }
+    {
+        &mut self.first
+    }
+}
+
+impl<I: Iterator> IntoIterator for Peekable<I>
+where
+    I::Item: Drop,
+{
+    ghost use Rattle.std.specs.Prelude.{◌≡◌, Some, false};
+    ghost use Rattle.std.specs.Iterator.Adapters.{once_item, chain_first, chain_second, chain_first_done, chain_second_done};
+    ghost use Rattle.ne_iter.specs.Peeks.{peekable_first, peekable_rest};
+
+    type Item = I::Item;
+
+    type IntoIter = iter::Chain<iter::Once<I::Item>, I>;
+
+    ghost into_iter_gives = { λ s it. (once_item (chain_first it) ≡ Some (peekable_first s)) × (chain_second it ≡ peekable_rest s) × (chain_first_done it ≡ false) × (chain_second_done it ≡ false) };
+
+    fn into_iter(self) -> iter::Chain<iter::Once<I::Item>, I> {
+        iter::once(self.first).chain(self.rest)
+    }
+}
+
+impl<I: Iterator> NonEmptyIterator for Peekable<I>
+where
+    I::Item: Drop,
+{
+    ghost use Rattle.std.specs.Iterator.Adapters.{chain_first};
+    ghost use Rattle.ne_iter.specs.Peeks.{peekable_first};
+    ghost use Rattle.ne_iter.specs.SourceLaws.{HasFirst-chain, HasFirst-once};
+
+    ghost not_empty = { λ s it made. HasFirst-chain (⟦<iter::Once<I::Item> as Iterator>⟧.next_gives) I.next_gives it made.2 (HasFirst-once (chain_first it) (peekable_first s) made.0) };
+}

@@ -1,0 +1,68 @@
+//! What a source is, what becomes one, and what is collected from one.
+ghost use Rattle.std.specs.Prelude.{◌≡◌, Bool, true, List, IfOk};
+ghost use Rattle.std.specs.Iterator.{IsFiniteIterable};
+ghost use Rattle.ne_iter.specs.Sources.{Reads, SameLists};
+ghost use Rattle.ne_iter.specs.SourceLaws.{SameLists-self};
+
+use super::NonEmptyIterator;
+use std::alloc::{AllocError, Global};
+
+/// A source by what it may give: every `IntoIterator`. It is for contracts alone, and has no method.
+///
+/// `reads whole source xs` says that `source` may give the items `xs` first, and where `whole` is true may then end.
+pub trait Source: IntoIterator {
+    ghost reads: { Bool → Self → List Self.Item → Type 0 };
+}
+
+impl<S: IntoIterator> Source for S {
+    ghost reads = { Reads S.into_iter_gives S.IntoIter.next_gives };
+}
+
+/// What can be made of one item or more.
+///
+/// `collected xs c` says that `c` is what the items `xs` make, and `is_complete c` that `c` was made of all items of its source. It is
+/// false where collecting may stop early, as at a first `Err`.
+pub trait FromNonEmptyIterator<T>: Sized {
+    ghost collected: { List T → Self → Type 0 };
+
+    ghost is_complete: { Self → Bool } = { λ _. true };
+
+    /// Collects the items. They must end.
+    ///
+    /// `AllocError` where there is no memory for them; what was taken is dropped.
+    fn from_nonempty_iter<I: IntoNonEmptyIterator<Item = T>>(
+        alloc: Global,
+        iter: I,
+    ) -> Result<Self, AllocError>
+        requires { (source : I.IntoNEIter) → I.into_nonempty_iter_gives iter source → IsFiniteIterable I.IntoNEIter.into_iter_gives I.IntoNEIter.IntoIter.can_next I.IntoNEIter.IntoIter.remaining source }
+        ensures { IfOk result (λ c. (xs : List T) × ⟦<I as Source>⟧.reads (is_complete c) iter xs × collected xs c) };
+}
+
+/// What becomes a source that gives at least one item.
+///
+/// Its law is that such a source, made of a value, may give the same lists as `into_iter` of that value: `same_lists`. A value may
+/// so be handed to what asks for either.
+pub trait IntoNonEmptyIterator: IntoIterator {
+    /// The source that it becomes.
+    type IntoNEIter: NonEmptyIterator<Item = Self::Item>;
+
+    ghost into_nonempty_iter_gives: { Self → Self.IntoNEIter → Type 0 };
+
+    /// The source of its items.
+    fn into_nonempty_iter(self) -> Self::IntoNEIter
+        ensures into_nonempty_iter_gives { into_nonempty_iter_gives self result };
+
+    ghost same_lists: { SameLists Self.into_iter_gives Self.IntoIter.next_gives into_nonempty_iter_gives Self.IntoNEIter.into_iter_gives Self.IntoNEIter.IntoIter.next_gives };
+}
+
+impl<I: NonEmptyIterator> IntoNonEmptyIterator for I {
+    type IntoNEIter = I;
+
+    ghost into_nonempty_iter_gives = { λ s r. r ≡ s };
+
+    ghost same_lists = { SameLists-self I.into_iter_gives I.IntoIter.next_gives };
+
+    fn into_nonempty_iter(self) -> I {
+        self
+    }
+}

@@ -1,0 +1,84 @@
+//! Laws on sources. Each is the contract of a function that does nothing.
+ghost use Rattle.std.specs.Prelude.{◌≡◌, ◌<◌, true, Bool, List, [], ◌∷◌, Some, None, length, map, Vec};
+ghost use Rattle.std.specs.Global.{Global};
+ghost use Rattle.std.specs.Borrow.{Bor};
+ghost use Rattle.std.specs.Iterator.{ActsAs};
+ghost use Rattle.ne_iter.specs.Calls.{Calls};
+ghost use Rattle.ne_iter.specs.Gives.{GivesList, ShowsList};
+
+use crate::array::NonEmptyArray;
+use crate::iter::{IntoNonEmptyIterator, NonEmptyIterator, Source};
+use ne_vec::{NESlice, NEVec, slice, vector};
+
+/// A source that gives at least one item never gives the empty list, whatever its type.
+pub fn no_list_is_empty<S: NonEmptyIterator>()
+    ensures { (source : S) (xs : List S.Item) → ⟦<S as Source>⟧.reads true source xs → 0 < length xs }
+{}
+
+/// Nor does what becomes one.
+pub fn no_list_becomes_empty<S: IntoNonEmptyIterator>()
+    ensures { (source : S) (xs : List S.Item) → ⟦<S as Source>⟧.reads true source xs → 0 < length xs }
+{}
+
+/// What becomes a source may itself give the lists that this source may give, and no others.
+pub fn lists_stay_the_same<S: IntoNonEmptyIterator>()
+    ensures there { (value : S) (whole : Bool) (xs : List S.Item) → ⟦<S as Source>⟧.reads whole value xs → (source : S.IntoNEIter) × S.into_nonempty_iter_gives value source × ⟦<S::IntoNEIter as Source>⟧.reads whole source xs }
+    ensures back { (value : S) (source : S.IntoNEIter) (whole : Bool) (xs : List S.Item) → S.into_nonempty_iter_gives value source → ⟦<S::IntoNEIter as Source>⟧.reads whole source xs → ⟦<S as Source>⟧.reads whole value xs }
+{}
+
+/// A closure that acts as a function answers the function's values, and stays as it is.
+pub fn calls_of_a_function<A, B, F: FnMut(A) -> B>(f: &F)
+    ensures { (h : A → B) (xs : List A) (ys : List B) (g : F) → ActsAs F.FnMut f.now h → Calls F.FnMut f.now xs ys g → (ys ≡ map h xs) × (g ≡ f.now) }
+{}
+
+/// A vector gives its items, by value and by reference.
+pub fn vectors_give_their_items<'a, T: Drop + 'a>()
+    ensures vector { (v : List T) → GivesList (⟦<NEVec<T> as Source>⟧.reads) v v }
+    ensures walk { (v : List T) → GivesList (⟦<vector::IntoIter<T> as Source>⟧.reads) v v }
+    ensures shown { (v : Bor (List T)) → ShowsList (⟦<&'a NEVec<T> as Source>⟧.reads) v v.now }
+    ensures shown_walk { (v : List T) → ShowsList (⟦<vector::Iter<'a, T> as Source>⟧.reads) v v }
+{}
+
+/// A slice shows its items.
+pub fn slices_show_their_items<'a, T: 'a>()
+    ensures slice { (s : List T) → ShowsList (⟦<NESlice<'a, T> as Source>⟧.reads) s s }
+    ensures walk { (s : List T) → ShowsList (⟦<slice::Iter<'a, T> as Source>⟧.reads) s s }
+{}
+
+/// Chunks are given in order.
+pub fn chunks_give_themselves<'a, T: 'a>()
+    ensures { (c : List (List T)) → GivesList (⟦<slice::NEChunks<'a, T> as Source>⟧.reads) c c }
+{}
+
+/// An array gives its items, by value and by reference.
+pub fn arrays_give_their_items<'a, T: Drop + 'a, const N: usize>()
+where
+    [T; N]: NonEmptyArray<N>,
+    ensures array { (a : List T) → GivesList (⟦<[T; N] as Source>⟧.reads) a a }
+    ensures shown { (a : Bor (List T)) → ShowsList (⟦<&'a [T; N] as Source>⟧.reads) a a.now }
+{}
+
+/// A vector of std gives its items, by value.
+pub fn std_vectors_give_their_items<T: Drop>()
+    ensures { (v : Vec T Global) → GivesList (⟦<Vec<T> as Source>⟧.reads) v v.items }
+{}
+
+/// A source whose iterator shows what it has left gives that and nothing else.
+///
+/// `left` is the list that an iterator has left: an item that comes was its first, and where none comes it is empty.
+pub fn sources_give_what_is_left<S: IntoIterator>()
+    ensures { (left : S.IntoIter → List S.Item)
+        → ((it rest : S.IntoIter) (x : S.Item) → S.IntoIter.next_gives it (Some x) rest → left it ≡ x ∷ left rest)
+        → ((it rest : S.IntoIter) → S.IntoIter.next_gives it None rest → left it ≡ [])
+        → (source : S) (xs : List S.Item) → ((it : S.IntoIter) → S.into_iter_gives source it → left it ≡ xs)
+        → GivesList (⟦<S as Source>⟧.reads) source xs }
+{}
+
+/// The same of a source of references: `left` is the list of what they show.
+pub fn sources_show_what_is_left<'a, T: 'a, S: IntoIterator<Item = &'a T>>()
+    ensures { (left : S.IntoIter → List T)
+        → ((it rest : S.IntoIter) (x : Bor T) → S.IntoIter.next_gives it (Some x) rest → left it ≡ x.now ∷ left rest)
+        → ((it rest : S.IntoIter) → S.IntoIter.next_gives it None rest → left it ≡ [])
+        → (source : S) (xs : List T) → ((it : S.IntoIter) → S.into_iter_gives source it → left it ≡ xs)
+        → ShowsList (⟦<S as Source>⟧.reads) source xs }
+{}

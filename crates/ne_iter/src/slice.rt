@@ -1,0 +1,50 @@
+//! Slices, their walks and their chunks as sources.
+
+use crate::iter::{IntoNonEmptyIterator, NonEmptyIterator};
+use ne_vec::{NESlice, slice};
+
+impl<'a, T> IntoNonEmptyIterator for NESlice<'a, T> {
+    ghost use Rattle.std.specs.Prelude.{◌≡◌};
+    ghost use Rattle.ne_iter.specs.SourceLaws.{SameLists-self};
+
+    type IntoNEIter = slice::Iter<'a, T>;
+
+    ghost into_nonempty_iter_gives = { λ v s. s ≡ v };
+
+    ghost same_lists = { SameLists-self (⟦<NESlice<'a, T> as IntoIterator>⟧.into_iter_gives) (⟦<std::slice::Iter<'a, T> as Iterator>⟧.next_gives) };
+
+    fn into_nonempty_iter(self) -> slice::Iter<'a, T> {
+        slice::Iter::from(self)
+    }
+}
+
+impl<'a, T> IntoNonEmptyIterator for &'a NESlice<'a, T> {
+    ghost use Rattle.std.specs.Prelude.{◌≡◌};
+    ghost use Rattle.std.proofs.Common.{refl, subst, sym};
+    ghost use Rattle.ne_iter.specs.SourceLaws.{SameLists-through};
+
+    type IntoNEIter = slice::Iter<'a, T>;
+
+    ghost into_nonempty_iter_gives = { λ v s. s ≡ v.now };
+
+    ghost same_lists = { SameLists-through (⟦<&'a NESlice<'a, T> as IntoIterator>⟧.into_iter_gives) (⟦<std::slice::Iter<'a, T> as Iterator>⟧.next_gives) (λ v s. s ≡ v.now) (⟦<slice::Iter<'a, T> as IntoIterator>⟧.into_iter_gives)
+        (λ v it made. (v.now, refl, made))
+        (λ v s it same made. subst (λ xs. ⟦<slice::Iter<'a, T> as IntoIterator>⟧.into_iter_gives xs it) same made) };
+
+    fn into_nonempty_iter(self) -> slice::Iter<'a, T> {
+        self.nonempty_iter()
+    }
+}
+
+impl<'a, T> NonEmptyIterator for slice::Iter<'a, T> {
+    ghost use Rattle.ne_iter.specs.Walks.{HasFirst-walk};
+
+    ghost not_empty = { λ s it made. HasFirst-walk s it made };
+}
+
+impl<'a, T> NonEmptyIterator for slice::NEChunks<'a, T> {
+    ghost use Rattle.std.proofs.Common.{arith, ap};
+    ghost use Rattle.ne_iter.specs.Walks.{HasFirst-chunks};
+
+    ghost not_empty = { λ s it made. HasFirst-chunks s it made };
+}

@@ -1,0 +1,75 @@
+//! Vectors as sources, and collecting into them.
+
+use crate::iter::{FromNonEmptyIterator, IntoNonEmptyIterator, NonEmptyIterator};
+use ne_vec::{NEVec, vector};
+use std::alloc::{AllocError, Global};
+use std::{slice, vec};
+
+impl<T: Drop> FromNonEmptyIterator<T> for NEVec<T> {
+    ghost use Rattle.std.specs.Prelude.{◌≡◌};
+
+    ghost collected = { λ xs v. v ≡ xs };
+
+    fn from_nonempty_iter<I: IntoNonEmptyIterator<Item = T>>(
+        alloc: Global,
+        iter: I,
+    ) -> Result<NEVec<T>, AllocError> {
+        let items: Vec<T> = iter.into_nonempty_iter().into_iter().collect(alloc)?;
+        match NEVec::try_from_vec(items) {
+            Some(v) => Ok(v),
+            None => unreachable!(),
+        }
+    }
+}
+
+impl<'a, T> NonEmptyIterator for vector::Iter<'a, T> {
+    ghost use Rattle.std.proofs.Common.{arith, ap};
+    ghost use Rattle.ne_iter.specs.Walks.{HasFirst-walk};
+
+    ghost not_empty = { λ s it made. HasFirst-walk s it made };
+}
+
+impl<'a, T> NonEmptyIterator for vector::IterMut<'a, T> {
+    ghost use Rattle.ne_iter.specs.Walks.{HasFirst-walk_mut};
+
+    ghost not_empty = { λ s it made. HasFirst-walk_mut it made.0 };
+}
+
+impl<T: Drop> NonEmptyIterator for vector::IntoIter<T> {
+    ghost use Rattle.ne_iter.specs.Walks.{HasFirst-walk_out};
+
+    ghost not_empty = { λ s it made. HasFirst-walk_out s it made };
+}
+
+impl<T: Drop> IntoNonEmptyIterator for NEVec<T> {
+    ghost use Rattle.std.specs.Prelude.{◌≡◌};
+    ghost use Rattle.ne_iter.specs.SourceLaws.{SameLists-self};
+
+    type IntoNEIter = vector::IntoIter<T>;
+
+    ghost into_nonempty_iter_gives = { λ v s. s ≡ v };
+
+    ghost same_lists = { SameLists-self (⟦<NEVec<T> as IntoIterator>⟧.into_iter_gives) (⟦<vec::IntoIter<T> as Iterator>⟧.next_gives) };
+
+    fn into_nonempty_iter(self) -> vector::IntoIter<T> {
+        vector::IntoIter::from(self)
+    }
+}
+
+impl<'a, T> IntoNonEmptyIterator for &'a NEVec<T> {
+    ghost use Rattle.std.specs.Prelude.{◌≡◌};
+    ghost use Rattle.std.proofs.Common.{refl, subst, sym};
+    ghost use Rattle.ne_iter.specs.SourceLaws.{SameLists-through};
+
+    type IntoNEIter = vector::Iter<'a, T>;
+
+    ghost into_nonempty_iter_gives = { λ v s. s ≡ v.now };
+
+    ghost same_lists = { SameLists-through (⟦<&'a NEVec<T> as IntoIterator>⟧.into_iter_gives) (⟦<slice::Iter<'a, T> as Iterator>⟧.next_gives) (λ v s. s ≡ v.now) (⟦<vector::Iter<'a, T> as IntoIterator>⟧.into_iter_gives)
+        (λ v it made. (v.now, refl, made))
+        (λ v s it same made. subst (λ xs. ⟦<vector::Iter<'a, T> as IntoIterator>⟧.into_iter_gives xs it) same made) };
+
+    fn into_nonempty_iter(self) -> vector::Iter<'a, T> {
+        self.nonempty_iter()
+    }
+}

@@ -1,0 +1,85 @@
+//! The calls of sources. Those that take memory drop what they took where more of it is refused; the others take none.
+
+use super::{Countdown, gives, tell};
+use nonempty_collections::iter::once;
+use nonempty_collections::{IntoNonEmptyIterator, NEVec, NonEmptyArrayExt, NonEmptyIterator};
+use std::alloc::AllocError;
+use std::convert::AsSlice;
+use std::test::Fail;
+
+// The vector grows twice, for the first item and for the fifth.
+#[test]
+fn collect(rt: HostRuntime) -> Result<(), Fail> {
+    let source = once(5).chain(Countdown(5));
+    let answer: Result<NEVec<u32>, AllocError> = source.collect(rt.alloc());
+    let call = "NonEmptyIterator::collect";
+    gives(&rt, call, answer, &[5, 4, 3, 2, 1, 0])
+}
+
+// Twenty-one items: the vector grows four times, and the sort takes memory too. Of two with one key the greater is first.
+#[test]
+fn sorted_by_key(rt: HostRuntime) -> Result<(), Fail> {
+    let source = once(20).chain(Countdown(20));
+    let sorted = source.sorted_by_key(rt.alloc(), |x| *x / 2);
+    let call = "NonEmptyIterator::sorted_by_key";
+    let Ok(sorted) = sorted else {
+        return tell(&rt, "refused", call);
+    };
+    let by_halves = [
+        1, 0, 3, 2, 5, 4, 7, 6, 9, 8, 11, 10, 13, 12, 15, 14, 17, 16, 19, 18, 20,
+    ];
+    let items: Vec<u32> = sorted.into_iter().collect(rt.alloc())?;
+    assert_eq!(rt; items.as_slice(), by_halves.as_slice());
+    tell(&rt, "made", call)
+}
+
+// Each of the two vectors is made of the first item, and grows for the fifth.
+#[test]
+fn unzip(rt: HostRuntime) -> Result<(), Fail> {
+    let source = [(1u32, 6u32), (2, 7), (3, 8), (4, 9), (5, 10)].into_nonempty_iter();
+    let answer: Result<(NEVec<u32>, NEVec<u32>), AllocError> = source.unzip(rt.alloc());
+    let call = "NonEmptyIterator::unzip";
+    let Ok((firsts, seconds)) = answer else {
+        return tell(&rt, "refused", call);
+    };
+    assert_eq!(rt;
+        (firsts.as_slice(), seconds.as_slice()),
+        ([1, 2, 3, 4, 5].as_slice(), [6, 7, 8, 9, 10].as_slice())
+    );
+    tell(&rt, "made", call)
+}
+
+#[test]
+fn into_nonempty_vec(rt: HostRuntime) -> Result<(), Fail> {
+    let answer = [1, 2, 3].into_nonempty_vec(rt.alloc());
+    gives(
+        &rt,
+        "NonEmptyArrayExt::into_nonempty_vec",
+        answer,
+        &[1, 2, 3],
+    )
+}
+
+// A tower of what takes no memory, used up.
+fn greatest() -> (usize, u32) {
+    let tower = [1u32, 2, 3]
+        .into_nonempty_iter()
+        .peekable()
+        .map(|x| x.wrapping_mul(2))
+        .chain(once(9))
+        .enumerate()
+        .flat_map(|p| [p, p])
+        .zip([7u32; 8]);
+    tower.max().0
+}
+
+// The first request of this test is that of its call, which the gate wants: what stands before takes no memory.
+#[test]
+fn none_taken_before(rt: HostRuntime) -> Result<(), Fail> {
+    let (place, item) = greatest();
+    assert_eq!(rt; (place, item), (3, 9));
+    let few = [5u32, 6, 7].into_nonempty_iter().skip_while(|x| *x < 6);
+    assert_eq!(rt; few.fold(0u32, |total, x| total.wrapping_add(x)), 13);
+    let answer = NEVec::new(rt.alloc(), item);
+    gives(&rt, "NEVec::new behind a chain", answer, &[9])
+}

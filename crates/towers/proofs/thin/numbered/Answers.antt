@@ -1,0 +1,29 @@
+use Rattle.std.proofs.Common.{subst, ap, ◌∙◌, length, ltb, ◌&&◌, ◌≤◌}
+use Rattle.std.specs.Int.NonZero.{non_zero_usize_get}
+use Rattle.std.specs.List.{enumerate_from}
+use Rattle.std.proofs.lemmas.List.FromFn.{length-enumerate_from}
+use Rattle.std.proofs.lemmas.Result.{IfOk-weaker}
+use Rattle.towers.proofs.thin.numbered.Goals as goal
+
+-- What was collected, back through the adapters to the two sources.
+pub returns : goal.returns
+returns g c = IfOk-weaker c.collect.result _ _ (λ v h.
+    let complete = g.B.FromNonEmptyIterator.is_complete v in
+    let n = non_zero_usize_get c.args.n in
+    let taken = c.take.ensures.gives complete h.0 h.1 in
+    let counted = c.enumerate.ensures.gives _ h.0 taken.0 in
+    let chained = c.chain.ensures.gives _ counted.0 counted.1 in
+    let mapped = c.map.ensures.gives _ chained.0 chained.2 in
+    let long = ap length counted.2 ∙ length-enumerate_from 0 counted.0 ∙ ap length chained.4 in (
+      mapped.0,
+      chained.0,
+      chained.1,
+      mapped.1,
+      _,
+      mapped.2,
+      mapped.3,
+      chained.3,
+      ap (λ len. complete && ltb len n) long,
+      subst (λ len. len ≤ n) long taken.1,
+      subst (λ ws. g.B.FromNonEmptyIterator.collected ws v) (counted.2 ∙ ap (λ l. enumerate_from 0 l) chained.4) h.2,
+    )) c.collect.ensures
