@@ -1,7 +1,11 @@
 -- One call of an iterator that clones what references show.
-use Rattle.std.specs.Prelude.{◌≡◌, Option, None, Result, MatchOption, IsSomeAnd, IfOk}
+use Rattle.std.specs.Prelude.{◌≡◌, Option, None, Result, MatchOption, MatchResult, IsSomeAnd}
 use Rattle.std.specs.Borrow.{Bor}
 
--- From s came the end, and so it is answered; or a reference, and its clone is answered, or that the clone was refused.
-abbrev pub ClonesNext : {S T E : Type 0} → (S → Option (Bor T) → S → Type 0) → (T → T → Type 0) → S → Option (Result T E) → S → Type 0
-ClonesNext {T = T} steps clones s r t = (o : Option (Bor T)) × steps s o t × MatchOption o (r ≡ None) (λ x. IsSomeAnd r (λ c. IfOk c (clones x.now)))
+-- What may come of cloning x: a clone of it, or that it was refused, which is where a clone of x can be.
+abbrev pub TriesClone : {T E : Type 0} → (T → T → Type 0) → (T → Type 0) → T → Result T E → Type 0
+TriesClone clones infallible x r = MatchResult r (clones x) (λ _. infallible x → ⊥)
+
+-- From s came the end, and so it is answered; or a reference, and what came of cloning what it shows is answered.
+abbrev pub ClonesNext : {S T R : Type 0} → (S → Option (Bor T) → S → Type 0) → (T → R → Type 0) → S → Option R → S → Type 0
+ClonesNext {T = T} steps tries s r t = (o : Option (Bor T)) × steps s o t × MatchOption o (r ≡ None) (λ x. IsSomeAnd r (tries x.now))

@@ -1,7 +1,7 @@
 -- What each adapter gives, by what its source gives.
 -- A source is named by what it reads: `reads whole u xs` says that u may give the items xs first, and where whole is true may then
 -- end. So each word below speaks of every list that an adapter may have given so far, and of every list that it may give to its end.
-use Rattle.std.specs.Prelude.{◌≡◌, ℕ, ◌≤◌, Bool, true, false, ◌||◌, ◌&&◌, ltb, List, [], ◌∷◌, ◌++◌, length, zip, ⊤, Option, map, IsTrue, Result, IfOk, drop, filter, filter_map}
+use Rattle.std.specs.Prelude.{◌≡◌, ℕ, ◌≤◌, Bool, true, false, ◌||◌, ◌&&◌, ltb, List, [], ◌∷◌, ◌++◌, length, zip, ⊤, Option, map, IsTrue, drop, filter, filter_map}
 use Rattle.std.specs.List.{AllZip, enumerate_from}
 use Rattle.std.specs.Fn.{Mut, CalledAt}
 use Rattle.std.specs.Borrow.{Bor}
@@ -94,7 +94,7 @@ module _ {U V T : Type 0} (reads : Bool → U → List (Bor T) → Type 0) where
   CopiedGives copied source result = (whole : Bool) (ys : List T) → copied whole result ys
       → (xs : List (Bor T)) × reads whole source xs × (ys ≡ map (λ x. x.now) xs)
 
-  -- `cloned`: for each reference a clone of what it shows, or an error in its place.
-  abbrev pub ClonedGives : {E : Type 0} → (T → T → Type 0) → (Bool → V → List (Result T E) → Type 0) → U → V → Type 0
-  ClonedGives {E} clones cloned source result = (whole : Bool) (ys : List (Result T E)) → cloned whole result ys
-      → (xs : List (Bor T)) × reads whole source xs × AllZip (λ x r. IfOk r (clones x.now)) xs ys
+  -- `cloned`: for each reference what came of cloning what it shows.
+  abbrev pub ClonedGives : {R : Type 0} → (T → R → Type 0) → (Bool → V → List R → Type 0) → U → V → Type 0
+  ClonedGives {R} tries cloned source result = (whole : Bool) (ys : List R) → cloned whole result ys
+      → (xs : List (Bor T)) × reads whole source xs × AllZip (λ x r. tries x.now r) xs ys

@@ -1,6 +1,6 @@
 -- An iterator that was looked ahead in, and has an item.
 use Rattle.std.proofs.Common.{rules}
-use Rattle.std.specs.Prelude.{◌≡◌, Option, None, Some, MatchOption, List, [], ◌∷◌, Bool, true, false}
+use Rattle.std.specs.Prelude.{◌≡◌, Option, None, Some, MatchOption, IfSome, List, [], ◌∷◌, Bool, true, false}
 use Rattle.std.specs.Iterator.Adapters.{peekable_source, peekable_peeked, peekable_steps}
 use Rattle.std.specs.declared.iter.Ahead.{Ahead}
 use Rattle.ne_iter.specs.Sources.{HasFirst}
@@ -28,3 +28,7 @@ HasFirst-looked steps s h t ended = not_none steps s t (peekable_peeked s) h end
 abbrev pub LooksWhole : {U V A : Type 0} → (Bool → U → List A → Type 0) → (Bool → V → List A → Type 0) → U → Option V → Type 0
 LooksWhole {A = A} reads looked source result = MatchOption result (reads true source [])
     (λ v. ((x : A) × reads false source (x ∷ [])) × ((whole : Bool) (xs : List A) → looked whole v xs → reads whole source xs))
+
+-- Where the source may be called until it ends, so may what is given.
+abbrev pub LooksOn : {U V : Type 0} → (U → Type 0) → (V → Type 0) → U → Option V → Type 0
+LooksOn runs runs_looked source result = runs source → IfSome result runs_looked

@@ -1,6 +1,6 @@
 -- Proofs of the laws of sources, which the impls cite.
 use Rattle.std.proofs.Common.{rules, arith, subst, sym, inl, inr}
-use Rattle.std.specs.Prelude.{length, ◌<◌, Bool, true, false, List, Option, Some, None, refl, MatchBool, MatchOption, [], ◌∷◌, OnSome, Result, IfOk, IsSomeAnd, ◌≡◌}
+use Rattle.std.specs.Prelude.{length, ◌<◌, Bool, true, false, List, Option, Some, None, refl, MatchBool, MatchOption, [], ◌∷◌, OnSome, IsSomeAnd, ◌≡◌}
 use Rattle.std.specs.Iterator.Adapters.{once_item, once_steps, chain_first, chain_second, chain_first_done, chain_steps, SecondAnswers, zip_first, zip_second, zip_steps, flatten_source, flatten_front, flatten_done, flatten_steps, TakesNextInner}
 use Rattle.std.specs.Iterator.{YieldsThen}
 use Rattle.std.specs.List.{FoldsTo}
@@ -101,7 +101,7 @@ module _ {S T : Type 0} (steps : S → Option (Bor T) → S → Type 0) where
   none_copied s t None h e = h
   none_copied s t (Some x) h e = let e = e in search rules
 
-  pub none_cloned : (E : Type 0) (clones : T → T → Type 0) (s t : S) (o : Option (Bor T)) → steps s o t
-      → MatchOption o (◌≡◌ {A = Option (Result T E)} None None) (λ x. IsSomeAnd {T = Result T E} None (λ c. IfOk c (clones x.now))) → steps s None t
-  none_cloned E clones s t None h e = h
-  none_cloned E clones s t (Some x) h e = absurd e
+  pub none_cloned : (R : Type 0) (tries : T → R → Type 0) (s t : S) (o : Option (Bor T)) → steps s o t
+      → MatchOption o (◌≡◌ {A = Option R} None None) (λ x. IsSomeAnd {T = R} None (tries x.now)) → steps s None t
+  none_cloned R tries s t None h e = h
+  none_cloned R tries s t (Some x) h e = absurd e

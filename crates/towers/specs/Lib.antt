@@ -1,1 +1,4 @@
 pub mod Thin
+pub mod Own
+pub mod OwnLaws
+pub mod Wide

@@ -3,6 +3,10 @@
 //! This crate is no part of the library. It stands for a user's: what is proved here, a user of the library can prove.
 #![tactic(auto)]
 
+mod own;
 mod thin;
+mod wide;
 
+pub use own::{Boxed, Countdown, CountdownIter, Stack, StackIntoIter, StackIter, Start};
 pub use thin::{numbered, numbered_halves};
+pub use wide::{parted, spread};

@@ -28,9 +28,10 @@ impl<'a, T: Clone + 'a, I: NonEmptyIterator<Item = &'a T>> IntoIterator for Clon
 
 impl<'a, T: Clone + 'a, I: NonEmptyIterator<Item = &'a T>> NonEmptyIterator for Cloned<I> {
     ghost use Rattle.ne_iter.specs.Parts.{source_of_cloned, iterator_of_cloned};
+    ghost use Rattle.ne_iter.specs.Clones.{TriesClone};
     ghost use Rattle.ne_iter.specs.SourceLaws.{none_cloned};
 
-    ghost not_empty = { λ s it made t ended. I.not_empty (source_of_cloned s) (iterator_of_cloned it) made (iterator_of_cloned t) (none_cloned I.IntoIter.next_gives _ T.is_clone (iterator_of_cloned it) (iterator_of_cloned t) ended.0 ended.1 ended.2) };
+    ghost not_empty = { λ s it made t ended. I.not_empty (source_of_cloned s) (iterator_of_cloned it) made (iterator_of_cloned t) (none_cloned I.IntoIter.next_gives _ (TriesClone T.is_clone T.is_infallible) (iterator_of_cloned it) (iterator_of_cloned t) ended.0 ended.1 ended.2) };
 }
 
 /// The iterator of a [`Cloned`]: for each reference a clone of what it shows, or an `Err` where that clone was refused.
@@ -43,13 +44,13 @@ pub struct ClonedIter<I> {
 
 impl<'a, T: Clone + 'a, I: Iterator<Item = &'a T>> Iterator for ClonedIter<I> {
     ghost use Rattle.ne_iter.specs.Parts.{iterator_of_cloned};
-    ghost use Rattle.ne_iter.specs.Clones.{ClonesNext};
+    ghost use Rattle.ne_iter.specs.Clones.{ClonesNext, TriesClone};
 
     type Item = Result<T, AllocError>;
 
     ghost can_next = { λ s. I.can_next (iterator_of_cloned s) };
 
-    ghost next_gives = { λ s r t. ClonesNext I.next_gives T.is_clone (iterator_of_cloned s) r (iterator_of_cloned t) };
+    ghost next_gives = { λ s r t. ClonesNext I.next_gives (TriesClone T.is_clone T.is_infallible) (iterator_of_cloned s) r (iterator_of_cloned t) };
 
     ghost remaining = { λ s. I.remaining (iterator_of_cloned s) };
 

@@ -1,6 +1,7 @@
 //! Any iterator, where it has an item.
 ghost use Rattle.std.specs.Prelude.{◌≡◌, Bool, Option, true};
-ghost use Rattle.ne_iter.specs.Looked.{has_looked, LooksWhole, HasFirst-looked};
+ghost use Rattle.ne_iter.specs.Looked.{has_looked, LooksWhole, LooksOn, HasFirst-looked};
+ghost use Rattle.std.specs.Iterator.{IsFiniteIterable};
 
 use super::{NonEmptyIterator, Source};
 use std::iter;
@@ -55,11 +56,14 @@ pub trait IntoIteratorExt {
 
     ghost looks: { Self → Option Self.IntoIter → Type 0 };
 
+    ghost looks_on: { Self → Option Self.IntoIter → Type 0 };
+
     /// Draws the first item, to see whether there is one: `None` exactly where there is none. What it gives has all items, with the
     /// one that was drawn.
     fn try_into_nonempty_iter(self) -> Option<Self::IntoIter>
         requires { can_look self }
-        ensures { looks self result };
+        ensures looks { looks self result }
+        ensures looks_on { looks_on self result };
 }
 
 impl<T: IntoIterator> IntoIteratorExt for T
@@ -74,6 +78,8 @@ where
     ghost can_look = { λ s. (it : T.IntoIter) → T.into_iter_gives s it → T.IntoIter.can_next it };
 
     ghost looks = { LooksWhole (⟦<T as Source>⟧.reads) (⟦<NonEmptyIterAdapter<iter::Peekable<T::IntoIter>> as Source>⟧.reads) };
+
+    ghost looks_on = { LooksOn (IsFiniteIterable T.into_iter_gives T.IntoIter.can_next T.IntoIter.remaining) (IsFiniteIterable (⟦<NonEmptyIterAdapter<iter::Peekable<T::IntoIter>> as IntoIterator>⟧.into_iter_gives) (⟦<iter::Peekable<T::IntoIter> as Iterator>⟧.can_next) (⟦<iter::Peekable<T::IntoIter> as Iterator>⟧.remaining)) };
 
     fn try_into_nonempty_iter(self) -> Option<NonEmptyIterAdapter<iter::Peekable<T::IntoIter>>> {
         let mut iter = self.into_iter().peekable();

@@ -7,6 +7,7 @@ ghost use Rattle.std.specs.Int.NonZero.{non_zero_usize_get};
 ghost use Rattle.std.specs.List.Sorted.{IsSortedByKeyClosure, IsStableByKeyClosure};
 ghost use Rattle.ne_iter.specs.Sources.{IsNonEmpty, FirstAndRest};
 ghost use Rattle.ne_iter.specs.Calls.{ShownEach};
+ghost use Rattle.ne_iter.specs.Clones.{TriesClone};
 ghost use Rattle.ne_iter.specs.Parts.{source_of_map, closure_of_map, source_of_enumerate, source_of_take, count_of_take, first_of_chain, second_of_chain, first_of_zip, second_of_zip, source_of_cloned, source_of_copied, source_of_flat_map, closure_of_flat_map};
 ghost use Rattle.ne_iter.specs.Gives.{MapGives, EnumerateGives, TakeGives, ChainGives, ZipGives, FlatMapGives, CopiedGives, ClonedGives, FilterGives, FilterMapGives, SkipGives, SkipWhileGives, TakeWhileGives};
 ghost use Rattle.ne_iter.specs.Peeks.{peekable_first, peekable_rest, PeekableGives};
@@ -101,7 +102,7 @@ pub trait NonEmptyIterator: IntoIterator {
     where
         Self: Sized + IntoIterator<Item = &'a T>,
         ensures holds { source_of_cloned result ≡ self }
-        ensures gives { ClonedGives (⟦<Self as Source>⟧.reads) T.is_clone (⟦<Cloned<Self> as Source>⟧.reads) self result }
+        ensures gives { ClonedGives (⟦<Self as Source>⟧.reads) (TriesClone T.is_clone T.is_infallible) (⟦<Cloned<Self> as Source>⟧.reads) self result }
     {
         Cloned { iter: self }
     }

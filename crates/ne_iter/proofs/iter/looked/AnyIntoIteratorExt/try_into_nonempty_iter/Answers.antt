@@ -1,13 +1,13 @@
-use Rattle.std.proofs.Common.{refl, sym, ◌∙◌}
-use Rattle.std.specs.Iterator.Adapters.{peekable_source}
+use Rattle.std.proofs.Common.{rules, refl, sym, subst, ◌∙◌}
+use Rattle.std.specs.Iterator.Adapters.{peekable_source, peekable_can}
+use Rattle.std.specs.Iterator.{IsFinite}
 use Rattle.std.specs.Prelude.{◌≡◌, true}
 use Rattle.ne_iter.proofs.LookedRuns.{looked, reads_looked, found}
 use Rattle.ne_iter.specs.Looked.{has_looked}
-use Rattle.std.proofs.Common.{rules}
 use Rattle.ne_iter.proofs.iter.looked.AnyIntoIteratorExt.try_into_nonempty_iter.Goals as goal
 
-pub returns-then-is_some : goal.returns-then-is_some
-returns-then-is_some g c =
+pub returns-then-is_some-clause-looks : goal.returns-then-is_some-clause-looks
+returns-then-is_some-clause-looks g c =
     let steps = g.T.IntoIter.Iterator.next_gives in
     let v = c.peek.follows.lender-at-none in
     let full : has_looked v ≡ true = found _ c.peek.result c.peek.follows.holds-at-none.2 (sym c.is_some.ensures ∙ c.if-is_some.true) in
@@ -19,3 +19,11 @@ returns-then-is_some g c =
         given = reads_looked steps c.into_iter.result v r.it xs r.made.0 h full r.given;
       },
     )
+
+pub returns-then-is_some-clause-looks_on : goal.returns-then-is_some-clause-looks_on
+returns-then-is_some-clause-looks_on g c finite it made =
+    let steps = g.T.IntoIter.Iterator in
+    let ends = (finite c.into_iter.result c.into_iter.ensures.into_iter_gives).1 in
+    let peeked = c.peek.follows.holds-at-none.1 in
+    let left = peeked.on (subst (λ q. IsFinite (steps.remaining q)) (sym c.peekable-iter.ensures.source) ends) in
+    subst (λ q. peekable_can steps.can_next q × IsFinite (steps.remaining (peekable_source q))) (sym made.0) (peeked.keeps, left.0)

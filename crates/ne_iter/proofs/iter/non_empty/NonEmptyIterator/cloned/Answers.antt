@@ -1,8 +1,9 @@
 use Rattle.std.proofs.Common.{◌≡◌, true}
+use Rattle.ne_iter.specs.Clones.{TriesClone}
 use Rattle.ne_iter.proofs.CopiedRuns.{DrainsIf-cloned}
 use Rattle.ne_iter.proofs.iter.non_empty.NonEmptyIterator.cloned.Goals as goal
 
 pub returns-clause-gives : goal.returns-clause-gives
 returns-clause-gives g c whole ys h =
-    let p = DrainsIf-cloned (whole ≡ true) g.Self.IntoIter.Iterator.next_gives g.T.Clone.is_clone h.it ys h.given in
+    let p = DrainsIf-cloned (whole ≡ true) g.Self.IntoIter.Iterator.next_gives (TriesClone g.T.Clone.is_clone g.T.Clone.is_infallible) h.it ys h.given in
     (p.0, record { it = h.it.iter; made = h.made; given = p.1 }, p.2)

@@ -1,0 +1,33 @@
+use Rattle.std.proofs.Common.{subst, sym, ap, ◌∙◌, length, map, ◌<◌, ◌≤◌, true}
+use Rattle.std.specs.Int.NonZero.{non_zero_usize_get}
+use Rattle.std.proofs.lemmas.Result.{IfOk-weaker}
+use Rattle.std.proofs.lemmas.Slice.Zip.{firsts-zip, seconds-zip}
+use Rattle.std.proofs.lemmas.List.{length-map}
+use Rattle.towers.proofs.Fronts.{below_true}
+use Rattle.towers.proofs.wide.parted.Goals as goal
+
+-- The two collections, back through the adapters to the two sources.
+pub returns : goal.returns
+returns g c = IfOk-weaker c.unzip.result _ _ (λ r h.
+    let n = non_zero_usize_get c.args.n in
+    let taken = c.take.ensures.gives true h.0 h.1 in
+    let zipped = c.zip.ensures.gives _ h.0 taken.0 in
+    let mapped = c.map.ensures.gives _ zipped.0 zipped.4 in
+    let firsts = ap (λ l. map (λ p. p.0) l) zipped.6 ∙ firsts-zip zipped.0 zipped.1 (sym zipped.7) in
+    let seconds = ap (λ l. map (λ p. p.1) l) zipped.6 ∙ seconds-zip zipped.0 zipped.1 (sym zipped.7) in
+    let long = sym (length-map h.0 (λ p. p.1)) ∙ ap length seconds in (
+      mapped.0,
+      zipped.0,
+      zipped.1,
+      mapped.1,
+      zipped.2,
+      zipped.3,
+      mapped.2,
+      mapped.3,
+      zipped.5,
+      zipped.7,
+      subst (λ len. len ≤ n) long taken.1,
+      (λ less. zipped.8 (below_true (length h.0) n (subst (λ len. len < n) (sym long) less))),
+      subst (λ l. g.R.Singleton.collected l r.0) firsts h.2,
+      subst (λ l. g.Q.Singleton.collected l r.1) seconds h.3,
+    )) c.unzip.ensures

@@ -1,0 +1,70 @@
+//! Towers over inner sources and over two sources, into one collection and into two.
+ghost use Rattle.std.specs.Prelude.{◌^◌, ◌<◌, IfOk};
+ghost use Rattle.std.specs.Iterator.{IsFinite, IsFiniteIterable, CallableOnAll, size};
+ghost use Rattle.std.specs.Int.NonZero.{non_zero_usize_get};
+ghost use Rattle.towers.specs.Wide.{IsSpread, IsSpreadOfPairs, IsParted};
+
+use nonempty_collections::iter::{FromNonEmptyIterator, NonEmptyIterator, Source};
+use nonempty_collections::{IntoNonEmptyIterator, Singleton};
+use std::alloc::{AllocError, Global};
+use std::num::NonZeroUsize;
+
+/// The items of what `f` answers on the items of `source`, with their places: the first `n` of them, collected. The first item is looked
+/// at on the way.
+pub fn spread<
+    U: Drop,
+    W: IntoNonEmptyIterator<Item = U>,
+    S: NonEmptyIterator,
+    F: FnMut(S::Item) -> W,
+    B: FromNonEmptyIterator<(usize, U)>,
+>(alloc: Global, source: S, f: F, n: NonZeroUsize) -> Result<B, AllocError>
+    requires runs { IsFiniteIterable S.into_iter_gives S.IntoIter.can_next S.IntoIter.remaining source }
+    requires callable { (it : S.IntoIter) → S.into_iter_gives source it → CallableOnAll S.IntoIter.next_gives F.FnMut it f }
+    requires inner_runs { (inner : W) (it : W.IntoIter) → W.into_iter_gives inner it → W.IntoIter.can_next it × IsFinite (W.IntoIter.remaining it) × (size (W.IntoIter.remaining it) < 2 ^ 64) }
+    ensures { IfOk result (IsSpread (⟦<S as Source>⟧.reads) F.FnMut (⟦<W as Source>⟧.reads) B.is_complete B.collected source f (non_zero_usize_get n)) }
+{
+    source
+        .flat_map(f)
+        .peekable()
+        .take(n)
+        .enumerate()
+        .collect(alloc)
+}
+
+/// The same over the pairs of two sources.
+pub fn spread_pairs<
+    U: Drop,
+    W: IntoNonEmptyIterator<Item = U>,
+    S: NonEmptyIterator,
+    O: IntoNonEmptyIterator,
+    F: FnMut((S::Item, O::Item)) -> W,
+    B: FromNonEmptyIterator<(usize, U)>,
+>(alloc: Global, source: S, other: O, f: F, n: NonZeroUsize) -> Result<B, AllocError>
+where
+    S::Item: Drop,
+    requires runs { IsFiniteIterable S.into_iter_gives S.IntoIter.can_next S.IntoIter.remaining source }
+    requires other_runs { IsFiniteIterable O.into_iter_gives O.IntoIter.can_next O.IntoIter.remaining other }
+    requires callable { F.IsAlwaysCallable f }
+    requires inner_runs { (inner : W) (it : W.IntoIter) → W.into_iter_gives inner it → W.IntoIter.can_next it × IsFinite (W.IntoIter.remaining it) × (size (W.IntoIter.remaining it) < 2 ^ 64) }
+    ensures { IfOk result (IsSpreadOfPairs (⟦<S as Source>⟧.reads) (⟦<O as Source>⟧.reads) F.FnMut (⟦<W as Source>⟧.reads) B.is_complete B.collected source other f (non_zero_usize_get n)) }
+{
+    spread(alloc, source.zip(other), f, n)
+}
+
+/// The answers of `f` on the items of `source` in pairs with the items of `other`: the first `n` of them, parted into two collections.
+pub fn parted<
+    U: Drop,
+    D: Drop,
+    S: NonEmptyIterator,
+    F: FnMut(S::Item) -> U,
+    O: IntoNonEmptyIterator<Item = D>,
+    R: Singleton<Item = U> + Drop,
+    Q: Singleton<Item = D> + Drop,
+>(alloc: Global, source: S, f: F, other: O, n: NonZeroUsize) -> Result<(R, Q), AllocError>
+    requires runs { IsFiniteIterable S.into_iter_gives S.IntoIter.can_next S.IntoIter.remaining source }
+    requires other_runs { IsFiniteIterable O.into_iter_gives O.IntoIter.can_next O.IntoIter.remaining other }
+    requires callable { (it : S.IntoIter) → S.into_iter_gives source it → CallableOnAll S.IntoIter.next_gives F.FnMut it f }
+    ensures { IfOk result (IsParted (⟦<S as Source>⟧.reads) F.FnMut (⟦<O as Source>⟧.reads) R.collected Q.collected source f other (non_zero_usize_get n)) }
+{
+    source.map(f).zip(other).take(n).unzip(alloc)
+}
