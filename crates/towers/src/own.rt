@@ -5,7 +5,7 @@ ghost use Rattle.std.specs.Prelude.{◌≡◌, ◌<◌, List, [], ◌∷◌, len
 ghost use Rattle.std.specs.Iterator.{YieldsFirst, YieldsFirstRef, item_count};
 ghost use Rattle.std.specs.Int.NonZero.{non_zero_u32_get};
 ghost use Rattle.std.specs.Box.{box_value};
-ghost use Rattle.towers.specs.Own.{counted_down};
+ghost use Rattle.towers.specs.Own.{counted_down, numbers_of};
 
 use nonempty_collections::{IntoNonEmptyIterator, NonEmptyIterator};
 use std::alloc::{AllocError, Global};

@@ -1,11 +1,15 @@
 //! Towers over inner sources and over two sources, into one collection and into two.
-ghost use Rattle.std.specs.Prelude.{◌^◌, ◌<◌, IfOk};
+ghost use Rattle.std.specs.Prelude.{◌≡◌, ◌^◌, ◌<◌, ◌∷◌, [], IfOk, flat_map, take};
 ghost use Rattle.std.specs.Iterator.{IsFinite, IsFiniteIterable, CallableOnAll, size};
 ghost use Rattle.std.specs.Int.NonZero.{non_zero_usize_get};
+ghost use Rattle.std.specs.List.{enumerate_from};
+ghost use Rattle.towers.specs.Own.{numbers_of};
 ghost use Rattle.towers.specs.Wide.{IsSpread, IsSpreadOfPairs, IsParted};
 
+use crate::Countdown;
+use ne_iter::laws::{arrays_give_their_items, calls_of_a_function, sources_give_what_is_left};
 use nonempty_collections::iter::{FromNonEmptyIterator, NonEmptyIterator, Source};
-use nonempty_collections::{IntoNonEmptyIterator, Singleton};
+use nonempty_collections::{IntoNonEmptyIterator, NEVec, Singleton};
 use std::alloc::{AllocError, Global};
 use std::num::NonZeroUsize;
 
@@ -49,6 +53,25 @@ where
     ensures { IfOk result (IsSpreadOfPairs (⟦<S as Source>⟧.reads) (⟦<O as Source>⟧.reads) F.FnMut (⟦<W as Source>⟧.reads) B.is_complete B.collected source other f (non_zero_usize_get n)) }
 {
     spread(alloc, source.zip(other), f, n)
+}
+
+/// The numbers of a countdown, each twice: its list is written out.
+pub fn spread_countdown(
+    alloc: Global,
+    source: Countdown,
+    n: NonZeroUsize,
+) -> Result<NEVec<(usize, u32)>, AllocError>
+    ensures { IfOk result (λ v. v ≡ take (non_zero_usize_get n) (enumerate_from 0 (flat_map (λ x. x ∷ x ∷ []) (numbers_of source)))) }
+{
+    let twice = |x: u32| -> [u32; 2]
+        ensures { result ≡ x ∷ x ∷ [] }
+    {
+        [x, x]
+    };
+    arrays_give_their_items::<u32, 2>();
+    sources_give_what_is_left::<Countdown>();
+    calls_of_a_function(&twice);
+    spread(alloc, source, twice, n)
 }
 
 /// The answers of `f` on the items of `source` in pairs with the items of `other`: the first `n` of them, parted into two collections.
