@@ -9,9 +9,11 @@ mod deciding;
 mod draws;
 mod extremes;
 mod looks;
+mod own;
 mod parts;
 mod sources;
 mod totals;
+mod towers;
 
 use std::num::NonZeroUsize;
 use std::test::Fail;

@@ -9,4 +9,4 @@ mod wide;
 
 pub use own::{Boxed, Countdown, CountdownIter, Stack, StackIntoIter, StackIter, Start};
 pub use thin::{numbered, numbered_halves};
-pub use wide::{parted, spread};
+pub use wide::{parted, spread, spread_countdown, spread_pairs};

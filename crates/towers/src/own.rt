@@ -2,10 +2,9 @@
 //!
 //! Each implements [`NonEmptyIterator`] by its law alone, and has all the methods.
 ghost use Rattle.std.specs.Prelude.{◌≡◌, ◌<◌, List, [], ◌∷◌, length, reverse, IfOk, IfErr};
-ghost use Rattle.std.specs.Iterator.{YieldsFirst, YieldsFirstRef, item_count};
+ghost use Rattle.std.specs.Iterator.{YieldsFirst, YieldsFirstRef, at_most, item_count};
 ghost use Rattle.std.specs.Int.NonZero.{non_zero_u32_get};
-ghost use Rattle.std.specs.Box.{box_value};
-ghost use Rattle.towers.specs.Own.{counted_down, numbers_of};
+ghost use Rattle.towers.specs.Own.{counted_down, start_of, left_of, seconds_of, in_box};
 
 use nonempty_collections::{IntoNonEmptyIterator, NonEmptyIterator};
 use std::alloc::{AllocError, Global};
@@ -21,7 +20,7 @@ pub struct Countdown {
 impl Countdown {
     /// The numbers from `from` down to 1.
     pub fn new(from: NonZeroU32) -> Countdown
-        ensures { result.from ≡ from }
+        ensures { start_of result ≡ non_zero_u32_get from }
     {
         Countdown { from }
     }
@@ -36,9 +35,9 @@ pub struct CountdownIter {
 impl Iterator for CountdownIter {
     type Item = u32;
 
-    ghost next_gives = { YieldsFirst (λ it. counted_down it.left) };
+    ghost next_gives = { YieldsFirst (λ it. counted_down (left_of it)) };
 
-    ghost remaining = { item_count (λ it. counted_down it.left) };
+    ghost remaining = { λ it. at_most (left_of it) };
 
     fn next(&mut self) -> Option<u32> {
         if self.left == 0 {
@@ -55,7 +54,7 @@ impl IntoIterator for Countdown {
 
     type IntoIter = CountdownIter;
 
-    ghost into_iter_gives = { λ s it. it.left ≡ non_zero_u32_get s.from };
+    ghost into_iter_gives = { λ s it. left_of it ≡ start_of s };
 
     fn into_iter(self) -> CountdownIter {
         CountdownIter {
@@ -67,7 +66,7 @@ impl IntoIterator for Countdown {
 impl NonEmptyIterator for Countdown {
     ghost use Rattle.towers.specs.OwnLaws.{some_counted};
 
-    ghost not_empty = { λ s it made t ended. some_counted it.left (non_zero_u32_get s.from) s.from.ok made ended.0 };
+    ghost not_empty = { λ s it made t ended. some_counted (left_of it) (start_of s) s.from.ok made ended.0 };
 }
 
 /// A start, which is a [`Countdown`] where a source is asked for.
@@ -76,12 +75,21 @@ pub struct Start {
     seconds: NonZeroU32,
 }
 
+impl Start {
+    /// A start of so many seconds.
+    pub fn new(seconds: NonZeroU32) -> Start
+        ensures { seconds_of result ≡ non_zero_u32_get seconds }
+    {
+        Start { seconds }
+    }
+}
+
 impl IntoIterator for Start {
     type Item = u32;
 
     type IntoIter = CountdownIter;
 
-    ghost into_iter_gives = { λ s it. it.left ≡ non_zero_u32_get s.seconds };
+    ghost into_iter_gives = { λ s it. left_of it ≡ seconds_of s };
 
     fn into_iter(self) -> CountdownIter {
         Countdown::new(self.seconds).into_iter()
@@ -89,16 +97,16 @@ impl IntoIterator for Start {
 }
 
 impl IntoNonEmptyIterator for Start {
-    ghost use Rattle.std.proofs.Common.{refl, subst};
+    ghost use Rattle.std.proofs.Common.{refl, ◌∙◌};
     ghost use Rattle.ne_iter.specs.SourceLaws.{SameLists-through};
 
     type IntoNEIter = Countdown;
 
-    ghost into_nonempty_iter_gives = { λ s c. c.from ≡ s.seconds };
+    ghost into_nonempty_iter_gives = { λ s c. start_of c ≡ seconds_of s };
 
-    ghost same_lists = { SameLists-through (⟦<Start as IntoIterator>⟧.into_iter_gives) (⟦<CountdownIter as Iterator>⟧.next_gives) (λ s c. c.from ≡ s.seconds) (⟦<Countdown as IntoIterator>⟧.into_iter_gives)
+    ghost same_lists = { SameLists-through (⟦<Start as IntoIterator>⟧.into_iter_gives) (⟦<CountdownIter as Iterator>⟧.next_gives) (λ s c. start_of c ≡ seconds_of s) (⟦<Countdown as IntoIterator>⟧.into_iter_gives)
         (λ s it made. (record { from = s.seconds }, refl, made))
-        (λ s c it same made. subst (λ n. it.left ≡ non_zero_u32_get n) same made) };
+        (λ s c it same made. made ∙ same) };
 
     fn into_nonempty_iter(self) -> Countdown {
         Countdown::new(self.seconds)
@@ -244,7 +252,7 @@ impl<I: NonEmptyIterator> Boxed<I> {
     pub fn new(alloc: Global, inner: I) -> Result<Boxed<I>, AllocError>
     where
         I: Drop,
-        ensures { IfOk result (λ b. box_value b.inner ≡ inner) }
+        ensures { IfOk result (λ b. in_box b ≡ inner) }
     {
         Ok(Boxed {
             inner: Box::new(alloc, inner)?,
@@ -257,7 +265,7 @@ impl<I: NonEmptyIterator> IntoIterator for Boxed<I> {
 
     type IntoIter = I::IntoIter;
 
-    ghost into_iter_gives = { λ b it. I.into_iter_gives (box_value b.inner) it };
+    ghost into_iter_gives = { λ b it. I.into_iter_gives (in_box b) it };
 
     fn into_iter(self) -> I::IntoIter {
         Box::into_inner(self.inner).into_iter()
@@ -265,5 +273,5 @@ impl<I: NonEmptyIterator> IntoIterator for Boxed<I> {
 }
 
 impl<I: NonEmptyIterator> NonEmptyIterator for Boxed<I> {
-    ghost not_empty = { λ b. I.not_empty (box_value b.inner) };
+    ghost not_empty = { λ b. I.not_empty (in_box b) };
 }

@@ -3,7 +3,7 @@ ghost use Rattle.std.specs.Prelude.{◌≡◌, ◌^◌, ◌<◌, ◌∷◌, [], 
 ghost use Rattle.std.specs.Iterator.{IsFinite, IsFiniteIterable, CallableOnAll, size};
 ghost use Rattle.std.specs.Int.NonZero.{non_zero_usize_get};
 ghost use Rattle.std.specs.List.{enumerate_from};
-ghost use Rattle.towers.specs.Own.{numbers_of};
+ghost use Rattle.towers.specs.Own.{counted_down, start_of};
 ghost use Rattle.towers.specs.Wide.{IsSpread, IsSpreadOfPairs, IsParted};
 
 use crate::Countdown;
@@ -61,13 +61,11 @@ pub fn spread_countdown(
     source: Countdown,
     n: NonZeroUsize,
 ) -> Result<NEVec<(usize, u32)>, AllocError>
-    ensures { IfOk result (λ v. v ≡ take (non_zero_usize_get n) (enumerate_from 0 (flat_map (λ x. x ∷ x ∷ []) (numbers_of source)))) }
+    ensures { IfOk result (λ v. v ≡ take (non_zero_usize_get n) (enumerate_from 0 (flat_map (λ x. x ∷ x ∷ []) (counted_down (start_of source))))) }
 {
     let twice = |x: u32| -> [u32; 2]
         ensures { result ≡ x ∷ x ∷ [] }
-    {
-        [x, x]
-    };
+    { [x, x] };
     arrays_give_their_items::<u32, 2>();
     sources_give_what_is_left::<Countdown>();
     calls_of_a_function(&twice);

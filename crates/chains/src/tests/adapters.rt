@@ -10,7 +10,7 @@ use std::convert::AsSlice;
 use std::num::NonZeroUsize;
 use std::test::Fail;
 
-fn doubled<S: NonEmptyIterator<Item = u32>>(
+pub(super) fn doubled<S: NonEmptyIterator<Item = u32>>(
     alloc: Global,
     s: S,
     n: NonZeroUsize,
@@ -20,7 +20,7 @@ fn doubled<S: NonEmptyIterator<Item = u32>>(
     s.map(|x| x.wrapping_mul(2)).take(n).collect(alloc)
 }
 
-fn sums<S: NonEmptyIterator<Item = u32>, O: IntoNonEmptyIterator<Item = u32>>(
+pub(super) fn sums<S: NonEmptyIterator<Item = u32>, O: IntoNonEmptyIterator<Item = u32>>(
     alloc: Global,
     s: S,
     other: O,
@@ -31,7 +31,7 @@ fn sums<S: NonEmptyIterator<Item = u32>, O: IntoNonEmptyIterator<Item = u32>>(
     s.zip(other).map(|(a, b)| a.wrapping_add(b)).collect(alloc)
 }
 
-fn chained<S: NonEmptyIterator<Item = u32>, O: IntoIterator<Item = u32>>(
+pub(super) fn chained<S: NonEmptyIterator<Item = u32>, O: IntoIterator<Item = u32>>(
     alloc: Global,
     s: S,
     other: O,
@@ -42,7 +42,7 @@ fn chained<S: NonEmptyIterator<Item = u32>, O: IntoIterator<Item = u32>>(
     s.chain(other).collect(alloc)
 }
 
-fn each_twice<S: NonEmptyIterator<Item = u32>>(
+pub(super) fn each_twice<S: NonEmptyIterator<Item = u32>>(
     alloc: Global,
     s: S,
 ) -> Result<NEVec<u32>, AllocError>
@@ -61,7 +61,7 @@ fn placed<S: NonEmptyIterator<Item = char>>(
     s.enumerate().collect(alloc)
 }
 
-fn cloned<'a, S: NonEmptyIterator<Item = &'a u32>>(
+pub(super) fn cloned<'a, S: NonEmptyIterator<Item = &'a u32>>(
     alloc: Global,
     s: S,
 ) -> Result<NEVec<Result<u32, AllocError>>, AllocError>
@@ -70,7 +70,7 @@ fn cloned<'a, S: NonEmptyIterator<Item = &'a u32>>(
     s.cloned().collect(alloc)
 }
 
-fn copied<'a, S: NonEmptyIterator<Item = &'a u32>>(
+pub(super) fn copied<'a, S: NonEmptyIterator<Item = &'a u32>>(
     alloc: Global,
     s: S,
 ) -> Result<NEVec<u32>, AllocError>

@@ -3,31 +3,31 @@ ghost use Rattle.std.specs.Iterator.{IsFiniteIterable};
 
 use nonempty_collections::{IntoNonEmptyIterator, NonEmptyIterator};
 
-fn first<S: NonEmptyIterator<Item = u32>>(s: S) -> u32
+pub(super) fn first<S: NonEmptyIterator<Item = u32>>(s: S) -> u32
     requires { IsFiniteIterable S.into_iter_gives S.IntoIter.can_next S.IntoIter.remaining s }
 {
     s.next().0
 }
 
-fn are_small<S: NonEmptyIterator<Item = u32>>(s: S) -> bool
+pub(super) fn are_small<S: NonEmptyIterator<Item = u32>>(s: S) -> bool
     requires { IsFiniteIterable S.into_iter_gives S.IntoIter.can_next S.IntoIter.remaining s }
 {
     s.all(|x| x < 3)
 }
 
-fn has_two<S: NonEmptyIterator<Item = u32>>(s: S) -> bool
+pub(super) fn has_two<S: NonEmptyIterator<Item = u32>>(s: S) -> bool
     requires { IsFiniteIterable S.into_iter_gives S.IntoIter.can_next S.IntoIter.remaining s }
 {
     s.any(|x| x == 2)
 }
 
-fn above_one<S: NonEmptyIterator<Item = u32>>(s: S) -> Option<u32>
+pub(super) fn above_one<S: NonEmptyIterator<Item = u32>>(s: S) -> Option<u32>
     requires { IsFiniteIterable S.into_iter_gives S.IntoIter.can_next S.IntoIter.remaining s }
 {
     s.find(|x| *x > 1)
 }
 
-fn at<S: NonEmptyIterator<Item = u32>>(s: S, place: usize) -> Option<u32>
+pub(super) fn at<S: NonEmptyIterator<Item = u32>>(s: S, place: usize) -> Option<u32>
     requires { IsFiniteIterable S.into_iter_gives S.IntoIter.can_next S.IntoIter.remaining s }
 {
     s.nth(place)

@@ -22,26 +22,26 @@ fn twins() -> [Marked; 2] {
     [Marked { number: 5, mark: a }, Marked { number: 5, mark: b }]
 }
 
-fn greatest<T: Ord + Drop, S: NonEmptyIterator<Item = T>>(s: S) -> T
+pub(super) fn greatest<T: Ord + Drop, S: NonEmptyIterator<Item = T>>(s: S) -> T
     requires { IsFiniteIterable S.into_iter_gives S.IntoIter.can_next S.IntoIter.remaining s }
 {
     s.max()
 }
 
-fn least<T: Ord + Drop, S: NonEmptyIterator<Item = T>>(s: S) -> T
+pub(super) fn least<T: Ord + Drop, S: NonEmptyIterator<Item = T>>(s: S) -> T
     requires { IsFiniteIterable S.into_iter_gives S.IntoIter.can_next S.IntoIter.remaining s }
 {
     s.min()
 }
 
 // The same, by a closure.
-fn greatest_by<T: Ord + Drop, S: NonEmptyIterator<Item = T>>(s: S) -> T
+pub(super) fn greatest_by<T: Ord + Drop, S: NonEmptyIterator<Item = T>>(s: S) -> T
     requires { IsFiniteIterable S.into_iter_gives S.IntoIter.can_next S.IntoIter.remaining s }
 {
     s.max_by(|x, y| x.cmp(y))
 }
 
-fn least_by<T: Ord + Drop, S: NonEmptyIterator<Item = T>>(s: S) -> T
+pub(super) fn least_by<T: Ord + Drop, S: NonEmptyIterator<Item = T>>(s: S) -> T
     requires { IsFiniteIterable S.into_iter_gives S.IntoIter.can_next S.IntoIter.remaining s }
 {
     s.min_by(|x, y| x.cmp(y))

@@ -6,13 +6,16 @@ use std::alloc::{AllocError, Global};
 use std::convert::AsSlice;
 use std::test::Fail;
 
-fn collected<S: NonEmptyIterator<Item = u32>>(alloc: Global, s: S) -> Result<NEVec<u32>, AllocError>
+pub(super) fn collected<S: NonEmptyIterator<Item = u32>>(
+    alloc: Global,
+    s: S,
+) -> Result<NEVec<u32>, AllocError>
     requires { IsFiniteIterable S.into_iter_gives S.IntoIter.can_next S.IntoIter.remaining s }
 {
     s.collect(alloc)
 }
 
-fn peeked<S: NonEmptyIterator<Item = u32>>(s: S) -> u32
+pub(super) fn peeked<S: NonEmptyIterator<Item = u32>>(s: S) -> u32
     requires { IsFiniteIterable S.into_iter_gives S.IntoIter.can_next S.IntoIter.remaining s }
 {
     *s.peekable().peek()

@@ -6,20 +6,26 @@ use std::alloc::{AllocError, Global};
 use std::convert::AsSlice;
 use std::test::Fail;
 
-fn even<S: NonEmptyIterator<Item = u32>>(alloc: Global, s: S) -> Result<Vec<u32>, AllocError>
+pub(super) fn even<S: NonEmptyIterator<Item = u32>>(
+    alloc: Global,
+    s: S,
+) -> Result<Vec<u32>, AllocError>
     requires { IsFiniteIterable S.into_iter_gives S.IntoIter.can_next S.IntoIter.remaining s }
 {
     s.filter(|x| *x % 2 == 0).collect(alloc)
 }
 
-fn halves<S: NonEmptyIterator<Item = u32>>(alloc: Global, s: S) -> Result<Vec<u32>, AllocError>
+pub(super) fn halves<S: NonEmptyIterator<Item = u32>>(
+    alloc: Global,
+    s: S,
+) -> Result<Vec<u32>, AllocError>
     requires { IsFiniteIterable S.into_iter_gives S.IntoIter.can_next S.IntoIter.remaining s }
 {
     s.filter_map(|x| (x % 2 == 0).then_some(x / 2))
         .collect(alloc)
 }
 
-fn after<S: NonEmptyIterator<Item = u32>>(
+pub(super) fn after<S: NonEmptyIterator<Item = u32>>(
     alloc: Global,
     s: S,
     n: usize,
@@ -29,19 +35,25 @@ fn after<S: NonEmptyIterator<Item = u32>>(
     s.skip(n).collect(alloc)
 }
 
-fn from_odd<S: NonEmptyIterator<Item = u32>>(alloc: Global, s: S) -> Result<Vec<u32>, AllocError>
+pub(super) fn from_odd<S: NonEmptyIterator<Item = u32>>(
+    alloc: Global,
+    s: S,
+) -> Result<Vec<u32>, AllocError>
     requires { IsFiniteIterable S.into_iter_gives S.IntoIter.can_next S.IntoIter.remaining s }
 {
     s.skip_while(|x| *x % 2 == 0).collect(alloc)
 }
 
-fn to_odd<S: NonEmptyIterator<Item = u32>>(alloc: Global, s: S) -> Result<Vec<u32>, AllocError>
+pub(super) fn to_odd<S: NonEmptyIterator<Item = u32>>(
+    alloc: Global,
+    s: S,
+) -> Result<Vec<u32>, AllocError>
     requires { IsFiniteIterable S.into_iter_gives S.IntoIter.can_next S.IntoIter.remaining s }
 {
     s.take_while(|x| *x % 2 == 0).collect(alloc)
 }
 
-fn parts<S: NonEmptyIterator<Item = (char, u32)>>(
+pub(super) fn parts<S: NonEmptyIterator<Item = (char, u32)>>(
     alloc: Global,
     s: S,
 ) -> Result<(NEVec<char>, NEVec<u32>), AllocError>

@@ -6,33 +6,33 @@ use nonempty_collections::{IntoNonEmptyIterator, NonEmptyIterator};
 use std::iter::{Product, Sum};
 use std::num::Wrapping;
 
-fn count<S: NonEmptyIterator<Item = u32>>(s: S) -> usize
+pub(super) fn count<S: NonEmptyIterator<Item = u32>>(s: S) -> usize
     requires { (it : S.IntoIter) → S.into_iter_gives s it → S.IntoIter.can_next it × IsFinite (S.IntoIter.remaining it) × CountFits S.IntoIter.next_gives S.IntoIter.remaining 0 it }
 {
     s.count().get()
 }
 
 // Each digit is written behind the others, so that the total tells the order.
-fn digits<S: NonEmptyIterator<Item = u32>>(s: S, first: u32) -> u32
+pub(super) fn digits<S: NonEmptyIterator<Item = u32>>(s: S, first: u32) -> u32
     requires { IsFiniteIterable S.into_iter_gives S.IntoIter.can_next S.IntoIter.remaining s }
 {
     s.fold(first, |total, x| total.wrapping_mul(10).wrapping_add(x))
 }
 
-fn reduced<S: NonEmptyIterator<Item = u32>>(s: S) -> u32
+pub(super) fn reduced<S: NonEmptyIterator<Item = u32>>(s: S) -> u32
     requires { IsFiniteIterable S.into_iter_gives S.IntoIter.can_next S.IntoIter.remaining s }
 {
     s.reduce(|total, x| total.wrapping_mul(10).wrapping_add(x))
 }
 
-fn sum<T: Sum<u32>, S: NonEmptyIterator<Item = u32>>(s: S) -> T
+pub(super) fn sum<T: Sum<u32>, S: NonEmptyIterator<Item = u32>>(s: S) -> T
     requires runs { IsFiniteIterable S.into_iter_gives S.IntoIter.can_next S.IntoIter.remaining s }
     requires fits { (it : S.IntoIter) → S.into_iter_gives s it → EachRunFrom S.IntoIter.next_gives it (λ p. T.can_sum p.items) }
 {
     s.sum()
 }
 
-fn product<X, T: Product<X>, S: NonEmptyIterator<Item = X>>(s: S) -> T
+pub(super) fn product<X, T: Product<X>, S: NonEmptyIterator<Item = X>>(s: S) -> T
     requires runs { IsFiniteIterable S.into_iter_gives S.IntoIter.can_next S.IntoIter.remaining s }
     requires fits { (it : S.IntoIter) → S.into_iter_gives s it → EachRunFrom S.IntoIter.next_gives it (λ p. T.can_product p.items) }
 {
