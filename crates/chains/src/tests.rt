@@ -4,6 +4,7 @@
 
 mod adapters;
 mod clones;
+mod composed;
 mod counts;
 mod deciding;
 mod draws;
@@ -13,7 +14,6 @@ mod own;
 mod parts;
 mod sources;
 mod totals;
-mod towers;
 
 use std::num::NonZeroUsize;
 use std::test::Fail;
