@@ -2,7 +2,7 @@
 use Rattle.std.specs.Prelude.{◌≡◌, Option, None, Result, MatchOption, MatchResult, IsSomeAnd}
 use Rattle.std.specs.Borrow.{Bor}
 
--- What may come of cloning x: a clone of it, or that it was refused, which is where a clone of x can be.
+-- What may come of cloning x: a clone of it; or an error, where clones of x can be refused.
 abbrev pub TriesClone : {T E : Type 0} → (T → T → Type 0) → (T → Type 0) → T → Result T E → Type 0
 TriesClone clones infallible x r = MatchResult r (clones x) (λ _. infallible x → ⊥)
 
