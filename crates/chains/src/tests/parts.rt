@@ -6,26 +6,20 @@ use std::alloc::{AllocError, Global};
 use std::convert::AsSlice;
 use std::test::Fail;
 
-pub(super) fn even<S: NonEmptyIterator<Item = u32>>(
-    alloc: Global,
-    s: S,
-) -> Result<Vec<u32>, AllocError>
+fn even<S: NonEmptyIterator<Item = u32>>(alloc: Global, s: S) -> Result<Vec<u32>, AllocError>
     requires { IsFiniteIterable S.into_iter_gives S.IntoIter.can_next S.IntoIter.remaining s }
 {
     s.filter(|x| *x % 2 == 0).collect(alloc)
 }
 
-pub(super) fn halves<S: NonEmptyIterator<Item = u32>>(
-    alloc: Global,
-    s: S,
-) -> Result<Vec<u32>, AllocError>
+fn halves<S: NonEmptyIterator<Item = u32>>(alloc: Global, s: S) -> Result<Vec<u32>, AllocError>
     requires { IsFiniteIterable S.into_iter_gives S.IntoIter.can_next S.IntoIter.remaining s }
 {
     s.filter_map(|x| (x % 2 == 0).then_some(x / 2))
         .collect(alloc)
 }
 
-pub(super) fn after<S: NonEmptyIterator<Item = u32>>(
+fn after<S: NonEmptyIterator<Item = u32>>(
     alloc: Global,
     s: S,
     n: usize,
@@ -35,19 +29,13 @@ pub(super) fn after<S: NonEmptyIterator<Item = u32>>(
     s.skip(n).collect(alloc)
 }
 
-pub(super) fn from_odd<S: NonEmptyIterator<Item = u32>>(
-    alloc: Global,
-    s: S,
-) -> Result<Vec<u32>, AllocError>
+fn from_odd<S: NonEmptyIterator<Item = u32>>(alloc: Global, s: S) -> Result<Vec<u32>, AllocError>
     requires { IsFiniteIterable S.into_iter_gives S.IntoIter.can_next S.IntoIter.remaining s }
 {
     s.skip_while(|x| *x % 2 == 0).collect(alloc)
 }
 
-pub(super) fn to_odd<S: NonEmptyIterator<Item = u32>>(
-    alloc: Global,
-    s: S,
-) -> Result<Vec<u32>, AllocError>
+fn to_odd<S: NonEmptyIterator<Item = u32>>(alloc: Global, s: S) -> Result<Vec<u32>, AllocError>
     requires { IsFiniteIterable S.into_iter_gives S.IntoIter.can_next S.IntoIter.remaining s }
 {
     s.take_while(|x| *x % 2 == 0).collect(alloc)
