@@ -141,9 +141,9 @@ fn adapted_twice(rt: HostRuntime) -> Result<(), Fail> {
         .into_nonempty_iter()
         .take(of(1)?)
         .zip(once(3u32))
-        .map(|(a, b)| a.wrapping_add(b))
-        .chain([5u32])
-        .peekable();
-    assert_eq!(rt; digits(tower, 0), 45);
+        .map(|(a, b)| a.wrapping_add(b));
+    assert_eq!(rt; digits(tower, 0), 4);
+    let tower = once(4u32).chain([5u32]).peekable().flat_map(|x| [x, 0]);
+    assert_eq!(rt; digits(tower, 0), 4050);
     Ok(())
 }

@@ -60,24 +60,19 @@ fn into_nonempty_vec(rt: HostRuntime) -> Result<(), Fail> {
     )
 }
 
-// A tower of what takes no memory, used up.
+// Chains of what takes no memory, used up. Short ones: the check takes minutes for a tower of seven.
 fn greatest() -> (usize, u32) {
-    let tower = [1u32, 2, 3]
-        .into_nonempty_iter()
-        .peekable()
-        .map(|x| x.wrapping_mul(2))
-        .chain(once(9))
-        .enumerate()
-        .flat_map(|p| [p, p])
-        .zip([7u32; 8]);
-    tower.max().0
+    let looked_at = [1u32, 2, 3].into_nonempty_iter().peekable();
+    let doubled = looked_at.map(|x| x.wrapping_mul(2)).max();
+    let twice = once(doubled).enumerate().flat_map(|p| [p, (1, 9)]).max();
+    once(twice).chain(once((0, 0))).zip([7u32; 2]).max().0
 }
 
 // The first request of this test is that of its call, which the gate wants: what stands before takes no memory.
 #[test]
 fn none_taken_before(rt: HostRuntime) -> Result<(), Fail> {
     let (place, item) = greatest();
-    assert_eq!(rt; (place, item), (3, 9));
+    assert_eq!(rt; (place, item), (1, 9));
     let few = [5u32, 6, 7].into_nonempty_iter().skip_while(|x| *x < 6);
     assert_eq!(rt; few.fold(0u32, |total, x| total.wrapping_add(x)), 13);
     let answer = NEVec::new(rt.alloc(), item);
