@@ -6,14 +6,12 @@ use Rattle.std.specs.List.{FoldsTo}
 use Rattle.std.specs.Iterator.Adapters.{flatten_source, flatten_front, flatten_back, flatten_done, flatten_steps, flatten_front_steps, TakesNextInner}
 use Rattle.std.specs.declared.iter.Flatten.{Flatten}
 use Rattle.std.proofs.lemmas.List.{append-nil}
-use Rattle.ne_iter.specs.SourceLaws.{at_false}
+use Rattle.std.proofs.lemmas.Option.{none-some}
+use Rattle.std.proofs.lemmas.Bool.{MatchBool-at_false}
 use Rattle.ne_iter.specs.Sources.{Reads}
 use Rattle.ne_iter.specs.Gives.{ReadsEach}
 use Rattle.ne_iter.proofs.JoinedRuns.{Yields-append}
 use Rattle.ne_vec.specs.Divisions.{joined}
-
-none-some : {A : Type 0} (x : A) → None ≡ Some x → ⊥
-none-some x e = let e = e in search rules
 
 module _ {S U J A : Type 0} (steps : S → Option U → S → Type 0) (becomes : U → J → Type 0) (inner : J → Option A → J → Type 0) where
   -- the inner iterator in hand, if there is one, gave ys
@@ -55,7 +53,7 @@ module _ {S U J A : Type 0} (steps : S → Option U → S → Type 0) (becomes :
 
   ended : (s t : Flatten S J) → flatten_done s ≡ false → (o : Option A) → Asked s o t → Then s o None t → Apart true s []
   ended s t fresh None a c =
-      let y = at_false (flatten_done s) _ _ fresh c.2 in
+      let y = MatchBool-at_false _ _ fresh c.2 in
       let e = empties true c.0 [] [] c.1 tt in
       let us : c.0 ++ [] ≡ c.0 = append-nil c.0 in
       ([], c.0, e.0, spent true (flatten_front s) _ a, (y.0, y.1, λ _. (flatten_source t, y.2)), subst (λ l. ReadsEach (Reads becomes inner) true l e.0) us e.1, sym e.2)

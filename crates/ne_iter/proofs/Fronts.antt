@@ -1,5 +1,6 @@
 -- What a run of calls says of the list that an iterator has left, where each call takes the first item of that list.
 use Rattle.std.proofs.Common.{arith, subst, sym, ap, ◌∙◌, map-id}
+use Rattle.std.proofs.lemmas.List.{nil_from_length}
 use Rattle.std.specs.Prelude.{◌≡◌, List, [], ◌∷◌, ◌++◌, length, map, Option, Some, None, refl}
 use Rattle.std.specs.Borrow.{Bor}
 use Rattle.std.specs.Iterator.{DrainsIf, YieldsFirst, ActsAs}
@@ -9,10 +10,6 @@ use Rattle.std.specs.Vec.Iter.{into_iter_items, into_iter_len, into_iter_steps}
 use Rattle.std.specs.declared.slice.Iter.{Iter}
 use Rattle.std.specs.declared.vec.IntoIter.{IntoIter}
 use Rattle.ne_iter.specs.Calls.{Calls}
-
-pub none_left : {T : Type 0} (xs : List T) → length xs ≡ 0 → xs ≡ []
-none_left [] e = refl
-none_left (x ∷ xs) e = absurd (omega (arith, e))
 
 module _ {S A B : Type 0} (steps : S → Option A → S → Type 0) (view : A → B) (rest : S → List B)
     (took : (s t : S) (x : A) → steps s (Some x) t → rest s ≡ view x ∷ rest t) (ended : (s t : S) → steps s None t → rest s ≡ []) where
@@ -32,7 +29,7 @@ front steps rest took ended s ys run =
 
 -- the walks of slices
 pub shown_front : {T W : Type 0} (s : Iter T) (ys : List (Bor T)) → DrainsIf iter_steps W s ys → (more : List T) × (iter_rest s ≡ map (λ y. y.now) ys ++ more) × (W → more ≡ [])
-shown_front s ys run = viewed_front iter_steps (λ y. y.now) iter_rest (λ s t x st. st) (λ s t st. none_left (iter_rest s) st.0) s ys run
+shown_front s ys run = viewed_front iter_steps (λ y. y.now) iter_rest (λ s t x st. st) (λ s t st. nil_from_length (iter_rest s) st.0) s ys run
 
 -- what shows its list by `YieldsFirst`
 pub first_front : {S T W : Type 0} (rest : S → List T) (s : S) (ys : List T) → DrainsIf (YieldsFirst rest) W s ys → (more : List T) × (rest s ≡ ys ++ more) × (W → more ≡ [])
@@ -41,7 +38,7 @@ first_front rest s ys run = front (YieldsFirst rest) rest (λ s t x st. st) (λ 
 -- vectors by value, whose iterator counts its items
 pub counted_front : {T Z W : Type 0} (s : IntoIter T Z) (ys : List T) → into_iter_len s ≡ length (into_iter_items s) → DrainsIf into_iter_steps W s ys
     → (more : List T) × (into_iter_items s ≡ ys ++ more) × (W → more ≡ [])
-counted_front s [] fit (t, e, fin) = (into_iter_items s, refl, λ w. none_left (into_iter_items s) (sym fit ∙ ap into_iter_len e ∙ (fin w).1.0))
+counted_front s [] fit (t, e, fin) = (into_iter_items s, refl, λ w. nil_from_length (into_iter_items s) (sym fit ∙ ap into_iter_len e ∙ (fin w).1.0))
 counted_front s (y ∷ ys) fit (t, (j, st, run), fin) =
     let long = ap length st.0 in
     let m = counted_front j ys (omega (arith, fit, st.1, long)) (t, run, fin) in

@@ -14,7 +14,7 @@ use Rattle.std.specs.declared.iter.Skip.{Skip}
 use Rattle.std.specs.declared.iter.SkipWhile.{SkipWhile}
 use Rattle.std.specs.declared.iter.TakeWhile.{TakeWhile}
 use Rattle.std.specs.declared.iter.Once.{Once}
-use Rattle.ne_iter.specs.SourceLaws.{at_true, at_false}
+use Rattle.std.proofs.lemmas.Bool.{MatchBool-at_true, MatchBool-at_false}
 use Rattle.ne_iter.specs.Sources.{Reads}
 use Rattle.ne_iter.specs.Calls.{Calls, ShownEach, AnswersEach, AnswersEachAt}
 use Rattle.ne_iter.specs.Gives.{FailsFirst, FilterGives, FilterMapGives, SkipGives, SkipWhileGives, TakeWhileGives}
@@ -174,10 +174,10 @@ module _ {S A F : Type 0} (steps : S → Option A → S → Type 0) (calls : Mut
     skip_while_source k.0,
     ap skip_while_source k.1,
     λ w.
-        (skip_while_source (k.2 w).0, (at_true (skip_while_done_skipping k.0) _ _ (subst (λ q. skip_while_done_skipping q ≡ true) k.1 e) (k.2 w).1).0),
+        (skip_while_source (k.2 w).0, (MatchBool-at_true _ _ (subst (λ q. skip_while_done_skipping q ≡ true) k.1 e) (k.2 w).1).0),
   )
   DrainsIf-skip_while_begun s (x ∷ xs) e k =
-      let h = at_true (skip_while_done_skipping s) _ _ e k.1.1 in
+      let h = MatchBool-at_true _ _ e k.1.1 in
       let m = DrainsIf-skip_while_begun k.1.0 xs h.1 (k.0, k.1.2, k.2) in
       (m.0, (skip_while_source k.1.0, h.0, m.1), m.2)
 
@@ -188,10 +188,10 @@ module _ {S A F : Type 0} (steps : S → Option A → S → Type 0) (calls : Mut
   DrainsIf-skip_while false s [] fresh k = ([], skip_while_callee s, (skip_while_source s, refl, λ e. cc e), refl, tt)
   DrainsIf-skip_while true s [] fresh k =
       let u = (k.2 refl).0 in
-      let h = at_false (skip_while_done_skipping s) _ _ fresh (subst (λ j. skip_while_steps steps calls j None u) (sym k.1) (k.2 refl).1) in
+      let h = MatchBool-at_false _ _ fresh (subst (λ j. skip_while_steps steps calls j None u) (sym k.1) (k.2 refl).1) in
       (h.0, h.1, subst (DrainsIf steps (true ≡ true) (skip_while_source s)) (sym (append-nil h.0)) (h.2.0, h.2.1, λ _. (skip_while_source u, h.2.2)), h.3, tt)
   DrainsIf-skip_while whole s (y ∷ ys) fresh k =
-      let h = at_false (skip_while_done_skipping s) _ _ fresh k.1.1 in
+      let h = MatchBool-at_false _ _ fresh k.1.1 in
       let m = DrainsIf-skip_while_begun k.1.0 ys h.4.0 (k.0, k.1.2, k.2) in (
         h.0,
         h.1,
@@ -239,10 +239,10 @@ module _ {S A F : Type 0} (steps : S → Option A → S → Type 0) (calls : Mut
   DrainsIf-take_while false s [] fresh k = (take_while_callee s, refl, inl (take_while_source s, refl, λ e. cc e))
   DrainsIf-take_while true s [] fresh k =
       let u = (k.2 refl).0 in
-      let h = at_false (take_while_done s) _ _ fresh (subst (λ j. take_while_steps steps calls j None u) (sym k.1) (k.2 refl).1) in
+      let h = MatchBool-at_false _ _ fresh (subst (λ j. take_while_steps steps calls j None u) (sym k.1) (k.2 refl).1) in
       taken_end s u h.0 h.1 h.2
   DrainsIf-take_while whole s (x ∷ xs) fresh k =
-      let h = at_false (take_while_done s) _ _ fresh k.1.1 in
+      let h = MatchBool-at_false _ _ fresh k.1.1 in
       taken_one whole s k.1.0 x xs h.0 h.1 h.2 (λ e. DrainsIf-take_while whole k.1.0 xs e (k.0, k.1.2, k.2))
 
   taken_reads : {U : Type 0} (becomes : U → S → Type 0) (source : U) (it : S) (f : F) (whole : Bool) (xs : List A) → becomes source it → Taken whole it f xs

@@ -1,14 +1,9 @@
 -- A loop over the items after the first one: what its run says of the whole source. `begun` is the loop's iterator, and `left` what
 -- the first item left.
-use Rattle.std.proofs.Common.{subst, sym}
-use Rattle.std.specs.Prelude.{◌≡◌, true, List, [], ◌∷◌, ◌++◌, Option, Some, None, refl}
+use Rattle.std.proofs.Common.{subst}
+use Rattle.std.specs.Prelude.{◌≡◌, true, List, ◌∷◌, Option, Some, None}
 use Rattle.std.specs.Iterator.{Yields}
 use Rattle.ne_iter.specs.Sources.{Reads}
-
--- one more item
-pub Yields-push : {S A : Type 0} (steps : S → Option A → S → Type 0) (s : S) (xs : List A) (t : S) (x : A) (u : S) → Yields steps s xs t → steps t (Some x) u → Yields steps s (xs ++ x ∷ []) u
-Yields-push steps s [] t x u e h = (u, subst (λ q. steps q (Some x) u) (sym e) h, refl)
-Yields-push steps s (y ∷ ys) t x u (j, st, rest) h = (j, st, Yields-push steps j ys t x u rest h)
 
 -- the first item, and those of the loop so far
 pub Yields-first : {S A : Type 0} (steps : S → Option A → S → Type 0) (it : S) (first : A) {left begun : S} (xs : List A) (t : S)

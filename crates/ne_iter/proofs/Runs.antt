@@ -10,7 +10,7 @@ use Rattle.std.specs.declared.iter.Enumerate.{Enumerate}
 use Rattle.std.specs.Fn.{Mut}
 use Rattle.std.specs.List.{enumerate_from}
 use Rattle.std.specs.declared.iter.Chain.{Chain}
-use Rattle.ne_iter.specs.SourceLaws.{at_true, at_false}
+use Rattle.std.proofs.lemmas.Bool.{MatchBool-at_true, MatchBool-at_false}
 use Rattle.ne_iter.specs.Calls.{Calls}
 
 pub DrainsIf-map : {W S A B F : Type 0} (steps : S → Option A → S → Type 0) (g : Mut F (A × Unit {0}) B) (s : Map S F) (ys : List B)
@@ -41,11 +41,11 @@ module _ {S T A : Type 0} (steps : S → Option A → S → Type 0) (others : T 
   DrainsIf-chain_second s [] done live (t, e, fin) =
       let first : chain_first_done t ≡ true = subst (λ q. chain_first_done q ≡ true) e done in
       let second : chain_second_done t ≡ false = subst (λ q. chain_second_done q ≡ false) e live in
-      (chain_second t, ap chain_second e, λ w. let u = (fin w).0 in (chain_second u, at_false (chain_second_done t) _ _ second (at_true (chain_first_done t) _ _ first (fin w).1.1).0))
+      (chain_second t, ap chain_second e, λ w. let u = (fin w).0 in (chain_second u, MatchBool-at_false _ _ second (MatchBool-at_true _ _ first (fin w).1.1).0))
   DrainsIf-chain_second s (z ∷ zs) done live (t, (j, st, rest), fin) =
-      let h = at_true (chain_first_done s) _ _ done st.1 in
+      let h = MatchBool-at_true _ _ done st.1 in
       let ih = DrainsIf-chain_second j zs h.1 (let a = st.0 in cc) (t, rest, fin) in
-      (ih.0, (chain_second j, at_false (chain_second_done s) _ _ live h.0, ih.1), ih.2)
+      (ih.0, (chain_second j, MatchBool-at_false _ _ live h.0, ih.1), ih.2)
 
   abbrev Parts : Bool → Chain S T → List A → Type 0
   Parts whole s zs = (xs : List A) × (ys : List A) × DrainsIf steps ((whole || ltb 0 (length ys)) ≡ true) (chain_first s) xs × DrainsIf others (whole ≡ true) (chain_second s) ys × (zs ≡ xs ++ ys)
@@ -57,7 +57,7 @@ module _ {S T A : Type 0} (steps : S → Option A → S → Type 0) (others : T 
       → DrainsIf (chain_steps steps others) (whole ≡ true) j zs
       → (chain_first_done j ≡ false → Parts whole j zs) → Parts whole s (z ∷ zs)
   first_gave whole s j z zs None live kept st h rest more =
-      let there = at_false (chain_second_done s) _ _ live h.0 in
+      let there = MatchBool-at_false _ _ live h.0 in
       let tail = DrainsIf-chain_second j zs h.1 (let a = kept in cc) rest in
       ([], z ∷ zs, (chain_first s, refl, λ _. (chain_first j, st)), (tail.0, (chain_second j, there, tail.1), tail.2), refl)
   first_gave whole s j z zs (Some x) live kept st h rest more =
@@ -69,19 +69,19 @@ module _ {S T A : Type 0} (steps : S → Option A → S → Type 0) (others : T 
       → steps (chain_first s) o (chain_first j)
       → MatchOption o (SecondAnswers steps others s None j) (λ x. (None ≡ Some x) × (chain_second j ≡ chain_second s) × (chain_first_done j ≡ false))
       → ((u : S) × steps (chain_first s) None u) × ((v : T) × others (chain_second s) None v)
-  none_came s j None live st h = ((chain_first j, st), (chain_second j, at_false (chain_second_done s) _ _ live h.0))
+  none_came s j None live st h = ((chain_first j, st), (chain_second j, MatchBool-at_false _ _ live h.0))
   none_came s j (Some x) live st h = let e = h.0 in search rules
 
   pub DrainsIf-chain : (whole : Bool) (s : Chain S T) (zs : List A) → chain_first_done s ≡ false → chain_second_done s ≡ false
       → DrainsIf (chain_steps steps others) (whole ≡ true) s zs → Parts whole s zs
   DrainsIf-chain true s [] fresh live (t, e, fin) =
-      let end = at_false (chain_first_done t) _ _ (subst (λ q. chain_first_done q ≡ false) e fresh) (fin refl).1.1 in
+      let end = MatchBool-at_false _ _ (subst (λ q. chain_first_done q ≡ false) e fresh) (fin refl).1.1 in
       let both = none_came t (fin refl).0 end.0 (subst (λ q. chain_second_done q ≡ false) e live) end.1 end.2 in
       ([], [], (chain_first t, ap chain_first e, λ _. both.0), (chain_second t, ap chain_second e, λ _. both.1), refl)
   DrainsIf-chain false s [] fresh live (t, e, fin) =
       ([], [], (chain_first s, refl, λ w. let w = w in search rules), (chain_second s, refl, λ w. let w = w in search rules), refl)
   DrainsIf-chain whole s (z ∷ zs) fresh live (t, (j, st, rest), fin) =
-      let h = at_false (chain_first_done s) _ _ fresh st.1 in
+      let h = MatchBool-at_false _ _ fresh st.1 in
       first_gave whole s j z zs h.0 live st.0 h.1 h.2 (t, rest, fin) (λ q. DrainsIf-chain whole j zs q (let a = st.0 in cc) (t, rest, fin))
 
 -- what two tests say that are both true

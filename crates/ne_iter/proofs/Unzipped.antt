@@ -6,7 +6,3 @@ pub map-one_more : {A B : Type 0} (f : A → B) (ps ys : List A) (x : A) → map
 map-one_more f [] [] x = refl
 map-one_more f [] (y ∷ ys) x = ap (λ l. f y ∷ l) (map-one_more f [] ys x)
 map-one_more f (p ∷ ps) ys x = ap (λ l. f p ∷ l) (map-one_more f ps ys x)
-
-pub append-none : {A : Type 0} (ps : List A) → ps ≡ ps ++ []
-append-none [] = refl
-append-none (p ∷ ps) = ap (λ l. p ∷ l) (append-none ps)

@@ -1,6 +1,9 @@
 -- The parts of the adapters, by name.
-use Rattle.std.specs.Prelude.{ℕ}
+use Rattle.std.specs.Prelude.{ℕ, List}
 use Rattle.std.specs.Int.NonZero.{non_zero_usize_get}
+use Rattle.ne_iter.specs.declared.array.ArrayNonEmptyIterator.{ArrayNonEmptyIterator}
+use Rattle.ne_iter.specs.declared.iter.looked.LooksAhead.{Ghosts}
+use Rattle.ne_iter.specs.declared.iter.looked.NonEmptyIterAdapter.{NonEmptyIterAdapter}
 use Rattle.ne_iter.specs.declared.iter.adapters.Map.{Map}
 use Rattle.ne_iter.specs.declared.iter.adapters.Enumerate.{Enumerate}
 use Rattle.ne_iter.specs.declared.iter.adapters.Take.{Take}
@@ -11,6 +14,14 @@ use Rattle.ne_iter.specs.declared.iter.copies.Cloned.{Cloned}
 use Rattle.ne_iter.specs.declared.iter.copies.ClonedIter.{ClonedIter}
 use Rattle.ne_iter.specs.declared.iter.copies.Copied.{Copied}
 use Rattle.ne_iter.specs.declared.iter.flat.FlatMap.{FlatMap}
+
+-- the items of an array as a source
+abbrev pub items_of_array : {T : Type 0} {N : ℕ} → ArrayNonEmptyIterator T N → List T
+items_of_array s = s.items
+
+-- the iterator in which an item was found
+abbrev pub iterator_of_looked : {I : Type 0} {looks : Ghosts I} → NonEmptyIterAdapter I looks → I
+iterator_of_looked s = s.inner
 
 -- the source and the closure of a `Map`
 abbrev pub source_of_map : {I F : Type 0} → Map I F → I

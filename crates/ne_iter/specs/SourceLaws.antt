@@ -1,6 +1,7 @@
 -- Proofs of the laws of sources, which the impls cite.
 use Rattle.std.proofs.Common.{rules, arith, subst, sym, inl, inr}
-use Rattle.std.specs.Prelude.{length, ◌<◌, Bool, true, false, List, Option, Some, None, refl, MatchBool, MatchOption, [], ◌∷◌, OnSome, IsSomeAnd, ◌≡◌}
+use Rattle.std.proofs.lemmas.Bool.{MatchBool-at_false}
+use Rattle.std.specs.Prelude.{length, ◌<◌, true, false, List, Option, Some, None, refl, MatchOption, [], ◌∷◌, OnSome, IsSomeAnd, ◌≡◌}
 use Rattle.std.specs.Iterator.Adapters.{once_item, once_steps, chain_first, chain_second, chain_first_done, chain_steps, SecondAnswers, zip_first, zip_second, zip_steps, flatten_source, flatten_front, flatten_done, flatten_steps, TakesNextInner}
 use Rattle.std.specs.Iterator.{YieldsThen}
 use Rattle.std.specs.List.{FoldsTo}
@@ -21,12 +22,6 @@ some_item becomes steps full u (x ∷ xs) h = omega arith
 pub SameLists-self : {U S A : Type 0} (becomes : U → S → Type 0) (steps : S → Option A → S → Type 0) → SameLists becomes steps (λ s r. r ≡ s) becomes steps
 SameLists-self becomes steps u whole xs = ((λ h. (u, refl, h)), (λ v e h. subst (λ q. Reads becomes steps whole q xs) e h))
 
-pub at_false : (b : Bool) (P Q : Type 0) → b ≡ false → MatchBool b P Q → Q
-at_false b P Q e h = subst (λ b. MatchBool b P Q) e h
-
-pub at_true : (b : Bool) (P Q : Type 0) → b ≡ true → MatchBool b P Q → P
-at_true b P Q e h = subst (λ b. MatchBool b P Q) e h
-
 -- a value that becomes one of which the same iterators are made
 pub SameLists-through : {U S V A : Type 0} (becomes : U → S → Type 0) (steps : S → Option A → S → Type 0) (makes : U → V → Type 0) (becomes' : V → S → Type 0)
     → ((u : U) (it : S) → becomes u it → (v : V) × makes u v × becomes' v it)
@@ -46,7 +41,7 @@ module _ {S T A : Type 0} (steps : S → Option A → S → Type 0) (others : T 
 
 pub HasFirst-chain : {S T A : Type 0} (steps : S → Option A → S → Type 0) (others : T → Option A → T → Type 0) (it : Chain S T)
     → chain_first_done it ≡ false → HasFirst steps (chain_first it) → HasFirst (chain_steps steps others) it
-HasFirst-chain steps others it fresh has t ended = let h = at_false (chain_first_done it) _ _ fresh ended.1 in first_came steps others it has t h.0 h.1 h.2
+HasFirst-chain steps others it fresh has t ended = let h = MatchBool-at_false _ _ fresh ended.1 in first_came steps others it has t h.0 h.1 h.2
 
 -- a source of one item
 pub HasFirst-once : {A : Type 0} (it : Once A) (x : A) → once_item it ≡ Some x → HasFirst once_steps it
@@ -84,7 +79,7 @@ module _ {S U J A : Type 0} (steps : S → Option U → S → Type 0) (becomes :
 
   ended_flat : (X : Type 0) (s t u : Flatten S J) (r : Option A) → flatten_done s ≡ false → TakesNextInner steps becomes inner s r u
       → MatchOption r X (λ y. (None ≡ Some y) × (t ≡ u)) → HasFirst steps (flatten_source s) → IsNonEmpty becomes inner → ⊥
-  ended_flat X s t u None fresh h end has full = no_first (flatten_source s) (flatten_source u) h.0 (at_false (flatten_done s) _ _ fresh h.2) h.1 has full
+  ended_flat X s t u None fresh h end has full = no_first (flatten_source s) (flatten_source u) h.0 (MatchBool-at_false _ _ fresh h.2) h.1 has full
   ended_flat X s t u (Some y) fresh h end has full = let e = end.0 in search rules
 
   -- inner lists that are not empty, one after the other

@@ -56,24 +56,26 @@ where
 
 /// The items of an array, by value.
 #[derive(Drop)]
-pub struct ArrayNonEmptyIterator<T, const C: usize> {
-    items: [T; C],
-    ghost has_item: { 0 < C },
+pub struct ArrayNonEmptyIterator<T, const N: usize> {
+    items: [T; N],
+    ghost has_item: { 0 < N },
 }
 
-impl<T: Drop, const C: usize> IntoIterator for ArrayNonEmptyIterator<T, C> {
+impl<T: Drop, const N: usize> IntoIterator for ArrayNonEmptyIterator<T, N> {
+    ghost use Rattle.ne_iter.specs.Parts.{items_of_array};
+
     type Item = T;
 
-    type IntoIter = array::IntoIter<T, C>;
+    type IntoIter = array::IntoIter<T, N>;
 
-    ghost into_iter_gives = { λ s it. ⟦<[T; C] as IntoIterator>⟧.into_iter_gives s.items it × (0 < C) };
+    ghost into_iter_gives = { λ s it. ⟦<[T; N] as IntoIterator>⟧.into_iter_gives (items_of_array s) it × (0 < N) };
 
-    fn into_iter(self) -> array::IntoIter<T, C> {
+    fn into_iter(self) -> array::IntoIter<T, N> {
         self.items.into_iter()
     }
 }
 
-impl<T: Drop, const C: usize> NonEmptyIterator for ArrayNonEmptyIterator<T, C> {
+impl<T: Drop, const N: usize> NonEmptyIterator for ArrayNonEmptyIterator<T, N> {
     ghost not_empty = { λ s it made t ended. Prim.omega (arith, made.0.1, made.1, ended.0) };
 }
 
@@ -83,12 +85,13 @@ where
 {
     ghost use Rattle.std.proofs.Common.{refl, subst, sym};
     ghost use Rattle.ne_iter.specs.SourceLaws.{SameLists-through};
+    ghost use Rattle.ne_iter.specs.Parts.{items_of_array};
 
     type IntoNEIter = ArrayNonEmptyIterator<T, N>;
 
-    ghost into_nonempty_iter_gives = { λ a s. s.items ≡ a };
+    ghost into_nonempty_iter_gives = { λ a s. items_of_array s ≡ a };
 
-    ghost same_lists = { SameLists-through (⟦<[T; N] as IntoIterator>⟧.into_iter_gives) (⟦<array::IntoIter<T, N> as Iterator>⟧.next_gives) (λ a s. s.items ≡ a) (⟦<ArrayNonEmptyIterator<T, N> as IntoIterator>⟧.into_iter_gives)
+    ghost same_lists = { SameLists-through (⟦<[T; N] as IntoIterator>⟧.into_iter_gives) (⟦<array::IntoIter<T, N> as Iterator>⟧.next_gives) (λ a s. items_of_array s ≡ a) (⟦<ArrayNonEmptyIterator<T, N> as IntoIterator>⟧.into_iter_gives)
         (λ a it made. (record { items = a; has_item = ⟦<[T; N] as NonEmptyArray<N>>⟧.has_item }, refl, (made, ⟦<[T; N] as NonEmptyArray<N>>⟧.has_item)))
         (λ a s it same made. subst (λ items. ⟦<[T; N] as IntoIterator>⟧.into_iter_gives items it) same made.0) };
 

@@ -1,7 +1,8 @@
 -- Fronts of lists, and how `take` finds them.
-use Rattle.std.proofs.Common.{rules, arith, sym, ap, ◌∙◌, append_assoc}
+use Rattle.std.proofs.Common.{arith, sym, ap, ◌∙◌, append_assoc}
 use Rattle.std.proofs.lemmas.List.{append-nil}
-use Rattle.std.specs.Prelude.{zero, suc, ◌≡◌, ℕ, ◌+◌, ◌≤◌, ◌<◌, Bool, true, false, ◌||◌, ltb, List, [], ◌∷◌, ◌++◌, length, take, map, flat_map, refl}
+use Rattle.std.proofs.lemmas.Bool.{or_left, or_right, lt-ltb}
+use Rattle.std.specs.Prelude.{zero, suc, ◌≡◌, ℕ, ◌+◌, ◌≤◌, ◌<◌, Bool, true, false, List, [], ◌∷◌, ◌++◌, length, take, map, flat_map, refl}
 use Rattle.ne_vec.specs.Divisions.{joined}
 use Rattle.ne_iter.specs.Gives.{GivesList, ReadsEach}
 use Rattle.std.specs.List.{enumerate_from}
@@ -28,18 +29,6 @@ enumerate_from-take zero k xs = refl
 enumerate_from-take (suc n) k [] = refl
 enumerate_from-take (suc n) k (x ∷ xs) = ap (λ l. (k, x) ∷ l) (enumerate_from-take n (k + 1) xs)
 
--- one of two tests that is true
-pub first_true : (a b : Bool) → a ≡ true → (a || b) ≡ true
-first_true true b e = refl
-first_true false b e = let e = e in search rules
-
-pub second_true : (a b : Bool) → b ≡ true → (a || b) ≡ true
-second_true true b e = refl
-second_true false b e = e
-
-pub below_true : (m n : ℕ) → m < n → ltb m n ≡ true
-below_true m n less = search rules
-
 -- where each list gives itself and no other, the lists that were read stand at the front of all of them
 pub joined_front : {A : Type 0} (reads : Bool → List A → List A → Type 0) → ((u : List A) → GivesList reads u u)
     → (whole : Bool) (us yss : List (List A)) → ReadsEach reads whole us yss → (more : List A) × (joined us ≡ joined yss ++ more) × (whole ≡ true → more ≡ [])
@@ -49,11 +38,11 @@ joined_front reads gives whole (u ∷ us) [] h = absurd h
 joined_front reads gives whole (u ∷ []) (ys ∷ zs ∷ yss) h = absurd h.1
 joined_front reads gives whole (u ∷ []) (ys ∷ []) h =
     let first = gives u _ ys h.0 in
-    (first.0, append-nil u ∙ first.1 ∙ ap (λ l. l ++ first.0) (sym (append-nil ys)), λ full. first.2 (first_true whole false full))
+    (first.0, append-nil u ∙ first.1 ∙ ap (λ l. l ++ first.0) (sym (append-nil ys)), λ full. first.2 (or_left whole false full))
 joined_front reads gives whole (u ∷ v ∷ us) (ys ∷ yss) h =
     let first = gives u _ ys h.0 in
     let others = joined_front reads gives whole (v ∷ us) yss h.1 in
-    let all = first.1 ∙ ap (λ l. ys ++ l) (first.2 (second_true whole _ (below_true 0 (length (v ∷ us)) (omega arith)))) ∙ append-nil ys in
+    let all = first.1 ∙ ap (λ l. ys ++ l) (first.2 (or_right whole _ (lt-ltb 0 (length (v ∷ us)) (omega arith)))) ∙ append-nil ys in
     (others.0, ap (λ l. l ++ joined (v ∷ us)) all ∙ ap (λ l. ys ++ l) others.1 ∙ sym (append_assoc ys (joined yss) others.0), others.2)
 
 pub joined-map : {X A : Type 0} (f : X → List A) (xs : List X) → joined (map f xs) ≡ flat_map f xs

@@ -1,6 +1,6 @@
 -- The laws of a user's own sources, which the impls cite.
 use Rattle.std.proofs.Common.{arith, ap}
-use Rattle.std.specs.Prelude.{◌≡◌, ◌<◌, ℕ, zero, suc, List, [], ◌∷◌, length}
+use Rattle.std.specs.Prelude.{◌≡◌, ◌<◌, ℕ, zero, suc, List, [], length}
 use Rattle.towers.specs.Own.{counted_down}
 
 -- a count down from one or more has an item

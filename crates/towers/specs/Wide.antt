@@ -1,5 +1,5 @@
 -- What the towers over inner sources, over two sources and into two collections make.
-use Rattle.std.specs.Prelude.{◌≡◌, ◌≤◌, ◌<◌, ℕ, Bool, true, ◌||◌, ◌&&◌, ltb, List, length, map, zip, IsTrue}
+use Rattle.std.specs.Prelude.{◌≡◌, ◌≤◌, ◌<◌, ℕ, Bool, true, ◌||◌, ◌&&◌, ltb, List, length, zip, IsTrue}
 use Rattle.std.specs.Fn.{Mut}
 use Rattle.std.specs.List.{enumerate_from}
 use Rattle.ne_vec.specs.Divisions.{joined}
@@ -13,13 +13,13 @@ module _ {F W B C : Type 0} (inner : Bool → W → List B → Type 0) (complete
   JoinsAnswers calls f n xs whole c = (us : List W) × (yss : List (List B)) × (g : F) × Calls calls f xs us g × ReadsEach inner whole us yss
       × (whole ≡ complete c && ltb (length (joined yss)) n) × (length (joined yss) ≤ n) × collected (enumerate_from 0 (joined yss)) c
 
--- c is made of the lists of the answers of f on the source's items xs, to its end if no item was wanting.
+-- c is made of the lists of the answers of f on the items xs that the source gives, to its end where `whole` is true.
 abbrev pub IsSpread : {S A F W B C : Type 0} → (Bool → S → List A → Type 0) → Mut F (A × Unit {0}) W → (Bool → W → List B → Type 0)
     → (C → Bool) → (List (ℕ × B) → C → Type 0) → S → F → ℕ → C → Type 0
 IsSpread {A = A} reads calls inner complete collected source f n c = (xs : List A) × (whole : Bool) × reads whole source xs
     × JoinsAnswers inner complete collected calls f n xs whole c
 
--- The same over the pairs of the items xs and zs of two sources, one of which had ended if no item was wanting.
+-- The same over the pairs of the items xs and zs of two sources, one of which had ended where `whole` is true.
 abbrev pub IsSpreadOfPairs : {S O A D F W B C : Type 0} → (Bool → S → List A → Type 0) → (Bool → O → List D → Type 0) → Mut F ((A × D) × Unit {0}) W → (Bool → W → List B → Type 0)
     → (C → Bool) → (List (ℕ × B) → C → Type 0) → S → O → F → ℕ → C → Type 0
 IsSpreadOfPairs {A = A} {D = D} reads others calls inner complete collected source other f n c =

@@ -98,15 +98,15 @@ impl IntoIterator for Start {
 
 impl IntoNonEmptyIterator for Start {
     ghost use Rattle.std.proofs.Common.{refl, ◌∙◌};
-    ghost use Rattle.ne_iter.specs.SourceLaws.{SameLists-through};
 
     type IntoNEIter = Countdown;
 
     ghost into_nonempty_iter_gives = { λ s c. start_of c ≡ seconds_of s };
 
-    ghost same_lists = { SameLists-through (⟦<Start as IntoIterator>⟧.into_iter_gives) (⟦<CountdownIter as Iterator>⟧.next_gives) (λ s c. start_of c ≡ seconds_of s) (⟦<Countdown as IntoIterator>⟧.into_iter_gives)
-        (λ s it made. (record { from = s.seconds }, refl, made))
-        (λ s c it same made. made ∙ same) };
+    ghost same_lists = { λ s whole xs. (
+      (λ h. (record { from = s.seconds }, refl, record { it = h.it; made = h.made; given = h.given })),
+      (λ c same h. record { it = h.it; made = h.made ∙ same; given = h.given }),
+    ) };
 
     fn into_nonempty_iter(self) -> Countdown {
         Countdown::new(self.seconds)

@@ -26,11 +26,13 @@ impl<I: Iterator> IntoIterator for NonEmptyIterAdapter<iter::Peekable<I>>
 where
     I::Item: Drop,
 {
+    ghost use Rattle.ne_iter.specs.Parts.{iterator_of_looked};
+
     type Item = I::Item;
 
     type IntoIter = iter::Peekable<I>;
 
-    ghost into_iter_gives = { λ s it. (it ≡ s.inner) × (has_looked it ≡ true) };
+    ghost into_iter_gives = { λ s it. (it ≡ iterator_of_looked s) × (has_looked it ≡ true) };
 
     fn into_iter(self) -> iter::Peekable<I> {
         self.inner

@@ -3,7 +3,7 @@ use Rattle.std.specs.Int.NonZero.{non_zero_usize_get}
 use Rattle.std.proofs.lemmas.Result.{IfOk-weaker}
 use Rattle.std.proofs.lemmas.Slice.Zip.{firsts-zip, seconds-zip}
 use Rattle.std.proofs.lemmas.List.{length-map}
-use Rattle.towers.proofs.Fronts.{below_true}
+use Rattle.std.proofs.lemmas.Bool.{lt-ltb}
 use Rattle.towers.proofs.wide.parted.Goals as goal
 
 -- The two collections, back through the adapters to the two sources.
@@ -27,7 +27,7 @@ returns g c = IfOk-weaker c.unzip.result _ _ (λ r h.
       zipped.5,
       zipped.7,
       subst (λ len. len ≤ n) long taken.1,
-      (λ less. zipped.8 (below_true (length h.0) n (subst (λ len. len < n) (sym long) less))),
+      (λ less. zipped.8 (lt-ltb (length h.0) n (subst (λ len. len < n) (sym long) less))),
       subst (λ l. g.R.Singleton.collected l r.0) firsts h.2,
       subst (λ l. g.Q.Singleton.collected l r.1) seconds h.3,
     )) c.unzip.ensures

@@ -6,8 +6,9 @@ use Rattle.std.proofs.lemmas.List.{append-nil}
 use Rattle.std.proofs.lemmas.Grind.{flat_map-append}
 use Rattle.std.proofs.lemmas.Result.{IfOk-weaker}
 use Rattle.ne_vec.specs.Divisions.{joined}
+use Rattle.std.proofs.lemmas.Bool.{lt-ltb}
 use Rattle.towers.specs.Own.{counted_down, start_of, left_of}
-use Rattle.towers.proofs.Fronts.{take_front, joined_front, joined-map, enumerate_from-take, below_true}
+use Rattle.towers.proofs.Fronts.{take_front, joined_front, joined-map, enumerate_from-take}
 use Rattle.towers.proofs.wide.spread_countdown.Goals as goal
 
 pub returns : goal.returns
@@ -24,7 +25,7 @@ returns c = IfOk-weaker c.spread.result _ _ (λ v h.
     let all : flat_map twice down ≡ items ++ (front.0 ++ flat_map twice numbers.0) =
     ap (λ l. flat_map twice l) numbers.1 ∙ flat_map-append twice h.0 numbers.0
     ∙ ap (λ l. l ++ flat_map twice numbers.0) (sym joined_answers ∙ front.1) ∙ append_assoc items front.0 (flat_map twice numbers.0) in
-    let whole : length items < n → h.1 ≡ true = λ less. h.3.5 ∙ below_true (length items) n less in
+    let whole : length items < n → h.1 ≡ true = λ less. h.3.5 ∙ lt-ltb (length items) n less in
     h.3.7 ∙ ap (λ l. enumerate_from 0 l) (
     take_front n items (front.0 ++ flat_map twice numbers.0) h.3.6 (λ less. let full = whole less in let a = front.2 full in let b = numbers.2 full in ap (λ l. front.0 ++ flat_map twice l) b ∙ append-nil front.0 ∙ a)
     ∙ ap (λ l. take n l) (sym all))

@@ -2,7 +2,8 @@ use Rattle.std.proofs.Common.{refl, ◌∷◌, ◌++◌, [], sym, ◌∙◌}
 use Rattle.std.proofs.lemmas.Fn.{says_at_two}
 use Rattle.std.proofs.lemmas.List.Elements.{Contains-append_left, Contains-push}
 use Rattle.ne_iter.proofs.Best.{ComparesBy-fewer, best_of-takes, best_of-keeps, IsFirstLeast-best_of}
-use Rattle.ne_iter.proofs.Loops.{Reads-loop, Yields-first, Yields-push}
+use Rattle.ne_iter.proofs.Loops.{Reads-loop, Yields-first}
+use Rattle.ne_iter.proofs.JoinedRuns.{Yields-append}
 use Rattle.ne_iter.proofs.iter.non_empty.NonEmptyIterator.min_by.Goals as goal
 
 pub loop-x-init : goal.loop-x-init
@@ -17,7 +18,7 @@ compare-requires g c =
     let x = c.in-Some.x in
     let best = c.loop-x.best in
     let begun = Yields-first steps from.0 first ys c.loop-x.x-iterator from.2 c.into_iter-x-iterator.ensures.into_iter_gives c.loop-x.yielded_by in
-    c.requires.callable from.0 from.1 (first ∷ ys ++ x ∷ []) c.next.new.self _ _ (Yields-push steps from.0 (first ∷ ys) c.loop-x.x-iterator x c.next.new.self begun c.in-Some.ensures.steps)
+    c.requires.callable from.0 from.1 (first ∷ ys ++ x ∷ []) c.next.new.self _ _ (Yields-append steps (first ∷ ys) (x ∷ []) from.0 c.loop-x.x-iterator c.next.new.self begun (c.next.new.self, c.in-Some.ensures.steps, refl))
     (Contains-push (first ∷ ys) x) (Contains-append_left (first ∷ ys) (x ∷ []) best c.loop-x.invariant.0)
 
 pub loop-x-preserved-then-is_lt : goal.loop-x-preserved-then-is_lt

@@ -1,12 +1,13 @@
-use Rattle.std.proofs.Common.{subst, map, [], ◌∷◌}
+use Rattle.std.proofs.Common.{subst, sym, map, [], ◌∷◌}
+use Rattle.std.proofs.lemmas.List.{append-nil}
 use Rattle.ne_iter.proofs.Loops.{Reads-loop}
-use Rattle.ne_iter.proofs.Unzipped.{append-none, map-one_more}
+use Rattle.ne_iter.proofs.Unzipped.{map-one_more}
 use Rattle.ne_iter.proofs.iter.non_empty.NonEmptyIterator.unzip.Goals as goal
 
 pub loop-a-init : goal.loop-a-init
 loop-a-init g c = (
-  λ ps h. subst (λ l. g.FromA.Singleton.collected (map (λ p. p.0) l) c.in_ok-firsts.firsts) (append-none ps) h,
-  λ ps h. subst (λ l. g.FromB.Singleton.collected (map (λ p. p.1) l) c.in_ok-seconds.seconds) (append-none ps) h,
+  λ ps h. subst (λ l. g.FromA.Singleton.collected (map (λ p. p.0) l) c.in_ok-firsts.firsts) (sym (append-nil ps)) h,
+  λ ps h. subst (λ l. g.FromB.Singleton.collected (map (λ p. p.1) l) c.in_ok-seconds.seconds) (sym (append-nil ps)) h,
 )
 
 pub loop-a-preserved : goal.loop-a-preserved
