@@ -10,3 +10,5 @@ pub mod Stops
 pub mod KeptRuns
 pub mod Loops
 pub mod Best
+pub mod Readers
+pub mod Grouped

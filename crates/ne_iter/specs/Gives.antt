@@ -1,13 +1,14 @@
 -- What each adapter gives, by what its source gives.
 -- A source is named by what it reads: `reads whole u xs` says that u may give the items xs first, and where whole is true may then
 -- end. So each word below speaks of every list that an adapter may have given so far, and of every list that it may give to its end.
-use Rattle.std.specs.Prelude.{◌≡◌, ℕ, ◌≤◌, Bool, true, false, ◌||◌, ◌&&◌, ltb, List, [], ◌∷◌, ◌++◌, length, zip, ⊤, Option, map, IsTrue, drop, filter, filter_map}
+use Rattle.std.specs.Prelude.{◌≡◌, ◌≢◌, ℕ, ◌≤◌, Bool, true, false, ◌||◌, ◌&&◌, ltb, List, [], ◌∷◌, ◌++◌, length, zip, ⊤, Option, None, Some, MatchOption, Result, Ok, Err, map, IsTrue, drop, filter, filter_map}
 use Rattle.std.specs.List.{AllZip, enumerate_from}
 use Rattle.std.specs.Fn.{Mut, CalledAt}
 use Rattle.std.specs.Borrow.{Bor}
 use Rattle.std.proofs.Common.{◌⊎◌}
 use Rattle.ne_vec.specs.Divisions.{joined}
 use Rattle.ne_iter.specs.Calls.{Calls, ShownEach, AnswersEachAt}
+use Rattle.ne_iter.specs.Keys.{items_of, DividesByKey}
 
 -- f, shown the first of the items ys, if there is one, may answer false.
 abbrev pub FailsFirst : {F A : Type 0} → Mut F (Bor A × Unit {0}) Bool → F → List A → Type 0
@@ -98,3 +99,21 @@ module _ {U V T : Type 0} (reads : Bool → U → List (Bor T) → Type 0) where
   abbrev pub ClonedGives : {R : Type 0} → (T → R → Type 0) → (Bool → V → List R → Type 0) → U → V → Type 0
   ClonedGives {R} tries cloned source result = (whole : Bool) (ys : List R) → cloned whole result ys
       → (xs : List (Bor T)) × reads whole source xs × AllZip (λ x r. tries x.now r) xs ys
+
+-- The runs rs, and one of a single item that is held, if there is one.
+abbrev pub and_held : {A : Type 0} → List (List A) → Option A → List (List A)
+and_held rs None = rs
+and_held rs (Some x) = rs ++ (x ∷ []) ∷ []
+
+module _ {U A K F : Type 0} (reads : Bool → U → List A → Type 0) (asks : Mut F (Bor A × Unit {0}) K) (eq : K → K → Bool) where
+  -- The items drawn of the source, shown to f in order, are divided by f's answers into the runs rs and an item that is held. None is
+  -- held before anything is drawn and once the source has ended; else one is, behind a run at least. At `whole` the source has ended.
+  abbrev pub HasRuns : Bool → U → F → List (List A) → Type 0
+  HasRuns whole source f rs = (ps : List (A × K)) × (g : F) × (held : Option A) × (ended : Bool)
+      × reads ended source (items_of ps) × ShownEach asks f ps g × DividesByKey eq ps (and_held rs held)
+      × MatchOption held ((ended ≡ true) ⊎ (ps ≡ [])) (λ _. rs ≢ []) × (whole ≡ true → (ended ≡ true) × (held ≡ None))
+
+  -- `group_by`: the runs of the source's items by f's answers, each in `Ok`; or up to an `Err`, behind which nothing comes.
+  abbrev pub GroupByGives : {V E : Type 0} → (Bool → V → List (Result (List A) E) → Type 0) → U → F → V → Type 0
+  GroupByGives {E = E} grouped source f result = (whole : Bool) (xs : List (Result (List A) E)) → grouped whole result xs → (rs : List (List A))
+      × (((xs ≡ map Ok rs) × HasRuns whole source f rs) ⊎ ((e : E) × (xs ≡ map Ok rs ++ Err e ∷ []) × HasRuns false source f rs))

@@ -9,3 +9,8 @@ pub mod PeekLends
 pub mod Clones
 pub mod Looked
 pub mod Answers
+pub mod Keys
+pub mod Reading
+pub mod Reader
+pub mod OpenRuns
+pub mod ReaderLaws

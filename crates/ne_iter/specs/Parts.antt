@@ -14,6 +14,7 @@ use Rattle.ne_iter.specs.declared.iter.copies.Cloned.{Cloned}
 use Rattle.ne_iter.specs.declared.iter.copies.ClonedIter.{ClonedIter}
 use Rattle.ne_iter.specs.declared.iter.copies.Copied.{Copied}
 use Rattle.ne_iter.specs.declared.iter.flat.FlatMap.{FlatMap}
+use Rattle.ne_iter.specs.declared.iter.group_by.NEGroupBy.{NEGroupBy}
 
 -- the items of an array as a source
 abbrev pub items_of_array : {T : Type 0} {N : ℕ} → ArrayNonEmptyIterator T N → List T
@@ -71,3 +72,10 @@ source_of_flat_map s = s.iter
 
 abbrev pub closure_of_flat_map : {I U F : Type 0} → FlatMap I U F → F
 closure_of_flat_map s = s.f
+
+-- the source and the closure of a `NEGroupBy`
+abbrev pub source_of_group_by : {I F : Type 0} → NEGroupBy I F → I
+source_of_group_by s = s.iter
+
+abbrev pub closure_of_group_by : {I F : Type 0} → NEGroupBy I F → F
+closure_of_group_by s = s.f

@@ -8,13 +8,13 @@ ghost use Rattle.std.specs.List.Sorted.{IsSortedByKeyClosure, IsStableByKeyClosu
 ghost use Rattle.ne_iter.specs.Sources.{IsNonEmpty, FirstAndRest};
 ghost use Rattle.ne_iter.specs.Calls.{ShownEach};
 ghost use Rattle.ne_iter.specs.Clones.{TriesClone};
-ghost use Rattle.ne_iter.specs.Parts.{source_of_map, closure_of_map, source_of_enumerate, source_of_take, count_of_take, first_of_chain, second_of_chain, first_of_zip, second_of_zip, source_of_cloned, source_of_copied, source_of_flat_map, closure_of_flat_map};
-ghost use Rattle.ne_iter.specs.Gives.{MapGives, EnumerateGives, TakeGives, ChainGives, ZipGives, FlatMapGives, CopiedGives, ClonedGives, FilterGives, FilterMapGives, SkipGives, SkipWhileGives, TakeWhileGives};
+ghost use Rattle.ne_iter.specs.Parts.{source_of_map, closure_of_map, source_of_enumerate, source_of_take, count_of_take, first_of_chain, second_of_chain, first_of_zip, second_of_zip, source_of_cloned, source_of_copied, source_of_flat_map, closure_of_flat_map, source_of_group_by, closure_of_group_by};
+ghost use Rattle.ne_iter.specs.Gives.{MapGives, EnumerateGives, TakeGives, ChainGives, ZipGives, FlatMapGives, GroupByGives, CopiedGives, ClonedGives, FilterGives, FilterMapGives, SkipGives, SkipWhileGives, TakeWhileGives};
 ghost use Rattle.ne_iter.specs.Peeks.{peekable_first, peekable_rest, PeekableGives};
 ghost use Rattle.ne_iter.specs.Answers.{TellsAll, TellsAny, FindsFirst, GivesNth, FoldsAll, ReducesAll, IsFirstGreatest, IsFirstLeast, PicksGreatest, PicksLeast, CallableOnTwo, less_by};
 
 use super::sources::{FromNonEmptyIterator, IntoNonEmptyIterator, Source};
-use super::{Chain, Cloned, Copied, Enumerate, FlatMap, Map, Peekable, Take, Zip};
+use super::{Chain, Cloned, Copied, Enumerate, FlatMap, Map, NEGroupBy, Peekable, Take, Zip};
 use ne_vec::{NEVec, Singleton, vector};
 use std::alloc::{AllocError, Global};
 use std::cmp::Ordering;
@@ -225,6 +225,33 @@ pub trait NonEmptyIterator: IntoIterator {
         ensures { FoldsAll (⟦<Self as Source>⟧.reads) F.FnMut self f init result }
     {
         self.into_iter().fold(init, f)
+    }
+
+    /// The items, divided into runs: each run is a vector, in `Ok`.
+    ///
+    /// `f` is asked for the key of each item that is drawn, once and in order. The first item begins a run. Each further one goes on
+    /// it while `==` says so of the key of the run's first item, which stands on the left, and its own; else it begins the next run. So
+    /// no item is compared with the one before it. A run is given once the first item of the next one was drawn, or the source has
+    /// ended. Nothing further is drawn, so that a reader that is stopped has drawn one item beyond its runs, at most.
+    ///
+    /// An `Err` comes where there was no memory for a run; what was taken of that is dropped, and nothing comes behind it. `alloc` is
+    /// where the runs take their memory. In the Rust crate the runs are plain vectors.
+    final fn group_by<K: PartialEq + Drop, F: FnMut(&Self::Item) -> K + Drop>(
+        self,
+        alloc: Global,
+        f: F,
+    ) -> NEGroupBy<Self, F>
+    where
+        Self: Sized,
+        Self::Item: Drop,
+        ensures holds { (source_of_group_by result ≡ self) × (closure_of_group_by result ≡ f) }
+        ensures gives { GroupByGives (⟦<Self as Source>⟧.reads) F.FnMut K.eq (⟦<NEGroupBy<Self, F> as Source>⟧.reads) self f result }
+    {
+        NEGroupBy {
+            iter: self,
+            f,
+            alloc,
+        }
     }
 
     /// The answers of `f`, called on the items.

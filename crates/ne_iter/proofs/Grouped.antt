@@ -1,0 +1,115 @@
+-- What the calls of a reader lead to, and what that says of its source.
+use Rattle.std.proofs.Common.{◌≡◌, ◌≢◌, Bool, true, false, List, [], ◌∷◌, ◌++◌, map, Option, Some, None, Result, Ok, Err, refl, sym, ap, subst, ◌∙◌, append_assoc, ◌⊎◌, inl, inr}
+use Rattle.std.proofs.lemmas.List.{append-nil, map_push}
+use Rattle.std.specs.Borrow.{Bor}
+use Rattle.std.specs.Fn.{Mut}
+use Rattle.std.specs.Iterator.{Yields, DrainsIf}
+use Rattle.std.specs.List.{FoldsTo, AllByRecursion}
+use Rattle.std.specs.declared.alloc.AllocError.{AllocError}
+use Rattle.ne_vec.specs.Divisions.{IsDivision, by_first}
+use Rattle.ne_iter.specs.Calls.{ShownEach}
+use Rattle.ne_iter.specs.Gives.{HasRuns}
+use Rattle.ne_iter.specs.Keys.{items_of, same_key}
+use Rattle.ne_iter.specs.Reader.{IsOver, StandsAt, HasRead, GivesRun, AnswersThen, AnswersOn}
+use Rattle.ne_iter.specs.ReaderLaws.{fresh_reader, nil_mapped}
+use Rattle.ne_iter.specs.Reading.{Reading, Ahead, Unread, Held, Ended}
+use Rattle.ne_iter.specs.Sources.{Reads}
+use Rattle.ne_iter.proofs.Readers.{division_of_none, held_is_not_over, unread_is_not_over}
+
+module _ {S K A F : Type 0} (steps : S → Option A → S → Type 0) (asks : Mut F (Bor A × Unit {0}) K) (eq : K → K → Bool) where
+  -- one that is over answers `None` ever after
+  none_ever_after : (g h : Reading S K A F) (answers : List (Option (Result (List A) AllocError))) → IsOver g → FoldsTo (GivesRun steps asks eq) g answers h
+      → IsOver h × AllByRecursion (λ a. a ≡ None) answers
+  none_ever_after g h [] over calls = (subst IsOver calls over, tt)
+  none_ever_after g h (a ∷ answers) over calls =
+      let step = calls.1.over over in
+      let more = none_ever_after calls.0 h answers (subst IsOver (sym step.1) over) calls.2 in
+      (more.0, (step.0, more.1))
+
+  pub answers_on : (s : S) (f : F) (done : List (List A)) (answers : List (Option (Result (List A) AllocError))) (g h : Reading S K A F) → HasRead steps asks eq s f done g
+      → FoldsTo (GivesRun steps asks eq) g answers h → AnswersOn steps asks eq s f done answers h
+  answers_on s f done [] g h read calls = ([], [], refl, subst (λ l. HasRead steps asks eq s f l h) (sym (append-nil done)) (subst (HasRead steps asks eq s f done) calls read))
+  answers_on s f done (None ∷ answers) g h read calls =
+      let first = calls.1 in
+      let more = none_ever_after calls.0 h answers first.stops calls.2 in
+      ([], None ∷ answers, refl, (subst (λ l. HasRead steps asks eq s f l h) (sym (append-nil done)) (stays calls.0 h answers first.stops (first.reads s f done read) calls.2), more.0, more.1))
+    where
+      stays : (g h : Reading S K A F) (answers : List (Option (Result (List A) AllocError))) → IsOver g → HasRead steps asks eq s f done g → FoldsTo (GivesRun steps asks eq) g answers h → HasRead steps asks eq s f done h
+      stays g h [] over read calls = subst (HasRead steps asks eq s f done) calls read
+      stays g h (a ∷ answers) over read calls =
+          let same = sym (calls.1.over over).1 in
+          stays calls.0 h answers (subst IsOver same over) (subst (HasRead steps asks eq s f done) same read) calls.2
+  answers_on s f done (Some (Ok run) ∷ answers) g h read calls =
+      let more = answers_on s f (done ++ run ∷ []) answers calls.0 h (calls.1.reads s f done read) calls.2 in
+      (run ∷ more.0, more.1, ap (λ l. Some (Ok run) ∷ l) more.2, subst (λ l. AnswersThen steps asks eq s f l more.1 h) (append_assoc done (run ∷ []) more.0) more.3)
+  answers_on s f done (Some (Err e) ∷ answers) g h read calls =
+      let more = none_ever_after calls.0 h answers calls.1.stops calls.2 in
+      ([], Some (Err e) ∷ answers, refl, ((g, subst (λ l. HasRead steps asks eq s f l g) (sym (append-nil done)) read), more.0, more.1))
+
+  -- the runs that came, and an `Err` behind them, if one came
+  abbrev pub Came : S → F → List (List A) → List (Result (List A) AllocError) → Reading S K A F → Type 0
+  Came s f done xs h = (rs : List (List A)) × (((xs ≡ map Ok rs) × HasRead steps asks eq s f (done ++ rs) h)
+      ⊎ ((e : AllocError) × (xs ≡ map Ok rs ++ Err e ∷ []) × (k : Reading S K A F) × HasRead steps asks eq s f (done ++ rs) k))
+
+  one_more_came : (s : S) (f : F) (done : List (List A)) (run : List A) (xs : List (Result (List A) AllocError)) (h : Reading S K A F) → Came s f (done ++ run ∷ []) xs h → Came s f done (Ok run ∷ xs) h
+  one_more_came s f done run xs h (rs, inl (e, read)) = (run ∷ rs, inl (ap (λ l. Ok run ∷ l) e, subst (λ l. HasRead steps asks eq s f l h) (append_assoc done (run ∷ []) rs) read))
+  one_more_came s f done run xs h (rs, inr (e, is, k, read)) = (run ∷ rs, inr (e, ap (λ l. Ok run ∷ l) is, k, subst (λ l. HasRead steps asks eq s f l k) (append_assoc done (run ∷ []) rs) read))
+
+  pub came : (s : S) (f : F) (done : List (List A)) (xs : List (Result (List A) AllocError)) (g h : Reading S K A F) → HasRead steps asks eq s f done g
+      → Yields (GivesRun steps asks eq) g xs h → Came s f done xs h
+  came s f done [] g h read calls = ([], inl (refl, subst (λ l. HasRead steps asks eq s f l h) (sym (append-nil done)) (subst (HasRead steps asks eq s f done) calls read)))
+  came s f done (Ok run ∷ xs) g h read calls = one_more_came s f done run xs h (came s f (done ++ run ∷ []) xs calls.0 h (calls.1.reads s f done read) calls.2)
+  came s f done (Err e ∷ []) g h read calls = ([], inr (e, refl, g, subst (λ l. HasRead steps asks eq s f l g) (sym (append-nil done)) read))
+  came s f done (Err e ∷ x ∷ xs) g h read calls = let none = (calls.2.1.over calls.1.stops).0 in cc
+
+  module _ {U : Type 0} (becomes : U → S → Type 0) (source : U) (s : S) (made : becomes source s) (f : F) where
+    has_runs : (a : Ahead K A) (whole : Bool) (rs : List (List A)) (drawn : List (A × K)) (runs : List (List (A × K))) (g : F) (t : S) → StandsAt steps asks eq a s drawn t runs
+        → rs ≡ map items_of runs → ShownEach asks f drawn g → (whole ≡ true → a ≡ Ended) → HasRuns (Reads becomes steps) asks eq whole source f rs
+    has_runs Unread whole rs drawn runs g t stands e asked over = (
+      drawn,
+      g,
+      None,
+      false,
+      record { it = s; made = made; given = (t, subst (λ l. Yields steps s (items_of l) t) (sym stands.0) stands.2, λ w. cc) },
+      asked,
+      (runs, subst (λ l. IsDivision (by_first (same_key eq)) l runs) (sym stands.0) (subst (IsDivision (by_first (same_key eq)) []) (sym stands.1) (division_of_none (by_first (same_key eq)))), e),
+      inr stands.0,
+      λ w. absurd (unread_is_not_over refl (over w)),
+    )
+    has_runs (Held k x) whole rs drawn runs g t stands e asked over = (
+      drawn,
+      g,
+      Some x,
+      false,
+      record { it = s; made = made; given = (t, stands.1, λ w. cc) },
+      asked,
+      (runs ++ ((x, k) ∷ []) ∷ [], stands.2, ap (λ l. l ++ (x ∷ []) ∷ []) e ∙ sym (map_push items_of runs ((x, k) ∷ []))),
+      (λ none. stands.0 (nil_mapped items_of runs (sym none ∙ e))),
+      λ w. absurd (held_is_not_over refl (over w)),
+    )
+    has_runs Ended whole rs drawn runs g t stands e asked over = (
+      drawn,
+      g,
+      None,
+      true,
+      record { it = s; made = made; given = (stands.0.0, stands.0.1, λ w. (t, stands.0.2)) },
+      asked,
+      (runs, stands.1, e),
+      inl refl,
+      λ w. (refl, refl),
+    )
+
+    read_has_runs : (whole : Bool) (rs : List (List A)) (h : Reading S K A F) → HasRead steps asks eq s f rs h → (whole ≡ true → IsOver h) → HasRuns (Reads becomes steps) asks eq whole source f rs
+    read_has_runs whole rs h read over = has_runs h.ahead whole rs read.drawn read.runs h.closure h.source read.stands read.answered read.asked over
+
+    pub grouped : (whole : Bool) (xs : List (Result (List A) AllocError)) (h : Reading S K A F) → (whole ≡ true → (u : Reading S K A F) × GivesRun steps asks eq h None u) → Came s f [] xs h
+        → (rs : List (List A)) × (((xs ≡ map Ok rs) × HasRuns (Reads becomes steps) asks eq whole source f rs) ⊎ ((e : AllocError) × (xs ≡ map Ok rs ++ Err e ∷ []) × HasRuns (Reads becomes steps) asks eq false source f rs))
+    grouped false xs h end (rs, inl (e, read)) = (rs, inl (e, read_has_runs false rs h read (λ w. cc)))
+    grouped true xs h end (rs, inl (e, read)) = let last = (end refl).1 in (rs, inl (e, read_has_runs true rs (end refl).0 (last.reads s f rs read) (λ w. last.stops)))
+    grouped whole xs h end (rs, inr (e, is, k, read)) = (rs, inr (e, is, read_has_runs false rs k read (λ w. cc)))
+
+  pub grouped_from : {U : Type 0} (becomes : U → S → Type 0) (source : U) (f : F) (it : Reading S K A F) → becomes source it.source → it.closure ≡ f → it.ahead ≡ Unread
+      → (whole : Bool) (xs : List (Result (List A) AllocError)) → DrainsIf (GivesRun steps asks eq) (whole ≡ true) it xs
+      → (rs : List (List A)) × (((xs ≡ map Ok rs) × HasRuns (Reads becomes steps) asks eq whole source f rs) ⊎ ((e : AllocError) × (xs ≡ map Ok rs ++ Err e ∷ []) × HasRuns (Reads becomes steps) asks eq false source f rs))
+  grouped_from becomes source f it made same unread whole xs given =
+      grouped becomes source it.source made f whole xs given.0 given.2 (came it.source f [] xs it given.0 (subst (λ q. HasRead steps asks eq it.source q [] it) same (fresh_reader steps asks eq it unread)) given.1)

@@ -1,0 +1,86 @@
+use Rattle.std.proofs.Common.{arith, refl, true, false, sym, ap, subst, ◌∙◌, ◌≡◌, ◌+◌, ◌≤◌}
+use Rattle.std.proofs.lemmas.Fn.{called_at}
+use Rattle.std.specs.Iterator.{IsFinite, size}
+use denote.Param.Always.{always_mut, mut_next}
+use Rattle.ne_vec.specs.Divisions.{by_first}
+use Rattle.ne_iter.specs.Keys.{same_key}
+use Rattle.ne_iter.specs.Reading.{Reading, Unread, Held}
+use Rattle.ne_iter.specs.OpenRuns.{ahead_of}
+use Rattle.ne_iter.specs.declared.iter.group_by.State.TheVariants.{Unread as unread, Open as opened}
+use Rattle.ne_iter.specs.Reader.{CanRead, HasRead, runs_left}
+use Rattle.ne_iter.proofs.Readers.{open_held, open_first, open_more, close_held, close_end, held_is_not_over, unread_is_not_over, can_read_held, can_read_unread, settled_run}
+use Rattle.ne_iter.proofs.iter.group_by.GroupByItemIterator.next.Goals.{in-Open, in-Unread+in_ok-item-in-Unread+in-Ok}
+use Rattle.ne_iter.proofs.iter.group_by.GroupByItemIterator.next.Goals as goal
+
+pub loop-item-init : goal.loop-item-init
+loop-item-init g c =
+    let steps = g.I.Iterator.next_gives in
+    let left = g.I.Iterator.remaining in
+    let at = c.self.inside in
+    let begun : Reading _ _ _ _ = record { source = at.iter; closure = at.key; ahead = ahead_of at.state } in
+    let ready = subst (CanRead g.I.Iterator.can_next left (always_mut g.F.FnMut)) (sym c.self.view_is) c.requires in
+    let Ready = g.I.Iterator.can_next at.iter × IsFinite (left at.iter) × always_mut g.F.FnMut at.key in
+    elim c.match-replace.branch [
+      | in-Open w ↦
+          let state : at.state ≡ opened w.in-Open.key w.in-Open.run' = sym c.replace.ensures.value ∙ w.in-Open.is in
+          let held = settled_run at.state w.in-Open.key w.in-Open.run' state c.self.invariant in
+          let e : c.args.self.now.ahead ≡ Held w.in-Open.key held.0 = subst (λ v. v.ahead ≡ Held w.in-Open.key held.0) c.self.view_is held.2 in
+          let can = can_read_held Ready held.2 ready in
+          rw (w.first_key-is, w.self-inside-is, c.replace.ensures.after, held.1) (
+            λ s f rs h. open_held steps g.F.FnMut g.K.PartialEq.eq s f rs begun held.0 w.in-Open.key (subst (HasRead steps g.F.FnMut g.K.PartialEq.eq s f rs) (sym c.self.view_is) h) held.2,
+            refl,
+            held_is_not_over e,
+            can.2,
+            can.0,
+            can.1,
+            subst (λ v. size (left at.iter) + 1 ≤ size (runs_left left v)) c.self.view_is (rw held.2 (omega arith)),
+          )
+      | in-Unread+in_ok-item-in-Unread+in-Ok w ↦
+          let state : at.state ≡ unread = sym c.replace.ensures.value ∙ w.in-Unread.is in
+          let fresh : ahead_of at.state ≡ Unread = ap ahead_of state in
+          let e : c.args.self.now.ahead ≡ Unread = subst (λ v. v.ahead ≡ Unread) c.self.view_is fresh in
+          let can = can_read_unread Ready fresh ready in
+          let first = w.in_ok-item-in-Unread.ensures in
+          rw (w.first_key-is, w.self-inside-is, c.replace.ensures.after, w.in-Ok.ensures) (
+            λ s f rs h. open_first steps g.F.FnMut g.K.PartialEq.eq s f rs begun _ _ _ _ (subst (HasRead steps g.F.FnMut g.K.PartialEq.eq s f rs) (sym c.self.view_is) h) fresh first.steps (called_at g.F.FnMut w.call_mut-item_key.ensures refl),
+            refl,
+            unread_is_not_over e,
+            mut_next g.F.FnMut _ _ _ _ _ w.call_mut-item_key.ensures refl can.2,
+            (first.goes.on can.1).0,
+            (first.goes.on can.1).1,
+            subst (λ v. size (left w.next.new.self) + 1 ≤ size (runs_left left v)) c.self.view_is (rw fresh (omega (arith, (first.goes.on can.1).2))),
+          )
+    ]
+
+pub loop-item-preserved : goal.loop-item-preserved
+loop-item-preserved g c =
+    let i = c.loop-item.invariant in
+    let came = c.in-Some.ensures in
+    let eq = g.K.PartialEq.eq in (
+      λ s f rs h. rw c.in-Ok-push.ensures.added (open_more g.I.Iterator.next_gives g.F.FnMut eq s f rs _ _ _ _ _ _ _ _ (c.one_item_more.ensures.goes_on (by_first (same_key eq))) (i.0 s f rs h) came.steps (called_at g.F.FnMut c.call_mut-item_key-in-Some.ensures refl) (subst (λ v. v ≡ true) c.eq.ensures c.if-eq.true)),
+      i.1,
+      i.2,
+      mut_next g.F.FnMut _ _ _ _ _ c.call_mut-item_key-in-Some.ensures refl i.3,
+      (came.goes.on i.5).0,
+      (came.goes.on i.5).1,
+      omega (arith, (came.goes.on i.5).2, i.6),
+    )
+
+-- an item of another key came
+pub returns-else-eq-clause-steps : goal.returns-else-eq-clause-steps
+returns-else-eq-clause-steps g c =
+    let i = c.loop-item.invariant in
+    let eq = g.K.PartialEq.eq in record {
+      over = λ o. absurd (i.2 o);
+      stops = tt;
+      reads = λ s f rs h. rw c.in-Ok-new.ensures (close_held g.I.Iterator.next_gives g.F.FnMut eq s f rs _ _ _ _ _ _ _ (c.one_item_more.ensures.breaks (by_first (same_key eq))) (i.0 s f rs h) c.in-Some.ensures.steps (called_at g.F.FnMut c.call_mut-item_key-in-Some.ensures refl) (subst (λ v. v ≡ false) c.eq.ensures c.if-eq.false) refl);
+    }
+
+-- the source ended
+pub returns-clause-steps : goal.returns-clause-steps
+returns-clause-steps g c =
+    let i = c.loop-item.invariant in record {
+      over = λ o. absurd (i.2 o);
+      stops = tt;
+      reads = λ s f rs h. close_end g.I.Iterator.next_gives g.F.FnMut g.K.PartialEq.eq s f rs _ _ _ _ _ (i.0 s f rs h) c.in_default-next.ensures.steps refl (ap ahead_of i.1);
+    }

@@ -1,0 +1,15 @@
+-- Items with their keys, and their division by them.
+use Rattle.std.specs.Prelude.{◌≡◌, Bool, List, map}
+use Rattle.ne_vec.specs.Divisions.{IsDivision, by_first}
+
+-- the items of a list of items with keys
+abbrev pub items_of : {A K : Type 0} → List (A × K) → List A
+items_of ps = map (λ p. p.0) ps
+
+-- whether two items have the same key: the key of the first is the left one
+abbrev pub same_key : {A K : Type 0} → (K → K → Bool) → A × K → A × K → Bool
+same_key eq p q = eq p.1 q.1
+
+-- rs are the runs of the items of ps: each key is compared with that of its run's first item.
+abbrev pub DividesByKey : {A K : Type 0} → (K → K → Bool) → List (A × K) → List (List A) → Type 0
+DividesByKey {A} {K} eq ps rs = (runs : List (List (A × K))) × IsDivision (by_first (same_key eq)) ps runs × (rs ≡ map items_of runs)

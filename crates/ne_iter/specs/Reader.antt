@@ -1,0 +1,73 @@
+-- What a reader of runs has drawn and answered, at whatever moment it is stopped.
+use Rattle.std.specs.Prelude.{◌≡◌, ◌≢◌, ⊤, ◌+◌, Bool, List, [], ◌∷◌, ◌++◌, map, Option, Some, None, Result, Ok, Err, MatchOption, OnErr, IfOk}
+use Rattle.std.specs.Fn.{Mut}
+use Rattle.std.specs.List.{AllByRecursion}
+use Rattle.std.specs.Borrow.{Bor}
+use Rattle.std.specs.Iterator.{Yields, YieldsThen, Count, IsFinite, at_most, count_map}
+use Rattle.std.specs.declared.alloc.AllocError.{AllocError}
+use Rattle.ne_vec.specs.Divisions.{IsDivision, by_first}
+use Rattle.ne_iter.specs.Calls.{ShownEach}
+use Rattle.ne_iter.specs.Keys.{items_of, same_key}
+use Rattle.ne_iter.specs.Reading.{Reading, Ahead, Unread, Held, Ended}
+
+-- It answers `None` from now on.
+abbrev pub IsOver : {S K A F : Type 0} → Reading S K A F → Type 0
+IsOver g = g.ahead ≡ Ended
+
+module _ {S K A F : Type 0} (steps : S → Option A → S → Type 0) (asks : Mut F (Bor A × Unit {0}) K) (eq : K → K → Bool) where
+  -- The items drawn, each with its key, took the source from s to t. Nothing was drawn; or they are divided into the runs and one more,
+  -- of the item that is held; or the source has ended, and they are divided into the runs.
+  abbrev pub StandsAt : Ahead K A → S → List (A × K) → S → List (List (A × K)) → Type 0
+  StandsAt Unread s drawn t runs = (drawn ≡ []) × (runs ≡ []) × (s ≡ t)
+  StandsAt (Held k x) s drawn t runs = (runs ≢ []) × Yields steps s (items_of drawn) t × IsDivision (by_first (same_key eq)) drawn (runs ++ ((x, k) ∷ []) ∷ [])
+  StandsAt Ended s drawn t runs = YieldsThen steps s (items_of drawn) None t × IsDivision (by_first (same_key eq)) drawn runs
+
+  -- A reader that began with the source s and the closure f has answered the runs rs, and now is g. The closure was shown the items
+  -- drawn, each once and in order, and their keys are its answers.
+  pub record HasRead (s : S) (f : F) (rs : List (List A)) (g : Reading S K A F) : Type 0 where
+    pub drawn : List (A × K)
+    pub runs : List (List (A × K))
+    pub answered : rs ≡ map items_of runs
+    pub asked : ShownEach asks f drawn g.closure
+    pub stands : StandsAt g.ahead s drawn g.source runs
+
+  -- One call of `next` answers r, and takes the reader from g to h.
+  pub record GivesRun (g : Reading S K A F) (r : Option (Result (List A) AllocError)) (h : Reading S K A F) : Type 0 where
+    -- a reader that is over answers `None` and stays as it is
+    pub over : IsOver g → (r ≡ None) × (h ≡ g)
+    -- it is over after `None`, and after an `Err`
+    pub stops : MatchOption r (IsOver h) (λ x. OnErr x (IsOver h))
+    -- whatever it had read and answered: a run comes behind those that it answered, and after `None` there are no more
+    pub reads : (s : S) (f : F) (rs : List (List A)) → HasRead s f rs g → MatchOption r (HasRead s f rs h) (λ x. IfOk x (λ run. HasRead s f (rs ++ run ∷ []) h))
+
+  -- What a reader that had answered the runs rs answered then, and how it stands now: nothing yet; or that no more will come; or an
+  -- `Err`, and it stood as k before. After `None` and after an `Err` it answers `None` and nothing else.
+  abbrev pub AnswersThen : S → F → List (List A) → List (Option (Result (List A) AllocError)) → Reading S K A F → Type 0
+  AnswersThen s f rs [] h = HasRead s f rs h
+  AnswersThen s f rs (None ∷ more) h = HasRead s f rs h × IsOver h × AllByRecursion (λ a. a ≡ None) more
+  AnswersThen s f rs (Some (Ok run) ∷ more) h = ⊥
+  AnswersThen s f rs (Some (Err e) ∷ more) h = ((k : Reading S K A F) × HasRead s f rs k) × IsOver h × AllByRecursion (λ a. a ≡ None) more
+
+  -- A reader that had answered the runs done answered so on, and now is h: it answered runs, and then no more.
+  abbrev pub AnswersOn : S → F → List (List A) → List (Option (Result (List A) AllocError)) → Reading S K A F → Type 0
+  AnswersOn s f done answers h = (rs : List (List A)) × (more : List (Option (Result (List A) AllocError)))
+      × (answers ≡ map (λ run. Some (Ok run)) rs ++ more) × AnswersThen s f (done ++ rs) more h
+
+-- P, unless no more will come
+abbrev pub UnlessEnded : {K A : Type 0} → Ahead K A → Type 0 → Type 0
+UnlessEnded Unread P = P
+UnlessEnded (Held k x) P = P
+UnlessEnded Ended P = ⊤
+
+-- no more runs than there are items: those of the source, and the one that is held
+abbrev pub count_ahead : {K A : Type 0} → Ahead K A → Count → Count
+count_ahead Unread c = c
+count_ahead (Held k x) c = count_map (λ n. n + 1) c
+count_ahead Ended c = at_most 0
+
+-- A reader that is not over needs a source that can be drawn and ends, and a closure that can be called.
+abbrev pub CanRead : {S K A F : Type 0} → (S → Type 0) → (S → Count) → (F → Type 0) → Reading S K A F → Type 0
+CanRead can left callable g = UnlessEnded g.ahead (can g.source × IsFinite (left g.source) × callable g.closure)
+
+abbrev pub runs_left : {S K A F : Type 0} → (S → Count) → Reading S K A F → Count
+runs_left left g = count_ahead g.ahead (left g.source)

@@ -1,0 +1,128 @@
+//! The adapter that divides the items of a source into runs of equal keys.
+ghost use Rattle.ne_iter.specs.Reader.{CanRead, GivesRun, runs_left};
+
+use super::NonEmptyIterator;
+use ne_vec::{NEVec, laws};
+use std::alloc::{AllocError, Global};
+use std::marker::Model;
+use std::mem;
+
+/// The runs of items with equal keys: see [`NonEmptyIterator::group_by`].
+#[derive(Drop)]
+pub struct NEGroupBy<I, F> {
+    pub(super) iter: I,
+    pub(super) f: F,
+    pub(super) alloc: Global,
+}
+
+impl<I: NonEmptyIterator, K: PartialEq + Drop, F: FnMut(&I::Item) -> K + Drop> IntoIterator
+    for NEGroupBy<I, F>
+where
+    I::Item: Drop,
+{
+    ghost use Rattle.std.specs.Prelude.{◌≡◌};
+    ghost use Rattle.ne_iter.specs.Reading.{Unread};
+    ghost use Rattle.ne_iter.specs.Parts.{source_of_group_by, closure_of_group_by};
+
+    type Item = Result<NEVec<I::Item>, AllocError>;
+
+    type IntoIter = GroupBy<I::IntoIter, K, I::Item, F>;
+
+    ghost into_iter_gives = { λ s g. I.into_iter_gives (source_of_group_by s) g.source × (g.closure ≡ closure_of_group_by s) × (g.ahead ≡ Unread) };
+
+    fn into_iter(self) -> GroupBy<I::IntoIter, K, I::Item, F> {
+        GroupBy {
+            iter: self.iter.into_iter(),
+            key: self.f,
+            state: State::Unread,
+            alloc: self.alloc,
+        }
+    }
+}
+
+impl<I: NonEmptyIterator, K: PartialEq + Drop, F: FnMut(&I::Item) -> K + Drop> NonEmptyIterator
+    for NEGroupBy<I, F>
+where
+    I::Item: Drop,
+{
+    ghost use Rattle.ne_iter.specs.Parts.{source_of_group_by};
+    ghost use Rattle.ne_iter.specs.ReaderLaws.{HasFirst-grouped};
+
+    ghost not_empty = { λ s g made. HasFirst-grouped I.IntoIter.next_gives F.FnMut K.eq g made.2 (I.not_empty (source_of_group_by s) g.source made.0) };
+}
+
+/// The iterator of a [`NEGroupBy`]: one run after the other, each a vector.
+///
+/// Between two calls a contract sees its source, its closure, and what is ahead: nothing was drawn yet, or one item is held with its
+/// key, or no more will come.
+#[derive(Drop)]
+pub struct GroupBy<I, K, V, F> {
+    iter: I,
+    key: F,
+    state: State<K, V>,
+    alloc: Global,
+}
+
+// The run that was begun, with the key of its first item.
+#[derive(Drop)]
+enum State<K, V> {
+    Unread,
+    Open(K, NEVec<V>),
+    Ended,
+}
+
+impl<I, K, V, F> Model for GroupBy<I, K, V, F> {
+    ghost use Rattle.ne_iter.specs.Reading.{Reading};
+    ghost use Rattle.ne_iter.specs.OpenRuns.{ahead_of, IsSettled};
+
+    ghost Value = { Reading I K V F };
+
+    ghost view = { λ g. record { source = g.iter; closure = g.key; ahead = ahead_of g.state } };
+
+    ghost invariant = { λ g. IsSettled g.state };
+}
+
+impl<I: Iterator, K: PartialEq + Drop, F: FnMut(&I::Item) -> K + Drop> Iterator
+    for GroupBy<I, K, I::Item, F>
+where
+    I::Item: Drop,
+{
+    type Item = Result<NEVec<I::Item>, AllocError>;
+
+    ghost can_next = { CanRead I.can_next I.remaining F.IsAlwaysCallable };
+
+    ghost next_gives = { GivesRun I.next_gives F.FnMut K.eq };
+
+    ghost remaining = { runs_left I.remaining };
+
+    fn next(&mut self) -> Option<Result<NEVec<I::Item>, AllocError>> {
+        laws::one_item_more::<(I::Item, K)>();
+        let (first_key, mut run) = match mem::replace(&mut self.state, State::Ended) {
+            State::Open(key, run) => (key, run),
+            State::Unread => {
+                let item = self.iter.next()?;
+                let item_key = (self.key)(&item);
+                let Ok(run) = NEVec::new(self.alloc, item) else {
+                    return Some(Err(AllocError));
+                };
+                (item_key, run)
+            }
+            State::Ended => return None,
+        };
+        while let Some(item) = self.iter.next() {
+            let item_key = (self.key)(&item);
+            if first_key == item_key {
+                let Ok(()) = run.push(item) else {
+                    return Some(Err(AllocError));
+                };
+            } else {
+                let Ok(next_run) = NEVec::new(self.alloc, item) else {
+                    return Some(Err(AllocError));
+                };
+                self.state = State::Open(item_key, next_run);
+                return Some(Ok(run));
+            }
+        }
+        Some(Ok(run))
+    }
+}
