@@ -12,3 +12,4 @@ pub mod Loops
 pub mod Best
 pub mod Readers
 pub mod Grouped
+pub mod Divided

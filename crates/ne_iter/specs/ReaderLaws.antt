@@ -1,11 +1,11 @@
 -- Proofs on readers, which the impls cite.
 use Rattle.std.proofs.Common.{subst, sym, ap, ◌∙◌}
-use Rattle.std.specs.Prelude.{◌≡◌, Bool, List, [], ◌∷◌, map, Option, Some, None, refl}
+use Rattle.std.specs.Prelude.{◌≡◌, Bool, List, [], ◌∷◌, map, Option, None, refl}
 use Rattle.std.specs.Borrow.{Bor}
 use Rattle.std.specs.Fn.{Mut}
 use Rattle.std.specs.Iterator.{Yields}
-use Rattle.ne_vec.specs.Divisions.{joined, IsDivision, by_first}
-use Rattle.ne_iter.specs.Keys.{items_of, same_key}
+use Rattle.ne_vec.specs.Divisions.{joined}
+use Rattle.ne_iter.specs.Keys.{items_of}
 use Rattle.ne_iter.specs.Reader.{IsOver, StandsAt, HasRead, GivesRun}
 use Rattle.ne_iter.specs.Reading.{Reading, Unread, Ended}
 use Rattle.ne_iter.specs.Sources.{HasFirst}

@@ -4,3 +4,4 @@ pub mod Relations
 pub mod Kept
 pub mod Chunked
 pub mod Compared
+pub mod MappedRuns

@@ -1,5 +1,5 @@
 //! Laws on what the contracts cite. Each is the contract of a function that does nothing.
-ghost use Rattle.std.specs.Prelude.{◌≡◌, ◌≢◌, ◌<◌, ◌≤◌, ◌↔◌, ◌*◌, ℕ, Bool, true, false, List, [], ◌∷◌, ◌++◌, length, take, drop, slice_get, Some};
+ghost use Rattle.std.specs.Prelude.{◌≡◌, ◌≢◌, ◌<◌, ◌≤◌, ◌↔◌, ◌*◌, ℕ, Bool, true, false, List, [], ◌∷◌, ◌++◌, length, map, take, drop, slice_get, Some};
 ghost use Rattle.std.specs.List.{AllByRecursion};
 ghost use Rattle.std.specs.Cmp.{IsPartialEquivalence};
 ghost use Rattle.std.specs.Cmp.Lexicographic.{pointwise, slice_cmp};
@@ -36,6 +36,11 @@ pub fn first_and_previous_agree<T>()
 /// A symmetric relation and its converse have the same division.
 pub fn converse_has_the_same_division<T>()
     ensures { (same : T → T → Bool) (xs : List T) (rs : List (List T)) → ((x y : T) → same x y ≡ same y x) → IsDivision (by_first same) xs rs → IsDivision (by_first (λ x y. same y x)) xs rs }
+{}
+
+/// Where a mapped item goes on a mapped run as the item goes on the run, the runs of the mapped list are the mapped runs.
+pub fn mapped_list_has_the_mapped_runs<T, U>()
+    ensures { (f : T → U) (goes_on : List T → T → Bool) (mapped_on : List U → U → Bool) (xs : List T) (rs : List (List T)) → ((r : List T) (x : T) → mapped_on (map f r) (f x) ≡ goes_on r x) → IsDivision goes_on xs rs → IsDivision mapped_on (map f xs) (map (map f) rs) }
 {}
 
 /// There is a chunk j for each j at which the list has an item left, and it is the items from place j times the size on, as many as
