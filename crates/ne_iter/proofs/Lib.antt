@@ -10,3 +10,4 @@ pub mod Stops
 pub mod KeptRuns
 pub mod Loops
 pub mod Best
+pub mod Collects

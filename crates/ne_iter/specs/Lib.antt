@@ -9,3 +9,4 @@ pub mod PeekLends
 pub mod Clones
 pub mod Looked
 pub mod Answers
+pub mod Collected
