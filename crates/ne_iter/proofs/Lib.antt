@@ -13,3 +13,4 @@ pub mod Best
 pub mod Readers
 pub mod Grouped
 pub mod Divided
+pub mod Collects

@@ -14,3 +14,4 @@ pub mod Reading
 pub mod Reader
 pub mod OpenRuns
 pub mod ReaderLaws
+pub mod Collected

@@ -1,0 +1,67 @@
+//! Collecting into the standard library's types: here nothing, vectors and results; texts and paths in `texts`, maps and sets in `keys`.
+ghost use Rattle.std.specs.Result.{is_ok};
+ghost use Rattle.ne_iter.specs.Collected.{ResultsMake};
+
+mod keys;
+mod texts;
+
+use super::{FromNonEmptyIterator, IntoNonEmptyIterator, NonEmptyIterator};
+use ne_vec::NEVec;
+use std::alloc::{AllocError, Global};
+
+/// Nothing is made; every item is drawn.
+impl FromNonEmptyIterator<()> for () {
+    ghost use Rattle.std.specs.Prelude.{⊤};
+
+    ghost collected = { λ _ _. ⊤ };
+
+    fn from_nonempty_iter<I: IntoNonEmptyIterator<Item = ()>>(
+        alloc: Global,
+        iter: I,
+    ) -> Result<(), AllocError> {
+        for () in iter.into_nonempty_iter() {}
+        Ok(())
+    }
+}
+
+/// The items, in order.
+impl<T: Drop> FromNonEmptyIterator<T> for Vec<T> {
+    ghost use Rattle.std.specs.Prelude.{◌≡◌};
+
+    ghost collected = { λ xs v. v.items ≡ xs };
+
+    fn from_nonempty_iter<I: IntoNonEmptyIterator<Item = T>>(
+        alloc: Global,
+        iter: I,
+    ) -> Result<Vec<T>, AllocError> {
+        iter.into_nonempty_iter().into_iter().collect(alloc)
+    }
+}
+
+/// `Ok` of what the values make, or the first `Err`, and then no later item is drawn.
+///
+/// The values are kept in an [`NEVec`] until all are there. In the Rust crate they are handed on one at a time.
+impl<T: Drop, E: Drop, V: FromNonEmptyIterator<T>> FromNonEmptyIterator<Result<T, E>>
+    for Result<V, E> {
+    ghost collected = { ResultsMake V.collected V.is_complete };
+
+    ghost is_complete = { is_ok };
+
+    fn from_nonempty_iter<I: IntoNonEmptyIterator<Item = Result<T, E>>>(
+        alloc: Global,
+        iter: I,
+    ) -> Result<Result<V, E>, AllocError> {
+        let (first, rest) = iter.into_nonempty_iter().next();
+        let mut values = match first {
+            Ok(value) => NEVec::new(alloc, value)?,
+            Err(e) => return Ok(Err(e)),
+        };
+        for item in rest {
+            match item {
+                Ok(value) => values.push(value)?,
+                Err(e) => return Ok(Err(e)),
+            }
+        }
+        Ok(Ok(V::from_nonempty_iter(alloc, values)?))
+    }
+}

@@ -1,0 +1,60 @@
+//! Collecting into maps and sets. Keys and items count as the same where `==` says so; which of several equal ones is kept is left open.
+ghost use Rattle.std.specs.Prelude.{◌<◌, length};
+ghost use Rattle.std.specs.BTreeMap.{IsOrdered};
+ghost use Rattle.std.specs.BTreeSet.{IsOrdered as AreOrdered};
+ghost use Rattle.ne_iter.specs.Collected.{IsMapOf, IsSetOf};
+
+use crate::iter::{FromNonEmptyIterator, IntoNonEmptyIterator, NonEmptyIterator};
+use std::alloc::{AllocError, Global};
+use std::collections::{BTreeMap, BTreeSet, HashMap, HashSet};
+use std::hash::{BuildHasher, Hash};
+
+/// Each key once, with the value of the last pair that has it.
+impl<K: Eq + Hash + Drop, V: Drop, S: BuildHasher + Default + Drop> FromNonEmptyIterator<(K, V)>
+    for HashMap<K, V, S> {
+    ghost collected = { λ xs m. IsMapOf K.eq xs m.entries × (0 < length m.entries) };
+
+    fn from_nonempty_iter<I: IntoNonEmptyIterator<Item = (K, V)>>(
+        alloc: Global,
+        iter: I,
+    ) -> Result<HashMap<K, V, S>, AllocError> {
+        iter.into_nonempty_iter().into_iter().collect(alloc)
+    }
+}
+
+/// Each key once, with the value of the last pair that has it; the keys ascend.
+impl<K: Ord + Drop, V: Drop> FromNonEmptyIterator<(K, V)> for BTreeMap<K, V> {
+    ghost collected = { λ xs m. IsMapOf K.eq xs m.entries × IsOrdered K.cmp m × (0 < length m.entries) };
+
+    fn from_nonempty_iter<I: IntoNonEmptyIterator<Item = (K, V)>>(
+        alloc: Global,
+        iter: I,
+    ) -> Result<BTreeMap<K, V>, AllocError> {
+        iter.into_nonempty_iter().into_iter().collect(alloc)
+    }
+}
+
+/// Each item once.
+impl<T: Eq + Hash + Drop, S: BuildHasher + Default + Drop> FromNonEmptyIterator<T>
+    for HashSet<T, S> {
+    ghost collected = { λ xs s. IsSetOf T.eq xs s.keys × (0 < length s.keys) };
+
+    fn from_nonempty_iter<I: IntoNonEmptyIterator<Item = T>>(
+        alloc: Global,
+        iter: I,
+    ) -> Result<HashSet<T, S>, AllocError> {
+        iter.into_nonempty_iter().into_iter().collect(alloc)
+    }
+}
+
+/// Each item once; the items ascend.
+impl<T: Ord + Drop> FromNonEmptyIterator<T> for BTreeSet<T> {
+    ghost collected = { λ xs s. IsSetOf T.eq xs s.keys × AreOrdered T.cmp s × (0 < length s.keys) };
+
+    fn from_nonempty_iter<I: IntoNonEmptyIterator<Item = T>>(
+        alloc: Global,
+        iter: I,
+    ) -> Result<BTreeSet<T>, AllocError> {
+        iter.into_nonempty_iter().into_iter().collect(alloc)
+    }
+}

@@ -1,0 +1,87 @@
+//! Collecting into texts and paths. A text is the list of its bytes.
+ghost use Rattle.std.specs.Prelude.{◌≡◌, [], IfSome};
+ghost use Rattle.std.specs.Char.{encode_utf8};
+ghost use Rattle.std.specs.Cow.{cow_str_bytes};
+ghost use Rattle.std.specs.List.{flat_map};
+ghost use Rattle.std.specs.Path.{path_buf_bytes, path_join_all};
+ghost use Rattle.std.specs.Str.{encode_utf8_all};
+ghost use Rattle.std.specs.String.{string_bytes};
+
+use crate::iter::{FromNonEmptyIterator, IntoNonEmptyIterator, NonEmptyIterator};
+use std::alloc::{AllocError, Global};
+use std::borrow::CowStr;
+use std::path::{AsPath, PathBuf};
+
+/// The texts joined, in order.
+impl FromNonEmptyIterator<String> for String {
+    ghost collected = { λ xs s. string_bytes s ≡ flat_map string_bytes xs };
+
+    fn from_nonempty_iter<I: IntoNonEmptyIterator<Item = String>>(
+        alloc: Global,
+        iter: I,
+    ) -> Result<String, AllocError> {
+        iter.into_nonempty_iter().into_iter().collect(alloc)
+    }
+}
+
+/// The texts joined, in order.
+impl<'a> FromNonEmptyIterator<&'a str> for String {
+    ghost collected = { λ xs s. string_bytes s ≡ flat_map (λ x. x.now) xs };
+
+    fn from_nonempty_iter<I: IntoNonEmptyIterator<Item = &'a str>>(
+        alloc: Global,
+        iter: I,
+    ) -> Result<String, AllocError> {
+        iter.into_nonempty_iter().into_iter().collect(alloc)
+    }
+}
+
+/// The texts joined, in order, borrowed and owned ones alike.
+impl<'a> FromNonEmptyIterator<CowStr<'a>> for String {
+    ghost collected = { λ xs s. string_bytes s ≡ flat_map cow_str_bytes xs };
+
+    fn from_nonempty_iter<I: IntoNonEmptyIterator<Item = CowStr<'a>>>(
+        alloc: Global,
+        iter: I,
+    ) -> Result<String, AllocError> {
+        iter.into_nonempty_iter().into_iter().collect(alloc)
+    }
+}
+
+/// The characters, in order.
+impl FromNonEmptyIterator<char> for String {
+    ghost collected = { λ xs s. string_bytes s ≡ encode_utf8_all xs };
+
+    fn from_nonempty_iter<I: IntoNonEmptyIterator<Item = char>>(
+        alloc: Global,
+        iter: I,
+    ) -> Result<String, AllocError> {
+        iter.into_nonempty_iter().into_iter().collect(alloc)
+    }
+}
+
+/// The characters, in order.
+impl<'a> FromNonEmptyIterator<&'a char> for String {
+    ghost collected = { λ xs s. string_bytes s ≡ flat_map (λ x. encode_utf8 x.now) xs };
+
+    fn from_nonempty_iter<I: IntoNonEmptyIterator<Item = &'a char>>(
+        alloc: Global,
+        iter: I,
+    ) -> Result<String, AllocError> {
+        iter.into_nonempty_iter().into_iter().collect(alloc)
+    }
+}
+
+/// The path that is empty, with each part pushed in turn: an absolute part takes the place of what came before it.
+///
+/// It is said of parts whose text is known, as that of each of the standard library's is.
+impl<P: AsPath> FromNonEmptyIterator<P> for PathBuf {
+    ghost collected = { λ xs p. IfSome (path_join_all P.path_text [] xs) (λ joined. path_buf_bytes p ≡ joined) };
+
+    fn from_nonempty_iter<I: IntoNonEmptyIterator<Item = P>>(
+        alloc: Global,
+        iter: I,
+    ) -> Result<PathBuf, AllocError> {
+        iter.into_nonempty_iter().into_iter().collect(alloc)
+    }
+}
