@@ -46,19 +46,23 @@ module _ {S K A F : Type 0} (steps : S → Option A → S → Type 0) (asks : Mu
       let more = none_ever_after calls.0 h answers calls.1.stops calls.2 in
       ([], Some (Err e) ∷ answers, refl, ((g, subst (λ l. HasRead steps asks eq s f l g) (sym (append-nil done)) read), more.0, more.1))
 
-  -- the runs that came, and an `Err` behind them, if one came
-  abbrev pub Came : S → F → List (List A) → List (Result (List A) AllocError) → Reading S K A F → Type 0
-  Came s f done xs h = (rs : List (List A)) × (((xs ≡ map Ok rs) × HasRead steps asks eq s f (done ++ rs) h)
-      ⊎ ((e : AllocError) × (xs ≡ map Ok rs ++ Err e ∷ []) × (k : Reading S K A F) × HasRead steps asks eq s f (done ++ rs) k))
+  -- the runs that came
+  pub read_on : (s : S) (f : F) (done rs : List (List A)) (g h : Reading S K A F) → HasRead steps asks eq s f done g → Yields (GivesRun steps asks eq) g (map Ok rs) h → HasRead steps asks eq s f (done ++ rs) h
+  read_on s f done [] g h read calls = subst (λ l. HasRead steps asks eq s f l h) (sym (append-nil done)) (subst (HasRead steps asks eq s f done) calls read)
+  read_on s f done (run ∷ rs) g h read calls = subst (λ l. HasRead steps asks eq s f l h) (append_assoc done (run ∷ []) rs) (read_on s f (done ++ run ∷ []) rs calls.0 h (calls.1.reads s f done read) calls.2)
 
-  one_more_came : (s : S) (f : F) (done : List (List A)) (run : List A) (xs : List (Result (List A) AllocError)) (h : Reading S K A F) → Came s f (done ++ run ∷ []) xs h → Came s f done (Ok run ∷ xs) h
-  one_more_came s f done run xs h (rs, inl (e, read)) = (run ∷ rs, inl (ap (λ l. Ok run ∷ l) e, subst (λ l. HasRead steps asks eq s f l h) (append_assoc done (run ∷ []) rs) read))
-  one_more_came s f done run xs h (rs, inr (e, is, k, read)) = (run ∷ rs, inr (e, ap (λ l. Ok run ∷ l) is, k, subst (λ l. HasRead steps asks eq s f l k) (append_assoc done (run ∷ []) rs) read))
+  -- and the `Err` behind them, if one came: k is the reader before it
+  abbrev pub Came : S → F → List (List A) → List (Result (List A) AllocError) → Type 0
+  Came s f done xs = (rs : List (List A)) × ((xs ≡ map Ok rs) ⊎ ((e : AllocError) × (xs ≡ map Ok rs ++ Err e ∷ []) × (k : Reading S K A F) × HasRead steps asks eq s f (done ++ rs) k))
+
+  one_more_came : (s : S) (f : F) (done : List (List A)) (run : List A) (xs : List (Result (List A) AllocError)) → Came s f (done ++ run ∷ []) xs → Came s f done (Ok run ∷ xs)
+  one_more_came s f done run xs (rs, inl e) = (run ∷ rs, inl (ap (λ l. Ok run ∷ l) e))
+  one_more_came s f done run xs (rs, inr (e, is, k, read)) = (run ∷ rs, inr (e, ap (λ l. Ok run ∷ l) is, k, subst (λ l. HasRead steps asks eq s f l k) (append_assoc done (run ∷ []) rs) read))
 
   pub came : (s : S) (f : F) (done : List (List A)) (xs : List (Result (List A) AllocError)) (g h : Reading S K A F) → HasRead steps asks eq s f done g
-      → Yields (GivesRun steps asks eq) g xs h → Came s f done xs h
-  came s f done [] g h read calls = ([], inl (refl, subst (λ l. HasRead steps asks eq s f l h) (sym (append-nil done)) (subst (HasRead steps asks eq s f done) calls read)))
-  came s f done (Ok run ∷ xs) g h read calls = one_more_came s f done run xs h (came s f (done ++ run ∷ []) xs calls.0 h (calls.1.reads s f done read) calls.2)
+      → Yields (GivesRun steps asks eq) g xs h → Came s f done xs
+  came s f done [] g h read calls = ([], inl refl)
+  came s f done (Ok run ∷ xs) g h read calls = one_more_came s f done run xs (came s f (done ++ run ∷ []) xs calls.0 h (calls.1.reads s f done read) calls.2)
   came s f done (Err e ∷ []) g h read calls = ([], inr (e, refl, g, subst (λ l. HasRead steps asks eq s f l g) (sym (append-nil done)) read))
   came s f done (Err e ∷ x ∷ xs) g h read calls = let none = (calls.2.1.over calls.1.stops).0 in cc
 
@@ -102,14 +106,17 @@ module _ {S K A F : Type 0} (steps : S → Option A → S → Type 0) (asks : Mu
     read_has_runs : (whole : Bool) (rs : List (List A)) (h : Reading S K A F) → HasRead steps asks eq s f rs h → (whole ≡ true → IsOver h) → HasRuns (Reads becomes steps) asks eq whole source f rs
     read_has_runs whole rs h read over = has_runs h.ahead whole rs read.drawn read.runs h.closure h.source read.stands read.answered read.asked over
 
-    pub grouped : (whole : Bool) (xs : List (Result (List A) AllocError)) (h : Reading S K A F) → (whole ≡ true → (u : Reading S K A F) × GivesRun steps asks eq h None u) → Came s f [] xs h
-        → (rs : List (List A)) × (((xs ≡ map Ok rs) × HasRuns (Reads becomes steps) asks eq whole source f rs) ⊎ ((e : AllocError) × (xs ≡ map Ok rs ++ Err e ∷ []) × HasRuns (Reads becomes steps) asks eq false source f rs))
-    grouped false xs h end (rs, inl (e, read)) = (rs, inl (e, read_has_runs false rs h read (λ w. cc)))
-    grouped true xs h end (rs, inl (e, read)) = let last = (end refl).1 in (rs, inl (e, read_has_runs true rs (end refl).0 (last.reads s f rs read) (λ w. last.stops)))
-    grouped whole xs h end (rs, inr (e, is, k, read)) = (rs, inr (e, is, read_has_runs false rs k read (λ w. cc)))
+    -- the runs that came, where the calls ended, and before an `Err`
+    pub given_runs : (whole : Bool) (rs : List (List A)) (g h : Reading S K A F) → HasRead steps asks eq s f [] g → Yields (GivesRun steps asks eq) g (map Ok rs) h
+        → (whole ≡ true → (u : Reading S K A F) × GivesRun steps asks eq h None u) → HasRuns (Reads becomes steps) asks eq whole source f rs
+    given_runs false rs g h read calls end = read_has_runs false rs h (read_on s f [] rs g h read calls) (λ w. cc)
+    given_runs true rs g h read calls end = let last = (end refl).1 in read_has_runs true rs (end refl).0 (last.reads s f rs (read_on s f [] rs g h read calls)) (λ w. last.stops)
 
-  pub grouped_from : {U : Type 0} (becomes : U → S → Type 0) (source : U) (f : F) (it : Reading S K A F) → becomes source it.source → it.closure ≡ f → it.ahead ≡ Unread
-      → (whole : Bool) (xs : List (Result (List A) AllocError)) → DrainsIf (GivesRun steps asks eq) (whole ≡ true) it xs
-      → (rs : List (List A)) × (((xs ≡ map Ok rs) × HasRuns (Reads becomes steps) asks eq whole source f rs) ⊎ ((e : AllocError) × (xs ≡ map Ok rs ++ Err e ∷ []) × HasRuns (Reads becomes steps) asks eq false source f rs))
-  grouped_from becomes source f it made same unread whole xs given =
-      grouped becomes source it.source made f whole xs given.0 given.2 (came it.source f [] xs it given.0 (subst (λ q. HasRead steps asks eq it.source q [] it) same (fresh_reader steps asks eq it unread)) given.1)
+    pub given_before : (xs : List (Result (List A) AllocError)) → Came s f [] xs
+        → (rs : List (List A)) × ((xs ≡ map Ok rs) ⊎ ((e : AllocError) × (xs ≡ map Ok rs ++ Err e ∷ []) × HasRuns (Reads becomes steps) asks eq false source f rs))
+    given_before xs (rs, inl e) = (rs, inl e)
+    given_before xs (rs, inr (e, is, k, read)) = (rs, inr (e, is, read_has_runs false rs k read (λ w. cc)))
+
+  -- a reader as `into_iter` makes it has answered no run
+  pub begun : (it : Reading S K A F) (f : F) → it.closure ≡ f → it.ahead ≡ Unread → HasRead steps asks eq it.source f [] it
+  begun it f same unread = subst (λ q. HasRead steps asks eq it.source q [] it) same (fresh_reader steps asks eq it unread)

@@ -10,7 +10,7 @@ use Rattle.ne_vec.specs.Divisions.{IsDivision, by_first}
 use Rattle.ne_iter.specs.Calls.{ShownEach}
 use Rattle.ne_iter.specs.Keys.{items_of, same_key}
 use Rattle.ne_iter.specs.OpenRuns.{held_of, ahead_of, IsOne, IsSettled}
-use Rattle.ne_iter.specs.Reader.{StandsAt, HasRead, UnlessEnded}
+use Rattle.ne_iter.specs.Reader.{StandsAt, HasRead}
 use Rattle.ne_iter.specs.Reading.{Reading, Ahead, Unread, Held, Ended}
 use Rattle.ne_iter.specs.declared.iter.group_by.State.{State}
 use Rattle.ne_iter.specs.declared.iter.group_by.State.TheVariants.{Open as opened}
@@ -131,12 +131,6 @@ held_is_not_over e o = let p = sym e ∙ o in cc
 
 pub unread_is_not_over : {K A : Type 0} {a : Ahead K A} → a ≡ Unread → a ≡ Ended → ⊥
 unread_is_not_over e o = let p = sym e ∙ o in cc
-
-pub can_read_held : {K A : Type 0} (P : Type 0) {k : K} {x : A} {a : Ahead K A} → a ≡ Held k x → UnlessEnded a P → P
-can_read_held P e h = subst (λ a. UnlessEnded a P) e h
-
-pub can_read_unread : {K A : Type 0} (P : Type 0) {a : Ahead K A} → a ≡ Unread → UnlessEnded a P → P
-can_read_unread P e h = subst (λ a. UnlessEnded a P) e h
 
 -- a settled open run has one item, and that is held
 pub settled_run : {K A : Type 0} (st : State K A) (k : K) (run : List A) → st ≡ opened k run → IsSettled st → (x : A) × (run ≡ x ∷ []) × (ahead_of st ≡ Held k x)

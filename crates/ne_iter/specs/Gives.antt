@@ -113,7 +113,11 @@ module _ {U A K F : Type 0} (reads : Bool → U → List A → Type 0) (asks : M
       × reads ended source (items_of ps) × ShownEach asks f ps g × DividesByKey eq ps (and_held rs held)
       × MatchOption held ((ended ≡ true) ⊎ (ps ≡ [])) (λ _. rs ≢ []) × (whole ≡ true → (ended ≡ true) × (held ≡ None))
 
-  -- `group_by`: the runs of the source's items by f's answers, each in `Ok`; or up to an `Err`, behind which nothing comes.
+  -- `group_by`: the runs of the source's items by f's answers, each in `Ok`.
   abbrev pub GroupByGives : {V E : Type 0} → (Bool → V → List (Result (List A) E) → Type 0) → U → F → V → Type 0
-  GroupByGives {E = E} grouped source f result = (whole : Bool) (xs : List (Result (List A) E)) → grouped whole result xs → (rs : List (List A))
-      × (((xs ≡ map Ok rs) × HasRuns whole source f rs) ⊎ ((e : E) × (xs ≡ map Ok rs ++ Err e ∷ []) × HasRuns false source f rs))
+  GroupByGives grouped source f result = (whole : Bool) (rs : List (List A)) → grouped whole result (map Ok rs) → HasRuns whole source f rs
+
+  -- An `Err` may come in the place of a run, and then nothing comes behind it.
+  abbrev pub GroupByStops : {V E : Type 0} → (Bool → V → List (Result (List A) E) → Type 0) → U → F → V → Type 0
+  GroupByStops {E = E} grouped source f result = (whole : Bool) (xs : List (Result (List A) E)) → grouped whole result xs
+      → (rs : List (List A)) × ((xs ≡ map Ok rs) ⊎ ((e : E) × (xs ≡ map Ok rs ++ Err e ∷ []) × HasRuns false source f rs))

@@ -1,9 +1,9 @@
 -- What a reader of runs has drawn and answered, at whatever moment it is stopped.
-use Rattle.std.specs.Prelude.{◌≡◌, ◌≢◌, ⊤, ◌+◌, Bool, List, [], ◌∷◌, ◌++◌, map, Option, Some, None, Result, Ok, Err, MatchOption, OnErr, IfOk}
+use Rattle.std.specs.Prelude.{◌≡◌, ◌≢◌, ℕ, ◌+◌, Bool, List, [], ◌∷◌, ◌++◌, map, Option, Some, None, Result, Ok, Err, MatchOption, OnErr, IfOk}
 use Rattle.std.specs.Fn.{Mut}
 use Rattle.std.specs.List.{AllByRecursion}
 use Rattle.std.specs.Borrow.{Bor}
-use Rattle.std.specs.Iterator.{Yields, YieldsThen, Count, IsFinite, at_most, count_map}
+use Rattle.std.specs.Iterator.{Yields, YieldsThen, Count, IsFinite, at_most, size}
 use Rattle.std.specs.declared.alloc.AllocError.{AllocError}
 use Rattle.ne_vec.specs.Divisions.{IsDivision, by_first}
 use Rattle.ne_iter.specs.Calls.{ShownEach}
@@ -53,21 +53,15 @@ module _ {S K A F : Type 0} (steps : S → Option A → S → Type 0) (asks : Mu
   AnswersOn s f done answers h = (rs : List (List A)) × (more : List (Option (Result (List A) AllocError)))
       × (answers ≡ map (λ run. Some (Ok run)) rs ++ more) × AnswersThen s f (done ++ rs) more h
 
--- P, unless no more will come
-abbrev pub UnlessEnded : {K A : Type 0} → Ahead K A → Type 0 → Type 0
-UnlessEnded Unread P = P
-UnlessEnded (Held k x) P = P
-UnlessEnded Ended P = ⊤
-
--- no more runs than there are items: those of the source, and the one that is held
-abbrev pub count_ahead : {K A : Type 0} → Ahead K A → Count → Count
-count_ahead Unread c = c
-count_ahead (Held k x) c = count_map (λ n. n + 1) c
-count_ahead Ended c = at_most 0
-
 -- A reader that is not over needs a source that can be drawn and ends, and a closure that can be called.
 abbrev pub CanRead : {S K A F : Type 0} → (S → Type 0) → (S → Count) → (F → Type 0) → Reading S K A F → Type 0
-CanRead can left callable g = UnlessEnded g.ahead (can g.source × IsFinite (left g.source) × callable g.closure)
+CanRead can left callable g = (IsOver g → ⊥) → can g.source × IsFinite (left g.source) × callable g.closure
+
+-- There are no more runs than items ahead: those that the source has left, and the one that is held.
+abbrev pub items_ahead : {K A : Type 0} → Ahead K A → ℕ → ℕ
+items_ahead Unread left = left
+items_ahead (Held k x) left = left + 1
+items_ahead Ended left = 0
 
 abbrev pub runs_left : {S K A F : Type 0} → (S → Count) → Reading S K A F → Count
-runs_left left g = count_ahead g.ahead (left g.source)
+runs_left left g = at_most (items_ahead g.ahead (size (left g.source)))

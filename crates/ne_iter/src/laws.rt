@@ -1,5 +1,5 @@
 //! Laws on sources. Each is the contract of a function that does nothing.
-ghost use Rattle.std.specs.Prelude.{◌≡◌, ◌≢◌, ◌<◌, true, Bool, List, [], ◌∷◌, ◌++◌, Option, Some, None, Result, length, map, Vec};
+ghost use Rattle.std.specs.Prelude.{◌≡◌, ◌≢◌, ◌<◌, true, Bool, List, [], ◌∷◌, ◌++◌, Option, Some, None, Result, Ok, Err, MatchResult, length, map, Vec};
 ghost use Rattle.std.specs.Global.{Global};
 ghost use Rattle.std.specs.Borrow.{Bor};
 ghost use Rattle.std.specs.Iterator.{ActsAs, ActsAsAt, Drains};
@@ -12,7 +12,7 @@ ghost use Rattle.ne_iter.specs.Reading.{Reading, Unread};
 ghost use Rattle.ne_iter.specs.Gives.{GivesList, ShowsList};
 
 use crate::array::NonEmptyArray;
-use crate::iter::{IntoNonEmptyIterator, NonEmptyIterator, Source};
+use crate::iter::{FromNonEmptyIterator, IntoNonEmptyIterator, NonEmptyIterator, Source};
 use ne_vec::{NESlice, NEVec, laws, slice, vector};
 use std::alloc::AllocError;
 
@@ -87,6 +87,12 @@ pub fn sources_show_what_is_left<'a, T: 'a, S: IntoIterator<Item = &'a T>>()
         → ((it rest : S.IntoIter) → S.IntoIter.next_gives it None rest → left it ≡ [])
         → (source : S) (xs : List T) → ((it : S.IntoIter) → S.into_iter_gives source it → left it ≡ xs)
         → ShowsList (⟦<S as Source>⟧.reads) source xs }
+{}
+
+/// A vector that was collected from results holds the values, where all are `Ok`; else the first `Err` came last.
+pub fn results_make_a_vector<T: Drop, E: Drop>()
+    ensures { (items : List (Result T E)) (result : Result (List T) E) → ⟦<Result<NEVec<T>, E> as FromNonEmptyIterator<Result<T, E>>>⟧.collected items result
+        → MatchResult result (λ v. items ≡ map Ok v) (λ e. (values : List T) × (items ≡ map Ok values ++ Err e ∷ [])) }
 {}
 
 /// A reader of runs has read as its contract says, whatever calls of its `next` were made: it answered runs, and then it may have

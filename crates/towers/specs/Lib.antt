@@ -2,3 +2,4 @@ pub mod Thin
 pub mod Own
 pub mod OwnLaws
 pub mod Wide
+pub mod Runs

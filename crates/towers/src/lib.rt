@@ -4,9 +4,11 @@
 #![tactic(auto)]
 
 mod own;
+mod runs;
 mod thin;
 mod wide;
 
 pub use own::{Boxed, Countdown, CountdownIter, Stack, StackIntoIter, StackIter, Start};
+pub use runs::{first_runs, runs_of_answers};
 pub use thin::{numbered, numbered_halves};
 pub use wide::{parted, spread, spread_countdown, spread_pairs};

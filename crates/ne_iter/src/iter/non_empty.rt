@@ -9,12 +9,12 @@ ghost use Rattle.ne_iter.specs.Sources.{IsNonEmpty, FirstAndRest};
 ghost use Rattle.ne_iter.specs.Calls.{ShownEach};
 ghost use Rattle.ne_iter.specs.Clones.{TriesClone};
 ghost use Rattle.ne_iter.specs.Parts.{source_of_map, closure_of_map, source_of_enumerate, source_of_take, count_of_take, first_of_chain, second_of_chain, first_of_zip, second_of_zip, source_of_cloned, source_of_copied, source_of_flat_map, closure_of_flat_map, source_of_group_by, closure_of_group_by};
-ghost use Rattle.ne_iter.specs.Gives.{MapGives, EnumerateGives, TakeGives, ChainGives, ZipGives, FlatMapGives, GroupByGives, CopiedGives, ClonedGives, FilterGives, FilterMapGives, SkipGives, SkipWhileGives, TakeWhileGives};
+ghost use Rattle.ne_iter.specs.Gives.{MapGives, EnumerateGives, TakeGives, ChainGives, ZipGives, FlatMapGives, GroupByGives, GroupByStops, CopiedGives, ClonedGives, FilterGives, FilterMapGives, SkipGives, SkipWhileGives, TakeWhileGives};
 ghost use Rattle.ne_iter.specs.Peeks.{peekable_first, peekable_rest, PeekableGives};
 ghost use Rattle.ne_iter.specs.Answers.{TellsAll, TellsAny, FindsFirst, GivesNth, FoldsAll, ReducesAll, IsFirstGreatest, IsFirstLeast, PicksGreatest, PicksLeast, CallableOnTwo, less_by};
 
 use super::sources::{FromNonEmptyIterator, IntoNonEmptyIterator, Source};
-use super::{Chain, Cloned, Copied, Enumerate, FlatMap, Map, NEGroupBy, Peekable, Take, Zip};
+use super::{Chain, Cloned, Copied, Enumerate, FlatMap, GroupBy, Map, NEGroupBy, Peekable, Take, Zip};
 use ne_vec::{NEVec, Singleton, vector};
 use std::alloc::{AllocError, Global};
 use std::cmp::Ordering;
@@ -245,7 +245,9 @@ pub trait NonEmptyIterator: IntoIterator {
         Self: Sized,
         Self::Item: Drop,
         ensures holds { (source_of_group_by result ≡ self) × (closure_of_group_by result ≡ f) }
+        ensures ends { IsFiniteIterable Self.into_iter_gives Self.IntoIter.can_next Self.IntoIter.remaining self → F.IsAlwaysCallable f → IsFiniteIterable (⟦<NEGroupBy<Self, F> as IntoIterator>⟧.into_iter_gives) (⟦<GroupBy<Self::IntoIter, K, Self::Item, F> as Iterator>⟧.can_next) (⟦<GroupBy<Self::IntoIter, K, Self::Item, F> as Iterator>⟧.remaining) result }
         ensures gives { GroupByGives (⟦<Self as Source>⟧.reads) F.FnMut K.eq (⟦<NEGroupBy<Self, F> as Source>⟧.reads) self f result }
+        ensures stops { GroupByStops (⟦<Self as Source>⟧.reads) F.FnMut K.eq (⟦<NEGroupBy<Self, F> as Source>⟧.reads) self f result }
     {
         NEGroupBy {
             iter: self,

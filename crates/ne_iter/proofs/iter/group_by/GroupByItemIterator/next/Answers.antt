@@ -8,7 +8,7 @@ use Rattle.ne_iter.specs.Reading.{Reading, Unread, Held}
 use Rattle.ne_iter.specs.OpenRuns.{ahead_of}
 use Rattle.ne_iter.specs.declared.iter.group_by.State.TheVariants.{Unread as unread, Open as opened}
 use Rattle.ne_iter.specs.Reader.{CanRead, HasRead, runs_left}
-use Rattle.ne_iter.proofs.Readers.{open_held, open_first, open_more, close_held, close_end, held_is_not_over, unread_is_not_over, can_read_held, can_read_unread, settled_run}
+use Rattle.ne_iter.proofs.Readers.{open_held, open_first, open_more, close_held, close_end, held_is_not_over, unread_is_not_over, settled_run}
 use Rattle.ne_iter.proofs.iter.group_by.GroupByItemIterator.next.Goals.{in-Open, in-Unread+in_ok-item-in-Unread+in-Ok}
 use Rattle.ne_iter.proofs.iter.group_by.GroupByItemIterator.next.Goals as goal
 
@@ -19,13 +19,12 @@ loop-item-init g c =
     let at = c.self.inside in
     let begun : Reading _ _ _ _ = record { source = at.iter; closure = at.key; ahead = ahead_of at.state } in
     let ready = subst (CanRead g.I.Iterator.can_next left (always_mut g.F.FnMut)) (sym c.self.view_is) c.requires in
-    let Ready = g.I.Iterator.can_next at.iter × IsFinite (left at.iter) × always_mut g.F.FnMut at.key in
     elim c.match-replace.branch [
       | in-Open w ↦
           let state : at.state ≡ opened w.in-Open.key w.in-Open.run' = sym c.replace.ensures.value ∙ w.in-Open.is in
           let held = settled_run at.state w.in-Open.key w.in-Open.run' state c.self.invariant in
           let e : c.args.self.now.ahead ≡ Held w.in-Open.key held.0 = subst (λ v. v.ahead ≡ Held w.in-Open.key held.0) c.self.view_is held.2 in
-          let can = can_read_held Ready held.2 ready in
+          let can = ready (held_is_not_over held.2) in
           rw (w.first_key-is, w.self-inside-is, c.replace.ensures.after, held.1) (
             λ s f rs h. open_held steps g.F.FnMut g.K.PartialEq.eq s f rs begun held.0 w.in-Open.key (subst (HasRead steps g.F.FnMut g.K.PartialEq.eq s f rs) (sym c.self.view_is) h) held.2,
             refl,
@@ -39,7 +38,7 @@ loop-item-init g c =
           let state : at.state ≡ unread = sym c.replace.ensures.value ∙ w.in-Unread.is in
           let fresh : ahead_of at.state ≡ Unread = ap ahead_of state in
           let e : c.args.self.now.ahead ≡ Unread = subst (λ v. v.ahead ≡ Unread) c.self.view_is fresh in
-          let can = can_read_unread Ready fresh ready in
+          let can = ready (unread_is_not_over fresh) in
           let first = w.in_ok-item-in-Unread.ensures in
           rw (w.first_key-is, w.self-inside-is, c.replace.ensures.after, w.in-Ok.ensures) (
             λ s f rs h. open_first steps g.F.FnMut g.K.PartialEq.eq s f rs begun _ _ _ _ (subst (HasRead steps g.F.FnMut g.K.PartialEq.eq s f rs) (sym c.self.view_is) h) fresh first.steps (called_at g.F.FnMut w.call_mut-item_key.ensures refl),

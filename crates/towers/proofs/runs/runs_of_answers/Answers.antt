@@ -1,0 +1,23 @@
+use Rattle.std.proofs.Common.{true, refl, subst}
+use Rattle.std.proofs.lemmas.Result.{IfOk-weaker}
+use Rattle.ne_iter.specs.Gives.{and_held}
+use Rattle.ne_iter.specs.Sources.{Reads}
+use Rattle.ne_iter.specs.Keys.{items_of, DividesByKey}
+use Rattle.towers.proofs.Collected.{all_ok}
+use Rattle.towers.proofs.runs.runs_of_answers.Goals as goal
+
+-- From the runs collected back to what `map` answered, and to the source's items.
+pub returns : goal.returns
+returns g c = IfOk-weaker c.in_ok-collect.field-0 _ _ (λ v h.
+    let runs = c.group_by.ensures.gives true v h in
+    let end = runs.8 refl in
+    let mapped = c.map.ensures.gives runs.3 (items_of runs.0) runs.4 in (
+      mapped.0,
+      runs.0,
+      mapped.1,
+      runs.1,
+      subst (λ whole. Reads g.S.IntoIterator.into_iter_gives g.S.IntoIter.Iterator.next_gives whole c.args.source mapped.0) end.0 mapped.2,
+      mapped.3,
+      runs.5,
+      subst (λ held. DividesByKey g.K.PartialEq.eq runs.0 (and_held v held)) end.1 runs.6,
+    )) (all_ok c.group_by.ensures.stops _ c.results_make_a_vector.ensures c.in_ok-collect.field-0 c.in_ok-collect.ensures)
