@@ -5,3 +5,4 @@ pub mod OneList
 pub mod Rows
 pub mod Stats
 pub mod Writes
+pub mod Collected

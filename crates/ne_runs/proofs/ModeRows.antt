@@ -1,22 +1,30 @@
 -- Each mode makes rows of numbers, and no others.
 use Rattle.std.proofs.Common.{arith, sym, ap₂, ◌∙◌}
-use Rattle.std.specs.Prelude.{◌≡◌, ℕ, ◌<◌, List, [], ◌∷◌, length, sum, refl}
-use Rattle.ne_runs.specs.Modes.{AreRows, ends_of}
+use Rattle.std.specs.Prelude.{◌≡◌, ℕ, ◌<◌, Bool, nat_eq, List, [], ◌∷◌, length, sum, refl}
+use Rattle.std.specs.Bool.{beq}
+use Rattle.ne_vec.specs.Divisions.{IsDivision, by_first}
+use Rattle.ne_runs.specs.Modes.{AreRows, ends_of, is_even}
 use Rattle.ne_runs.specs.declared.mode.Mode.{Mode}
-use Rattle.ne_runs.specs.declared.mode.Mode.TheVariants.{Ends, Stats}
+use Rattle.ne_runs.specs.declared.mode.Mode.TheVariants.{Ends, Stats, Equal, Parity}
 use Rattle.ne_runs.proofs.Stats.{least_there, greatest_there, only_least, only_greatest}
 
-pub has_rows : (mode : Mode) (numbers : List ℕ) → 0 < length numbers → (rows : List (List ℕ)) × AreRows mode numbers rows
-has_rows Ends numbers some = (ends_of numbers ∷ [], refl)
-has_rows Stats [] some = absurd (omega (arith, some))
-has_rows Stats (n ∷ numbers) some =
-    let least = least_there n numbers in
-    let greatest = greatest_there n numbers in
-    ((least.0 ∷ greatest.0 ∷ sum (n ∷ numbers) ∷ []) ∷ [], (least.0, greatest.0, least.1, greatest.1, refl))
+module _ (exists : (goes_on : List ℕ → ℕ → Bool) (xs : List ℕ) → (rs : List (List ℕ)) × IsDivision goes_on xs rs)
+    (unique : (goes_on : List ℕ → ℕ → Bool) (xs : List ℕ) (rs others : List (List ℕ)) → IsDivision goes_on xs rs → IsDivision goes_on xs others → rs ≡ others) where
+  pub has_rows : (mode : Mode) (numbers : List ℕ) → 0 < length numbers → (rows : List (List ℕ)) × AreRows mode numbers rows
+  has_rows Ends numbers some = (ends_of numbers ∷ [], refl)
+  has_rows Equal numbers some = exists (by_first nat_eq) numbers
+  has_rows Parity numbers some = exists (by_first (λ m n. beq (is_even m) (is_even n))) numbers
+  has_rows Stats [] some = absurd (omega (arith, some))
+  has_rows Stats (n ∷ numbers) some =
+      let least = least_there n numbers in
+      let greatest = greatest_there n numbers in
+      ((least.0 ∷ greatest.0 ∷ sum (n ∷ numbers) ∷ []) ∷ [], (least.0, greatest.0, least.1, greatest.1, refl))
 
-pub only_rows : (mode : Mode) (numbers : List ℕ) (rows others : List (List ℕ)) → AreRows mode numbers rows → AreRows mode numbers others → rows ≡ others
-only_rows Ends numbers rows others a b = a ∙ sym b
-only_rows Stats numbers rows others a b =
-    a.4
-    ∙ ap₂ (λ least greatest. (least ∷ greatest ∷ sum numbers ∷ []) ∷ []) (only_least numbers a.0 b.0 a.2 b.2) (only_greatest numbers a.1 b.1 a.3 b.3)
-    ∙ sym b.4
+  pub only_rows : (mode : Mode) (numbers : List ℕ) (rows others : List (List ℕ)) → AreRows mode numbers rows → AreRows mode numbers others → rows ≡ others
+  only_rows Ends numbers rows others a b = a ∙ sym b
+  only_rows Equal numbers rows others a b = unique (by_first nat_eq) numbers rows others a b
+  only_rows Parity numbers rows others a b = unique (by_first (λ m n. beq (is_even m) (is_even n))) numbers rows others a b
+  only_rows Stats numbers rows others a b =
+      a.4
+      ∙ ap₂ (λ least greatest. (least ∷ greatest ∷ sum numbers ∷ []) ∷ []) (only_least numbers a.0 b.0 a.2 b.2) (only_greatest numbers a.1 b.1 a.3 b.3)
+      ∙ sym b.4

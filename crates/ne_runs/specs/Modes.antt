@@ -1,19 +1,28 @@
 -- The modes: the word that names each, and what it writes of a list of numbers. A space is 32.
-use Rattle.std.specs.Prelude.{◌≡◌, ℕ, ◌≤◌, ◌-◌, List, [], ◌∷◌, ◌++◌, if◌then◌else◌, length, map, slice_index, codes, All, Contains, sum, Option, None, Some}
+use Rattle.std.specs.Prelude.{◌≡◌, ◌==◌, ℕ, ◌≤◌, ◌-◌, ◌%◌, Bool, nat_eq, List, [], ◌∷◌, ◌++◌, if◌then◌else◌, length, map, slice_index, codes, All, Contains, sum, Option, None, Some}
+use Rattle.std.specs.Bool.{beq}
 use Rattle.std.specs.List.{flat_map, join_with_byte}
 use Rattle.std.specs.Fmt.{decimal}
 use Rattle.std.specs.Str.{bytes_eq}
+use Rattle.ne_vec.specs.Divisions.{IsDivision, by_first}
 use Rattle.ne_runs.specs.declared.mode.Mode.{Mode}
-use Rattle.ne_runs.specs.declared.mode.Mode.TheVariants.{Ends, Stats}
+use Rattle.ne_runs.specs.declared.mode.Mode.TheVariants.{Ends, Stats, Equal, Parity}
 
 -- the word that names a mode
 abbrev pub word_of : Mode → List ℕ
 word_of Ends = codes "ends"
 word_of Stats = codes "stats"
+word_of Equal = codes "equal"
+word_of Parity = codes "parity"
 
 -- the mode that a word names
 abbrev pub mode_of : List ℕ → Option Mode
-mode_of word = if bytes_eq word (word_of Ends) then Some Ends else if bytes_eq word (word_of Stats) then Some Stats else None
+mode_of word =
+    if bytes_eq word (word_of Ends) then Some Ends
+    else if bytes_eq word (word_of Stats) then Some Stats
+    else if bytes_eq word (word_of Equal) then Some Equal
+    else if bytes_eq word (word_of Parity) then Some Parity
+    else None
 
 -- how many numbers there are, the first and the last
 abbrev pub ends_of : List ℕ → List ℕ
@@ -27,11 +36,16 @@ IsLeast numbers least = Contains numbers least × All (λ n. least ≤ n) number
 abbrev pub IsGreatest : List ℕ → ℕ → Type 0
 IsGreatest numbers greatest = Contains numbers greatest × All (λ n. n ≤ greatest) numbers
 
+abbrev pub is_even : ℕ → Bool
+is_even n = n % 2 == 0
+
 -- the rows that a mode makes of numbers, of which there is at least one
 abbrev pub AreRows : Mode → List ℕ → List (List ℕ) → Type 0
 AreRows Ends numbers rows = rows ≡ ends_of numbers ∷ []
 AreRows Stats numbers rows =
     (least : ℕ) × (greatest : ℕ) × IsLeast numbers least × IsGreatest numbers greatest × (rows ≡ (least ∷ greatest ∷ sum numbers ∷ []) ∷ [])
+AreRows Equal numbers rows = IsDivision (by_first nat_eq) numbers rows
+AreRows Parity numbers rows = IsDivision (by_first (λ m n. beq (is_even m) (is_even n))) numbers rows
 
 -- a row as a line of text: in decimal, with one space between
 abbrev pub row_text : List ℕ → List ℕ

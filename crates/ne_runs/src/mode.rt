@@ -2,10 +2,16 @@
 //!
 //! The laws of the library that are called here do nothing. What they ensure is cited by the proofs.
 ghost use Rattle.std.specs.Prelude.{◌≡◌, ◌^◌, ◌<◌, ◌∷◌, ◌++◌, OnOk, IfOk, Some, string_bytes, List, ℕ, length, sum};
+ghost use Rattle.std.specs.Iterator.{ActsAsAt};
+ghost use Rattle.std.specs.List.{flat_map};
+ghost use Rattle.ne_vec.specs.Divisions.{IsDivision, by_first};
 ghost use Rattle.ne_runs.specs.Modes.{mode_of, word_of, row_text, AreRows, IsText, IsLeast, IsGreatest};
 ghost use Rattle.ne_runs.specs.declared.mode.Mode.{Mode};
 
-use ne_iter::laws::{calls_of_a_function, vectors_give_their_items};
+use ne_iter::laws::{
+    calls_of_a_function, results_make_a_vector, runs_by_a_function, vectors_give_their_items,
+};
+use ne_vec::laws::has_one_division;
 use nonempty_collections::{NEVec, NonEmptyIterator};
 use std::alloc::{AllocError, Global};
 
@@ -16,6 +22,10 @@ pub enum Mode {
     Ends,
     /// The least number, the greatest and the sum of all, on one line.
     Stats,
+    /// The runs of equal numbers, a line each.
+    Equal,
+    /// The runs of numbers that are all even or all odd, a line each.
+    Parity,
 }
 
 /// Each mode has a word that names it, and no other word does.
@@ -28,7 +38,9 @@ pub fn modes_have_words()
 pub fn rows_are_one()
     ensures there { (mode : Mode) (numbers : List ℕ) → 0 < length numbers → (rows : List (List ℕ)) × AreRows mode numbers rows }
     ensures only { (mode : Mode) (numbers : List ℕ) (rows others : List (List ℕ)) → AreRows mode numbers rows → AreRows mode numbers others → rows ≡ others }
-{}
+{
+    has_one_division::<u32>();
+}
 
 impl Mode {
     /// The mode that `word` names, if it names one.
@@ -38,6 +50,8 @@ impl Mode {
         match word {
             "ends" => Some(Mode::Ends),
             "stats" => Some(Mode::Stats),
+            "equal" => Some(Mode::Equal),
+            "parity" => Some(Mode::Parity),
             _ => None,
         }
     }
@@ -52,6 +66,8 @@ impl Mode {
         match self {
             Mode::Ends => ends_text(alloc, numbers),
             Mode::Stats => stats_text(alloc, numbers),
+            Mode::Equal => equal_text(alloc, numbers),
+            Mode::Parity => parity_text(alloc, numbers),
         }
     }
 }
@@ -77,6 +93,49 @@ fn stats_text(alloc: Global, numbers: &NEVec<u32>) -> Result<String, AllocError>
     let least = u64::from(least(numbers));
     let greatest = u64::from(greatest(numbers));
     push_row(&mut text, least, &[greatest, sum(numbers)])?;
+    Ok(text)
+}
+
+// The runs of equal numbers.
+fn equal_text(alloc: Global, numbers: &NEVec<u32>) -> Result<String, AllocError>
+    ensures { IfOk result (λ text. IsText Mode.Equal numbers.now (string_bytes text)) }
+{
+    let runs = runs_by(alloc, numbers, |number| *number)?;
+    text_of_runs(alloc, &runs)
+}
+
+// The runs of numbers that are all even or all odd.
+fn parity_text(alloc: Global, numbers: &NEVec<u32>) -> Result<String, AllocError>
+    ensures { IfOk result (λ text. IsText Mode.Parity numbers.now (string_bytes text)) }
+{
+    let runs = runs_by(alloc, numbers, |number| *number % 2 == 0)?;
+    text_of_runs(alloc, &runs)
+}
+
+// The runs of numbers with the same key.
+fn runs_by<K: PartialEq + Drop, F: FnMut(&u32) -> K + Drop>(
+    alloc: Global,
+    numbers: &NEVec<u32>,
+    key: F,
+) -> Result<NEVec<NEVec<u32>>, AllocError>
+    requires { F.IsAlwaysCallable key }
+    ensures { IfOk result (λ runs. (h : ℕ → K) → ActsAsAt F.FnMut key h → IsDivision (by_first (λ m n. K.eq (h m) (h n))) numbers.now runs) }
+{
+    vectors_give_their_items::<u32>();
+    results_make_a_vector::<NEVec<u32>, AllocError>();
+    runs_by_a_function::<u32, K, F>(&key);
+    let walk = numbers.nonempty_iter().copied();
+    walk.group_by(alloc, key).collect(alloc)?
+}
+
+// Each run as a row.
+fn text_of_runs(alloc: Global, runs: &NEVec<NEVec<u32>>) -> Result<String, AllocError>
+    ensures { IfOk result (λ text. string_bytes text ≡ flat_map row_text runs.now) }
+{
+    let mut text = String::new(alloc);
+    for run in runs {
+        push_run(&mut text, run)?;
+    }
     Ok(text)
 }
 
@@ -111,6 +170,18 @@ fn sum(numbers: &NEVec<u32>) -> u64
 fn push_row(text: &mut String, first: u64, rest: &[u64]) -> Result<(), AllocError>
     ensures { OnOk result (string_bytes text.new ≡ string_bytes text.old ++ row_text (first ∷ rest.now)) }
 {
+    write!(text, "{first}")?;
+    for number in rest {
+        write!(text, " {number}")?;
+    }
+    text.push('\n')
+}
+
+// The same of a run.
+fn push_run(text: &mut String, run: &NEVec<u32>) -> Result<(), AllocError>
+    ensures { OnOk result (string_bytes text.new ≡ string_bytes text.old ++ row_text run.now) }
+{
+    let (first, rest) = run.split_first();
     write!(text, "{first}")?;
     for number in rest {
         write!(text, " {number}")?;

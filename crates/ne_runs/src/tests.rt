@@ -7,10 +7,31 @@ use crate::fault::Fault;
 use crate::report::{one_word, run};
 use fakes::{Broken, Clogged, Closed, Endless, empty_tape, reader_of};
 use std::alloc::{AllocError, Global};
+use std::process::Abort;
 use std::test::Fail;
 
+// Runs of each mode over an input, whose reader and writer move 1 byte a call, or 2, or all.
+fn check_rows(
+    rt: &impl Abort,
+    alloc: Global,
+    mode: &str,
+    rows: &[(&[u8], Result<(), Fault>, &[u8])],
+) -> Result<(), Fail> {
+    for (input, answer, text) in rows {
+        for step in [1, 2, usize::MAX] {
+            let mut reader = reader_of(input, step);
+            let mut writer = empty_tape(alloc, step);
+            let answered = run(alloc, mode, &mut reader, &mut writer);
+            assert_eq!(rt; answered, *answer, "{mode}: {input:?}");
+            assert_eq!(rt; writer.text.as_slice(), *text, "{mode}: {input:?}");
+            assert_eq!(rt; writer.flushed, true);
+        }
+    }
+    Ok(())
+}
+
 #[test]
-fn worked_rows(rt: HostRuntime) -> Result<(), Fail> {
+fn rows_of_ends(rt: HostRuntime) -> Result<(), Fail> {
     let rows: [(&[u8], Result<(), Fault>, &[u8]); 16] = [
         (b"3\n1\n2\n", Ok(()), b"3 3 2\n"),
         (b"007", Ok(()), b"1 7 7\n"),
@@ -29,17 +50,7 @@ fn worked_rows(rt: HostRuntime) -> Result<(), Fail> {
         (b"1\n\n", Err(Fault::BadLine(2)), b""),
         (b"1\n2\n\n4\nx\n", Err(Fault::BadLine(3)), b""),
     ];
-    for (input, answer, text) in rows {
-        for step in [1, 2, usize::MAX] {
-            let mut reader = reader_of(input, step);
-            let mut writer = empty_tape(rt.alloc(), step);
-            let answered = run(rt.alloc(), "ends", &mut reader, &mut writer);
-            assert_eq!(rt; answered, answer, "{input:?}");
-            assert_eq!(rt; writer.text.as_slice(), text, "{input:?}");
-            assert_eq!(rt; writer.flushed, true);
-        }
-    }
-    Ok(())
+    check_rows(&rt, rt.alloc(), "ends", &rows)
 }
 
 #[test]
@@ -58,23 +69,38 @@ fn rows_of_stats(rt: HostRuntime) -> Result<(), Fail> {
         (b"1\n\n", Err(Fault::BadLine(2)), b""),
         (b"", Err(Fault::Empty), b""),
     ];
-    for (input, answer, text) in rows {
-        for step in [1, 2, usize::MAX] {
-            let mut reader = reader_of(input, step);
-            let mut writer = empty_tape(rt.alloc(), step);
-            let answered = run(rt.alloc(), "stats", &mut reader, &mut writer);
-            assert_eq!(rt; answered, answer, "{input:?}");
-            assert_eq!(rt; writer.text.as_slice(), text, "{input:?}");
-            assert_eq!(rt; writer.flushed, true);
-        }
-    }
-    Ok(())
+    check_rows(&rt, rt.alloc(), "stats", &rows)
+}
+
+#[test]
+fn rows_of_runs(rt: HostRuntime) -> Result<(), Fail> {
+    let rows: [(&[u8], Result<(), Fault>, &[u8]); 7] = [
+        (b"1\n1\n2\n3\n3\n", Ok(()), b"1 1\n2\n3 3\n"),
+        (b"7", Ok(()), b"7\n"),
+        (b"5\n05\n5\n", Ok(()), b"5 5 5\n"),
+        (b"1\n2\n1\n", Ok(()), b"1\n2\n1\n"),
+        (b"1\n\n2\n", Err(Fault::BadLine(2)), b""),
+        (b"1\n1\nx\n", Err(Fault::BadLine(3)), b""),
+        (b"", Err(Fault::Empty), b""),
+    ];
+    check_rows(&rt, rt.alloc(), "equal", &rows)?;
+    let rows: [(&[u8], Result<(), Fault>, &[u8]); 3] = [
+        (
+            b"2\n4\n6\n7\n9\n1\n2\n4\n6\n3\n",
+            Ok(()),
+            b"2 4 6\n7 9 1\n2 4 6\n3\n",
+        ),
+        (b"1\n1\n", Ok(()), b"1 1\n"),
+        (b"0\n1234567890\n", Err(Fault::BadLine(2)), b""),
+    ];
+    check_rows(&rt, rt.alloc(), "parity", &rows)
 }
 
 #[test]
 fn words_that_name_no_mode(rt: HostRuntime) -> Result<(), Fail> {
     for word in [
-        "equal", "runs", "end", "endss", "stat", "statss", "", "ENDS", "Stats", "ends ", "stats\n",
+        "runs", "end", "endss", "stat", "statss", "", "ENDS", "Stats", "ends ", "stats\n", "Equal",
+        "equals", "parit",
     ] {
         let mut reader = reader_of(b"1\n", 1);
         let mut writer = empty_tape(rt.alloc(), 1);
@@ -154,7 +180,7 @@ fn each_read_failed(rt: HostRuntime) -> Result<(), Fail> {
             let mut reader = reader_of(input, 1);
             reader.fails_at = turn;
             let mut writer = empty_tape(rt.alloc(), usize::MAX);
-            let answered = run(rt.alloc(), "ends", &mut reader, &mut writer);
+            let answered = run(rt.alloc(), "equal", &mut reader, &mut writer);
             assert_eq!(rt; answered, Err(Fault::Read), "turn {turn} of {input:?}");
             assert_eq!(rt; writer.calls, 0);
         }

@@ -1,0 +1,10 @@
+use Rattle.std.proofs.Common.{rules}
+use Rattle.std.proofs.lemmas.Result.{IfOk-weaker}
+use Rattle.ne_runs.proofs.mode.equal_text.Goals as goal
+
+pub returns : goal.returns
+returns c = IfOk-weaker c.text_of_runs.result _ _ (λ text written. record {
+  rows = c.in_ok-runs.runs;
+  of_mode = c.in_ok-runs.ensures (λ n. n) (λ n key f asked. search rules);
+  written = written;
+}) c.text_of_runs.ensures
