@@ -3,6 +3,7 @@ pub mod CopiedRuns
 pub mod FlatRuns
 pub mod PeekedRuns
 pub mod InterspersedRuns
+pub mod InterspersedPlaces
 pub mod LookedRuns
 pub mod Unzipped
 pub mod Fronts
