@@ -1,6 +1,6 @@
 -- What stands where in a list with separators.
-use Rattle.std.proofs.Common.{rules, arith, subst, sym, ap}
-use Rattle.std.specs.Prelude.{◌≡◌, ℕ, zero, suc, ◌+◌, ◌-◌, ◌*◌, List, [], ◌∷◌, length, slice_get, Option, Some, None, IsSomeAnd, refl, true, Result, Ok, Err}
+use Rattle.std.proofs.Common.{rules, arith, subst, ap}
+use Rattle.std.specs.Prelude.{◌≡◌, ℕ, zero, suc, ◌+◌, ◌-◌, ◌*◌, List, [], ◌∷◌, length, slice_get, Some, IsSomeAnd, refl, true, Result, Ok, Err}
 use Rattle.std.proofs.lemmas.Option.{none-some}
 use Rattle.ne_iter.specs.Interspersed.{Interspersed, all_ok}
 

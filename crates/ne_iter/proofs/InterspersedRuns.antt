@@ -1,6 +1,6 @@
 -- What a run of an interspersing iterator says of the run of its source.
 use Rattle.std.proofs.Common.{rules, subst, sym, ap, ◌∙◌}
-use Rattle.std.specs.Prelude.{◌≡◌, List, [], ◌∷◌, ◌++◌, Option, Some, None, refl, Bool, true, false, ◌&&◌, MatchOption, IsSomeAnd, Result, Ok, Err, MatchResult}
+use Rattle.std.specs.Prelude.{◌≡◌, List, [], ◌∷◌, ◌++◌, Option, Some, None, refl, Bool, true, false, ◌&&◌, Result, Ok, Err, MatchResult}
 use Rattle.std.specs.Iterator.{DrainsIf}
 use Rattle.std.proofs.lemmas.Bool.{MatchBool-at_true, MatchBool-at_false}
 use Rattle.std.proofs.lemmas.Option.{MatchOption-at_some, MatchOption-at_none, none-some}
@@ -70,14 +70,14 @@ module _ {S A E : Type 0} (steps : S → Option A → S → Type 0) (tries : A �
   DrainsIf-interspersed whole s x (z ∷ []) at (t, (j, st, e), fin) =
       let g = gave s j x (Some z) at st in
       let end : whole ≡ true → (u : S) × steps (drawn_from s) None u = λ w.
-          let stands : Stands t None = subst (λ q. Stands q None) e g.2 in
-          let d = drew t (fin w).0 None stands (fin w).1 in
-          (drawn_from (fin w).0, subst (λ q. steps q None (drawn_from (fin w).0)) (ap drawn_from (sym e) ∙ g.1) (no_item t (fin w).0 d)) in
+      let stands : Stands t None = subst (λ q. Stands q None) e g.2 in
+      let d = drew t (fin w).0 None stands (fin w).1 in
+      (drawn_from (fin w).0, subst (λ q. steps q None (drawn_from (fin w).0)) (ap drawn_from (sym e) ∙ g.1) (no_item t (fin w).0 d)) in
       subst (λ q. Behind whole x (drawn_from s) (q ∷ [])) (given z x g.0)
-        ([], [], (drawn_from s, refl, λ w. end (both_true whole true w).0), refl, λ _. refl)
+      ([], [], (drawn_from s, refl, λ w. end (both_true whole true w).0), refl, λ _. refl)
   DrainsIf-interspersed whole s x (z ∷ c ∷ zs) at (t, (j, st, (k, next, rest)), fin) =
       let g = gave s j x (Some z) at st in
       let d = drew j k (Some c) g.2 next in
       let came = an_item j k c d in
       subst (λ q. Behind whole x (drawn_from s) (q ∷ c ∷ zs)) (given z x g.0)
-        (two whole x came.0 s j k c zs g.1 g.2.2 next.0 came.1 (t, rest, fin) (λ stands. DrainsIf-interspersed whole k came.0 zs stands (t, rest, fin)))
+      (two whole x came.0 s j k c zs g.1 g.2.2 next.0 came.1 (t, rest, fin) (λ stands. DrainsIf-interspersed whole k came.0 zs stands (t, rest, fin)))

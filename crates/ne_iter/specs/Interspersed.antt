@@ -1,6 +1,6 @@
 -- Items with a separator between each two of them.
 use Rattle.std.proofs.Common.{rules}
-use Rattle.std.specs.Prelude.{◌≡◌, ℕ, ◌+◌, ◌*◌, Bool, false, List, [], ◌∷◌, ◌&&◌, true, is_ok, Option, None, Some, MatchOption, IsSomeAnd, Result, Ok, MatchResult}
+use Rattle.std.specs.Prelude.{◌≡◌, ◌+◌, ◌*◌, Bool, false, List, [], ◌∷◌, ◌&&◌, true, is_ok, Option, None, Some, MatchOption, IsSomeAnd, Result, Ok, MatchResult}
 use Rattle.std.specs.Bool.{MatchBool}
 use Rattle.std.specs.Option.{option_len}
 use Rattle.std.specs.Iterator.{Count, count_map, count_unless}
@@ -45,7 +45,7 @@ module _ {S A E : Type 0} (steps : S → Option A → S → Type 0) (tries : A �
   abbrev pub DrawsNext : RawIntersperse S A → Option (Result A E) → RawIntersperse S A → Type 0
   DrawsNext s r t = (o : Option A) × steps (drawn_from s) o (drawn_from t)
       × MatchOption o ((r ≡ None) × (in_hand t ≡ None) × (is_over t ≡ false))
-        (λ x. IsSomeAnd r (λ c. tries (clones_of s) c × MatchResult c (λ _. (in_hand t ≡ Some x) × (is_over t ≡ false)) (λ _. is_over t ≡ true)))
+      (λ x. IsSomeAnd r (λ c. tries (clones_of s) c × MatchResult c (λ _. (in_hand t ≡ Some x) × (is_over t ≡ false)) (λ _. is_over t ≡ true)))
 
   -- One call. After a refused clone it answers `None` and draws nothing; an item in hand is given; else `DrawsNext`.
   abbrev pub InterspersesNext : RawIntersperse S A → Option (Result A E) → RawIntersperse S A → Type 0

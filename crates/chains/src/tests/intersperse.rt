@@ -3,6 +3,7 @@ ghost use Rattle.std.specs.Iterator.{IsFiniteIterable};
 
 use super::clones::numbered;
 use super::draws::down_from;
+use ne_iter::laws::interspersed_lists_have_their_places;
 use nonempty_collections::{IntoNonEmptyIterator, NEVec, NonEmptyIterator};
 use std::alloc::{AllocError, Global};
 use std::cell::Cell;
@@ -21,6 +22,7 @@ fn separated<S: NonEmptyIterator<Item = u32>>(
 #[test]
 fn rows(rt: HostRuntime) -> Result<(), Fail> {
     let alloc = rt.alloc();
+    interspersed_lists_have_their_places::<u32>();
     assert_eq!(rt;
         separated(alloc, [1u32].into_nonempty_iter())?.as_slice(),
         [Ok(1)].as_slice()

@@ -62,7 +62,9 @@ where
 {
     iter: I,
     separator: I::Item,
+    // What was drawn, and comes before a further item is drawn.
     next: Option<I::Item>,
+    // Whether a clone was refused.
     is_over: bool,
 }
 
