@@ -90,7 +90,7 @@ module _ {U V A : Type 0} (reads : Bool → U → List A → Type 0) where
       × reads whole source xs × Calls calls f xs us g × ReadsEach inner whole us yss × (zs ≡ joined yss)
 
   -- `intersperse`: the items, each in `Ok`, with what came of cloning the separator between each two. What came so far is a front of
-  -- that, and what came to the end is all of it. The source had then ended too, where no clone was refused; else no more was drawn.
+  -- that, and what came to the end is all of it; the source had then ended too, where no clone was refused.
   abbrev pub IntersperseGives : {E : Type 0} → (A → Result A E → Type 0) → (Bool → V → List (Result A E) → Type 0) → U → A → V → Type 0
   IntersperseGives {E} tries interspersed source separator result = (whole : Bool) (zs : List (Result A E)) → interspersed whole result zs
       → (xs : List A) × (more : List (Result A E)) × reads (whole && all_ok zs) source xs
