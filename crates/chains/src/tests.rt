@@ -9,6 +9,7 @@ mod counts;
 mod deciding;
 mod draws;
 mod extremes;
+mod intersperse;
 mod looks;
 mod own;
 mod parts;

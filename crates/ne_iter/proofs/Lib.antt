@@ -2,6 +2,8 @@ pub mod Runs
 pub mod CopiedRuns
 pub mod FlatRuns
 pub mod PeekedRuns
+pub mod InterspersedRuns
+pub mod InterspersedPlaces
 pub mod LookedRuns
 pub mod Unzipped
 pub mod Fronts

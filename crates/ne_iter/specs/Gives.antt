@@ -9,6 +9,7 @@ use Rattle.std.proofs.Common.{◌⊎◌}
 use Rattle.ne_vec.specs.Divisions.{joined}
 use Rattle.ne_iter.specs.Calls.{Calls, ShownEach, AnswersEachAt}
 use Rattle.ne_iter.specs.Keys.{items_of, DividesByKey}
+use Rattle.ne_iter.specs.Interspersed.{Interspersed, all_ok}
 
 -- f, shown the first of the items ys, if there is one, may answer false.
 abbrev pub FailsFirst : {F A : Type 0} → Mut F (Bor A × Unit {0}) Bool → F → List A → Type 0
@@ -88,6 +89,13 @@ module _ {U V A : Type 0} (reads : Bool → U → List A → Type 0) where
   FlatMapGives {W} {B} {F} inner flat calls source f result = (whole : Bool) (zs : List B) → flat whole result zs
       → (xs : List A) × (us : List W) × (yss : List (List B)) × (g : F)
       × reads whole source xs × Calls calls f xs us g × ReadsEach inner whole us yss × (zs ≡ joined yss)
+
+  -- `intersperse`: the items, each in `Ok`, with what came of cloning the separator between each two. What came so far is a front of
+  -- that, and what came to the end is all of it; the source had then ended too, where no clone was refused.
+  abbrev pub IntersperseGives : {E : Type 0} → (A → Result A E → Type 0) → (Bool → V → List (Result A E) → Type 0) → U → A → V → Type 0
+  IntersperseGives {E} tries interspersed source separator result = (whole : Bool) (zs : List (Result A E)) → interspersed whole result zs
+      → (xs : List A) × (more : List (Result A E)) × reads (whole && all_ok zs) source xs
+      × Interspersed (tries separator) xs (zs ++ more) × (whole ≡ true → more ≡ [])
 
 module _ {U V T : Type 0} (reads : Bool → U → List (Bor T) → Type 0) where
   -- `copied`: what the references show.

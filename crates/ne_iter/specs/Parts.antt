@@ -15,6 +15,7 @@ use Rattle.ne_iter.specs.declared.iter.copies.ClonedIter.{ClonedIter}
 use Rattle.ne_iter.specs.declared.iter.copies.Copied.{Copied}
 use Rattle.ne_iter.specs.declared.iter.flat.FlatMap.{FlatMap}
 use Rattle.ne_iter.specs.declared.iter.group_by.NEGroupBy.{NEGroupBy}
+use Rattle.ne_iter.specs.declared.iter.intersperse.Intersperse.{Intersperse}
 
 -- the items of an array as a source
 abbrev pub items_of_array : {T : Type 0} {N : ℕ} → ArrayNonEmptyIterator T N → List T
@@ -79,3 +80,13 @@ source_of_group_by s = s.iter
 
 abbrev pub closure_of_group_by : {I F : Type 0} → NEGroupBy I F → F
 closure_of_group_by s = s.f
+
+-- the item that an `Intersperse` has drawn, the iterator of those behind it, and the separator
+abbrev pub first_of_intersperse : {I X S : Type 0} → Intersperse I X S → X
+first_of_intersperse s = s.first
+
+abbrev pub rest_of_intersperse : {I X S : Type 0} → Intersperse I X S → S
+rest_of_intersperse s = s.rest
+
+abbrev pub separator_of_intersperse : {I X S : Type 0} → Intersperse I X S → X
+separator_of_intersperse s = s.separator

@@ -8,8 +8,8 @@ use std::test::Fail;
 
 // A number that counts its clones, of which the second is refused.
 #[derive(Drop)]
-struct Number<'a> {
-    value: u32,
+pub(super) struct Number<'a> {
+    pub(super) value: u32,
     clones: &'a Cell<u32>,
 }
 
@@ -26,7 +26,7 @@ impl<'a> Clone for Number<'a> {
     }
 }
 
-fn numbered<'a>(value: u32, clones: &'a Cell<u32>) -> Number<'a> {
+pub(super) fn numbered<'a>(value: u32, clones: &'a Cell<u32>) -> Number<'a> {
     Number { value, clones }
 }
 

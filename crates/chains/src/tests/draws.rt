@@ -11,14 +11,14 @@ use std::test::Fail;
 
 // The numbers from `first` down to 1, of which each draw is counted.
 #[derive(Drop)]
-struct Countdown<'a> {
+pub(super) struct Countdown<'a> {
     first: u32,
     draws: &'a Cell<u32>,
     ghost has_item: { 0 < first },
 }
 
 #[derive(Drop)]
-struct Steps<'a> {
+pub(super) struct Steps<'a> {
     left: u32,
     draws: &'a Cell<u32>,
 }
@@ -60,11 +60,18 @@ impl<'a> NonEmptyIterator for Countdown<'a> {
     ghost not_empty = { λ s it made t ended. Prim.omega (arith, made, s.has_item, ended) };
 }
 
+pub(super) fn down_from(first: u32, draws: &Cell<u32>) -> Countdown<'_>
+    requires { 0 < first }
+    ensures { result.first ≡ first }
+{
+    Countdown { first, draws }
+}
+
 // 3, 2 and 1.
 fn three(draws: &Cell<u32>) -> Countdown<'_>
     ensures { result.first ≡ 3 }
 {
-    Countdown { first: 3, draws }
+    down_from(3, draws)
 }
 
 #[test]

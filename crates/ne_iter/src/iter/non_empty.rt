@@ -8,13 +8,16 @@ ghost use Rattle.std.specs.List.Sorted.{IsSortedByKeyClosure, IsStableByKeyClosu
 ghost use Rattle.ne_iter.specs.Sources.{IsNonEmpty, FirstAndRest};
 ghost use Rattle.ne_iter.specs.Calls.{ShownEach};
 ghost use Rattle.ne_iter.specs.Clones.{TriesClone};
-ghost use Rattle.ne_iter.specs.Parts.{source_of_map, closure_of_map, source_of_enumerate, source_of_take, count_of_take, first_of_chain, second_of_chain, first_of_zip, second_of_zip, source_of_cloned, source_of_copied, source_of_flat_map, closure_of_flat_map, source_of_group_by, closure_of_group_by};
-ghost use Rattle.ne_iter.specs.Gives.{MapGives, EnumerateGives, TakeGives, ChainGives, ZipGives, FlatMapGives, GroupByGives, GroupByStops, CopiedGives, ClonedGives, FilterGives, FilterMapGives, SkipGives, SkipWhileGives, TakeWhileGives};
+ghost use Rattle.ne_iter.specs.Parts.{source_of_map, closure_of_map, source_of_enumerate, source_of_take, count_of_take, first_of_chain, second_of_chain, first_of_zip, second_of_zip, source_of_cloned, source_of_copied, source_of_flat_map, closure_of_flat_map, source_of_group_by, closure_of_group_by, first_of_intersperse, rest_of_intersperse, separator_of_intersperse};
+ghost use Rattle.ne_iter.specs.Gives.{MapGives, EnumerateGives, TakeGives, ChainGives, ZipGives, FlatMapGives, GroupByGives, GroupByStops, CopiedGives, ClonedGives, FilterGives, FilterMapGives, SkipGives, SkipWhileGives, TakeWhileGives, IntersperseGives};
 ghost use Rattle.ne_iter.specs.Peeks.{peekable_first, peekable_rest, PeekableGives};
 ghost use Rattle.ne_iter.specs.Answers.{TellsAll, TellsAny, FindsFirst, GivesNth, FoldsAll, ReducesAll, IsFirstGreatest, IsFirstLeast, PicksGreatest, PicksLeast, CallableOnTwo, less_by};
 
 use super::sources::{FromNonEmptyIterator, IntoNonEmptyIterator, Source};
-use super::{Chain, Cloned, Copied, Enumerate, FlatMap, GroupBy, Map, NEGroupBy, Peekable, Take, Zip};
+use super::{
+    Chain, Cloned, Copied, Enumerate, FlatMap, GroupBy, Intersperse, Map, NEGroupBy, Peekable,
+    Take, Zip,
+};
 use ne_vec::{NEVec, Singleton, vector};
 use std::alloc::{AllocError, Global};
 use std::cmp::Ordering;
@@ -253,6 +256,30 @@ pub trait NonEmptyIterator: IntoIterator {
             iter: self,
             f,
             alloc,
+        }
+    }
+
+    /// The items, and between each two of them a clone of `separator`: each in `Ok`, and an `Err` in the place of a clone that was
+    /// refused, after which no item comes. So of n items come 2n - 1, and no separator comes first or last. One clone is made for each
+    /// separator that is given.
+    ///
+    /// The first item is drawn at once. In the Rust crate `into_iter` of what is answered draws it, and clones the separator once more;
+    /// the items are plain there.
+    final fn intersperse(self, separator: Self::Item) -> Intersperse<Self>
+    where
+        Self: Sized,
+        Self::Item: Clone + Drop,
+        requires { (it : Self.IntoIter) → Self.into_iter_gives self it → Self.IntoIter.can_next it }
+        ensures holds { separator_of_intersperse result ≡ separator }
+        ensures drawn { FirstAndRest Self.into_iter_gives Self.IntoIter.next_gives self (first_of_intersperse result) (rest_of_intersperse result) }
+        ensures goes_on { (it : Self.IntoIter) × Self.into_iter_gives self it × MakesProgress Self.IntoIter.can_next Self.IntoIter.remaining it (Some (first_of_intersperse result)) (rest_of_intersperse result) }
+        ensures gives { IntersperseGives (⟦<Self as Source>⟧.reads) (TriesClone Self.Item.is_clone Self.Item.is_infallible) (⟦<Intersperse<Self> as Source>⟧.reads) self separator result }
+    {
+        let (first, rest) = self.next();
+        Intersperse {
+            first,
+            rest,
+            separator,
         }
     }
 

@@ -1,0 +1,59 @@
+-- Items with a separator between each two of them.
+use Rattle.std.proofs.Common.{rules}
+use Rattle.std.specs.Prelude.{◌≡◌, ◌+◌, ◌*◌, Bool, false, List, [], ◌∷◌, ◌&&◌, true, is_ok, Option, None, Some, MatchOption, IsSomeAnd, Result, Ok, MatchResult}
+use Rattle.std.specs.Bool.{MatchBool}
+use Rattle.std.specs.Option.{option_len}
+use Rattle.std.specs.Iterator.{Count, count_map, count_unless}
+use Rattle.std.proofs.lemmas.Bool.{MatchBool-at_false}
+use Rattle.std.proofs.lemmas.Option.{MatchOption-at_some}
+use Rattle.ne_iter.specs.Sources.{HasFirst}
+use Rattle.ne_iter.specs.declared.iter.intersperse.RawIntersperse.{RawIntersperse}
+
+-- zs are the items xs, each in `Ok`, and between each two of them what came of cloning the separator; up to the first clone that was
+-- refused. `came` holds of what may come of a clone.
+abbrev pub Interspersed : {A E : Type 0} → (Result A E → Type 0) → List A → List (Result A E) → Type 0
+Interspersed came [] zs = zs ≡ []
+Interspersed came (x ∷ []) zs = zs ≡ Ok x ∷ []
+Interspersed {A} {E} came (x ∷ y ∷ xs) zs = (c : Result A E) × (more : List (Result A E)) × came c × (zs ≡ Ok x ∷ c ∷ more)
+    × MatchResult c (λ _. Interspersed came (y ∷ xs) more) (λ _. more ≡ [])
+
+-- none of zs is an `Err`
+abbrev pub all_ok : {A E : Type 0} → List (Result A E) → Bool
+all_ok [] = true
+all_ok (z ∷ zs) = is_ok z && all_ok zs
+
+-- the iterator that a `RawIntersperse` draws from, the separator, the item that was drawn and comes next, and whether a clone was refused
+abbrev pub drawn_from : {I X : Type 0} → RawIntersperse I X → I
+drawn_from s = s.iter
+
+abbrev pub clones_of : {I X : Type 0} → RawIntersperse I X → X
+clones_of s = s.separator
+
+abbrev pub in_hand : {I X : Type 0} → RawIntersperse I X → Option X
+in_hand s = s.next
+
+abbrev pub is_over : {I X : Type 0} → RawIntersperse I X → Bool
+is_over s = s.is_over
+
+-- at most the item in hand, and two for each that is left to draw
+abbrev pub interspersed_left : {I X : Type 0} → (I → Count) → RawIntersperse I X → Count
+interspersed_left left s = count_unless (is_over s) (count_map (λ n. 2 * n + option_len (in_hand s)) (left (drawn_from s)))
+
+module _ {S A E : Type 0} (steps : S → Option A → S → Type 0) (tries : A → Result A E → Type 0) where
+  -- Nothing is in hand: an item is drawn. Where none came, the end is answered; else what came of cloning the separator, and then the
+  -- item is in hand, or a clone was refused.
+  abbrev pub DrawsNext : RawIntersperse S A → Option (Result A E) → RawIntersperse S A → Type 0
+  DrawsNext s r t = (o : Option A) × steps (drawn_from s) o (drawn_from t)
+      × MatchOption o ((r ≡ None) × (in_hand t ≡ None) × (is_over t ≡ false))
+      (λ x. IsSomeAnd r (λ c. tries (clones_of s) c × MatchResult c (λ _. (in_hand t ≡ Some x) × (is_over t ≡ false)) (λ _. is_over t ≡ true)))
+
+  -- One call. After a refused clone it answers `None` and draws nothing; an item in hand is given; else `DrawsNext`.
+  abbrev pub InterspersesNext : RawIntersperse S A → Option (Result A E) → RawIntersperse S A → Type 0
+  InterspersesNext s r t = (clones_of t ≡ clones_of s) × MatchBool (is_over s) ((r ≡ None) × (t ≡ s))
+      (MatchOption (in_hand s) (DrawsNext s r t) (λ x. (r ≡ Some (Ok x)) × (drawn_from t ≡ drawn_from s) × (in_hand t ≡ None) × (is_over t ≡ false)))
+
+  -- one that has an item in hand gives an item
+  pub HasFirst-interspersed : (s : RawIntersperse S A) (x : A) → in_hand s ≡ Some x → is_over s ≡ false → HasFirst InterspersesNext s
+  HasFirst-interspersed s x hand fresh t ended =
+      let e = (MatchOption-at_some _ _ x hand (MatchBool-at_false _ _ fresh ended.1)).0 in
+      search rules

@@ -1,0 +1,106 @@
+//! The adapter that puts a separator between the items.
+
+use super::NonEmptyIterator;
+use std::alloc::AllocError;
+
+/// The items of a source, with clones of a separator between them: see [`NonEmptyIterator::intersperse`].
+#[derive(Drop)]
+pub struct Intersperse<I: IntoIterator>
+where
+    I::Item: Drop,
+{
+    pub(super) first: I::Item,
+    pub(super) rest: I::IntoIter,
+    pub(super) separator: I::Item,
+}
+
+impl<I: NonEmptyIterator> IntoIterator for Intersperse<I>
+where
+    I::Item: Clone + Drop,
+{
+    ghost use Rattle.std.specs.Prelude.{◌≡◌, Some, false};
+    ghost use Rattle.ne_iter.specs.Parts.{first_of_intersperse, rest_of_intersperse, separator_of_intersperse};
+    ghost use Rattle.ne_iter.specs.Interspersed.{drawn_from, clones_of, in_hand, is_over};
+
+    type Item = Result<I::Item, AllocError>;
+
+    type IntoIter = RawIntersperse<I::IntoIter>;
+
+    ghost into_iter_gives = { λ s it. (in_hand it ≡ Some (first_of_intersperse s)) × (drawn_from it ≡ rest_of_intersperse s) × (clones_of it ≡ separator_of_intersperse s) × (is_over it ≡ false) };
+
+    /// In the Rust crate the separator is cloned once more here; it is moved.
+    fn into_iter(self) -> RawIntersperse<I::IntoIter> {
+        RawIntersperse {
+            iter: self.rest,
+            separator: self.separator,
+            next: Some(self.first),
+            is_over: false,
+        }
+    }
+}
+
+impl<I: NonEmptyIterator> NonEmptyIterator for Intersperse<I>
+where
+    I::Item: Clone + Drop,
+{
+    ghost use Rattle.ne_iter.specs.Parts.{first_of_intersperse};
+    ghost use Rattle.ne_iter.specs.Clones.{TriesClone};
+    ghost use Rattle.ne_iter.specs.Interspersed.{HasFirst-interspersed};
+
+    ghost not_empty = { λ s it made. HasFirst-interspersed I.IntoIter.next_gives (TriesClone I.Item.is_clone I.Item.is_infallible) it (first_of_intersperse s) made.0 made.3 };
+}
+
+/// The iterator of an [`Intersperse`]: each item in `Ok`, and between each two a clone of the separator, or an `Err` where that clone was
+/// refused. After an `Err` it answers `None`, and draws nothing more.
+///
+/// It draws the item behind a separator before it clones that one. After its end it asks its source again at each `next`. In the Rust
+/// crate the items are plain, as clones cannot be refused there.
+#[derive(Drop)]
+pub struct RawIntersperse<I: Iterator>
+where
+    I::Item: Drop,
+{
+    iter: I,
+    separator: I::Item,
+    // What was drawn, and comes before a further item is drawn.
+    next: Option<I::Item>,
+    // Whether a clone was refused.
+    is_over: bool,
+}
+
+impl<I: Iterator> Iterator for RawIntersperse<I>
+where
+    I::Item: Clone + Drop,
+{
+    ghost use Rattle.std.specs.Prelude.{◌≡◌, false};
+    ghost use Rattle.ne_iter.specs.Clones.{TriesClone};
+    ghost use Rattle.ne_iter.specs.Interspersed.{drawn_from, is_over, interspersed_left, InterspersesNext};
+
+    type Item = Result<I::Item, AllocError>;
+
+    ghost can_next = { λ s. is_over s ≡ false → I.can_next (drawn_from s) };
+
+    ghost next_gives = { InterspersesNext I.next_gives (TriesClone I.Item.is_clone I.Item.is_infallible) };
+
+    ghost remaining = { interspersed_left I.remaining };
+
+    fn next(&mut self) -> Option<Result<I::Item, AllocError>> {
+        if self.is_over {
+            return None;
+        }
+        if let Some(item) = self.next.take() {
+            return Some(Ok(item));
+        }
+        let item = self.iter.next()?;
+        match self.separator.clone() {
+            Ok(separator) => {
+                self.next = Some(item);
+                Some(Ok(separator))
+            }
+            Err(refused) => {
+                self.is_over = true;
+                Some(Err(refused))
+            }
+        }
+    }
+}
