@@ -13,6 +13,7 @@ mod intersperse;
 mod looks;
 mod own;
 mod parts;
+mod runs;
 mod sources;
 mod totals;
 

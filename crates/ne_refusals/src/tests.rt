@@ -6,6 +6,7 @@
 mod changes;
 mod clones;
 mod makes;
+mod runs;
 mod sorts;
 mod sources;
 

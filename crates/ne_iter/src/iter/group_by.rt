@@ -111,7 +111,8 @@ where
         };
         while let Some(item) = self.iter.next() {
             let item_key = (self.key)(&item);
-            if first_key == item_key {
+            let goes_on = first_key == item_key;
+            if goes_on {
                 let Ok(()) = run.push(item) else {
                     return Some(Err(AllocError));
                 };

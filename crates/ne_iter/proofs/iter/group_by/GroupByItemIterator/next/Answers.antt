@@ -56,7 +56,7 @@ loop-item-preserved g c =
     let i = c.loop-item.invariant in
     let came = c.in-Some.ensures in
     let eq = g.K.PartialEq.eq in (
-      λ s f rs h. rw c.in-Ok-push.ensures.added (open_more g.I.Iterator.next_gives g.F.FnMut eq s f rs _ _ _ _ _ _ _ _ (c.one_item_more.ensures.goes_on (by_first (same_key eq))) (i.0 s f rs h) came.steps (called_at g.F.FnMut c.call_mut-item_key-in-Some.ensures refl) (subst (λ v. v ≡ true) c.eq.ensures c.if-eq.true)),
+      λ s f rs h. rw c.in-Ok-push.ensures.added (open_more g.I.Iterator.next_gives g.F.FnMut eq s f rs _ _ _ _ _ _ _ _ (c.one_item_more.ensures.goes_on (by_first (same_key eq))) (i.0 s f rs h) came.steps (called_at g.F.FnMut c.call_mut-item_key-in-Some.ensures refl) (subst (λ v. v ≡ true) c.eq-goes_on.ensures c.if-goes_on.true)),
       i.1,
       i.2,
       mut_next g.F.FnMut _ _ _ _ _ c.call_mut-item_key-in-Some.ensures refl i.3,
@@ -66,13 +66,13 @@ loop-item-preserved g c =
     )
 
 -- an item of another key came
-pub returns-else-eq-clause-steps : goal.returns-else-eq-clause-steps
-returns-else-eq-clause-steps g c =
+pub returns-else-goes_on-clause-steps : goal.returns-else-goes_on-clause-steps
+returns-else-goes_on-clause-steps g c =
     let i = c.loop-item.invariant in
     let eq = g.K.PartialEq.eq in record {
       over = λ o. absurd (i.2 o);
       stops = tt;
-      reads = λ s f rs h. rw c.in-Ok-new.ensures (close_held g.I.Iterator.next_gives g.F.FnMut eq s f rs _ _ _ _ _ _ _ (c.one_item_more.ensures.breaks (by_first (same_key eq))) (i.0 s f rs h) c.in-Some.ensures.steps (called_at g.F.FnMut c.call_mut-item_key-in-Some.ensures refl) (subst (λ v. v ≡ false) c.eq.ensures c.if-eq.false) refl);
+      reads = λ s f rs h. rw c.in-Ok-new.ensures (close_held g.I.Iterator.next_gives g.F.FnMut eq s f rs _ _ _ _ _ _ _ (c.one_item_more.ensures.breaks (by_first (same_key eq))) (i.0 s f rs h) c.in-Some.ensures.steps (called_at g.F.FnMut c.call_mut-item_key-in-Some.ensures refl) (subst (λ v. v ≡ false) c.eq-goes_on.ensures c.if-goes_on.false) refl);
     }
 
 -- the source ended
