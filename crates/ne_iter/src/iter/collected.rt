@@ -40,7 +40,7 @@ impl<T: Drop> FromNonEmptyIterator<T> for Vec<T> {
 
 /// `Ok` of what the values make, or the first `Err`, and then no later item is drawn.
 ///
-/// The values are kept in an [`NEVec`] until all are there. In the Rust crate they are handed on one at a time.
+/// The values are kept in an [`NEVec`] until all are there, so they take memory of their own.
 impl<T: Drop, E: Drop, V: FromNonEmptyIterator<T>> FromNonEmptyIterator<Result<T, E>>
     for Result<V, E> {
     ghost collected = { ResultsMake V.collected V.is_complete };
