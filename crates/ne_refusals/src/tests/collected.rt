@@ -2,7 +2,7 @@
 
 use super::{Countdown, tell};
 use nonempty_collections::iter::once;
-use nonempty_collections::{IntoNonEmptyIterator, NEVec, NonEmptyIterator};
+use nonempty_collections::{IntoNonEmptyIterator, NonEmptyIterator};
 use std::alloc::AllocError;
 use std::collections::{BTreeMap, BTreeSet, HashMap, HashSet};
 use std::convert::AsSlice;
@@ -55,7 +55,10 @@ fn hashed_map(rt: HostRuntime) -> Result<(), Fail> {
     let Ok(map) = answer else {
         return tell(&rt, "refused", call);
     };
-    assert_eq!(rt; (map.get(&5), map.get(&0), map.len()), (Some(&6), Some(&0), 6));
+    assert_eq!(rt;
+        (map.get(&5), map.get(&0), map.len()),
+        (Some(&6), Some(&0), 6)
+    );
     tell(&rt, "made", call)
 }
 
@@ -67,7 +70,10 @@ fn tree_map(rt: HostRuntime) -> Result<(), Fail> {
     let Ok(map) = answer else {
         return tell(&rt, "refused", call);
     };
-    assert_eq!(rt; (map.get(&5), map.get(&0), map.len()), (Some(&6), Some(&0), 6));
+    assert_eq!(rt;
+        (map.get(&5), map.get(&0), map.len()),
+        (Some(&6), Some(&0), 6)
+    );
     tell(&rt, "made", call)
 }
 
@@ -78,7 +84,10 @@ fn hashed_set(rt: HostRuntime) -> Result<(), Fail> {
     let Ok(set) = answer else {
         return tell(&rt, "refused", call);
     };
-    assert_eq!(rt; (set.contains(&5), set.contains(&0), set.len()), (true, true, 6));
+    assert_eq!(rt;
+        (set.contains(&5), set.contains(&0), set.len()),
+        (true, true, 6)
+    );
     tell(&rt, "made", call)
 }
 
@@ -91,22 +100,27 @@ fn tree_set(rt: HostRuntime) -> Result<(), Fail> {
     let Ok(set) = answer else {
         return tell(&rt, "refused", call);
     };
-    assert_eq!(rt; (set.contains(&5), set.contains(&4), set.len()), (true, true, 3));
+    assert_eq!(rt;
+        (set.contains(&5), set.contains(&4), set.len()),
+        (true, true, 3)
+    );
     tell(&rt, "made", call)
 }
 
-// The values grow twice, for the first and for the fifth, and so does the text that is made of them, or of none at an `Err`.
+// The values take memory of their own, and then the text that is made of them grows for each.
 #[test]
 fn result(rt: HostRuntime) -> Result<(), Fail> {
     let call = "collect into Result";
-    let values = once(5).chain(Countdown(5)).map(Ok::<u32, char>);
-    let answer: Result<Result<NEVec<u32>, char>, AllocError> = values.collect(rt.alloc());
-    let Ok(made) = answer else {
+    let pieces = ["eight by", "tes and some more"].into_nonempty_iter();
+    let answer: Result<Result<String, char>, AllocError> = pieces
+        .map(Ok::<&str, char>)
+        .collect(rt.alloc());
+    let Ok(joined) = answer else {
         return tell(&rt, "refused", call);
     };
     assert_eq!(rt;
-        made.as_ref().map(|v| v.as_slice()),
-        Ok([5, 4, 3, 2, 1, 0].as_slice())
+        joined.as_ref().map(|text| text.as_str()),
+        Ok("eight bytes and some more")
     );
     tell(&rt, "made", call)
 }

@@ -35,7 +35,7 @@ returns-in-Err g c =
 pub loop-item-preserved : goal.loop-item-preserved
 loop-item-preserved g c =
     one_more (map Ok c.in_ok-values-in-Ok.values) c.loop-item.yielded c.in-Some.item c.in-Ok-item.value c.loop-item.values c.push.new.self
-        c.in-Ok-item.is c.in_ok-push-in-Ok-item.ensures.added c.loop-item.invariant
+    c.in-Ok-item.is c.in_ok-push-in-Ok-item.ensures.added c.loop-item.invariant
 
 pub returns-in-Err-item : goal.returns-in-Err-item
 returns-in-Err-item g c =
@@ -45,8 +45,11 @@ returns-in-Err-item g c =
       items,
       (g.met.I.IntoNonEmptyIterator.same_lists c.args.iter false items).1 c.into_nonempty_iter.result c.into_nonempty_iter.ensures.into_nonempty_iter_gives
           (Reads-left from.0 c.loop-item.yielded c.loop-item.item-iterator c.in-Some.item c.next.new.self from.1 from.2 c.into_iter-item-iterator.ensures.into_iter_gives c.loop-item.yielded_by c.in-Some.ensures.steps),
-      (c.loop-item.values, up_to_err drawn c.in-Some.item c.in-Err-item.e c.loop-item.values c.in-Err-item.is
-          (are_values c.next-first.result.0 c.in-Ok.value c.in_ok-values-in-Ok.values c.loop-item.values c.loop-item.yielded c.in-Ok.is c.in_ok-values-in-Ok.ensures c.loop-item.invariant)),
+      (
+        c.loop-item.values,
+        up_to_err drawn c.in-Some.item c.in-Err-item.e c.loop-item.values c.in-Err-item.is
+            (are_values c.next-first.result.0 c.in-Ok.value c.in_ok-values-in-Ok.values c.loop-item.values c.loop-item.yielded c.in-Ok.is c.in_ok-values-in-Ok.ensures c.loop-item.invariant),
+      ),
     )
 
 pub returns : goal.returns
