@@ -107,3 +107,15 @@ fn first_error(rt: HostRuntime) -> Result<(), Fail> {
     assert_eq!(rt; (all.err(), calls), (Some(ODD), 2));
     Ok(())
 }
+
+// The outer one is made of all items, and the inner one stops at the second value.
+#[test]
+fn result_of_results(rt: HostRuntime) -> Result<(), Fail> {
+    let items: [Result<Result<u32, &str>, char>; 3] = [Ok(Ok(2)), Ok(Err(ODD)), Ok(Ok(8))];
+    let made: Result<Result<Vec<u32>, &str>, char> = items
+        .into_nonempty_iter()
+        .collect(rt.alloc())?;
+    let inner = made.ok().ok_or("an error of the outer result")?;
+    assert_eq!(rt; inner.err(), Some(ODD));
+    Ok(())
+}
