@@ -4,6 +4,7 @@
 
 mod adapters;
 mod clones;
+mod collected;
 mod composed;
 mod counts;
 mod deciding;

@@ -5,6 +5,7 @@
 
 mod changes;
 mod clones;
+mod collected;
 mod makes;
 mod runs;
 mod sorts;

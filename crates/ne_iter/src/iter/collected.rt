@@ -1,4 +1,5 @@
-//! Collecting into the standard library's types: here nothing, vectors and results; texts and paths in `texts`, maps and sets in `keys`.
+//! Collecting into the standard library's types: here into nothing, vectors and results; into texts and paths in `texts`, into maps
+//! and sets in `keys`.
 ghost use Rattle.std.specs.Result.{is_ok};
 ghost use Rattle.ne_iter.specs.Collected.{ResultsMake};
 
@@ -40,7 +41,7 @@ impl<T: Drop> FromNonEmptyIterator<T> for Vec<T> {
 
 /// `Ok` of what the values make, or the first `Err`, and then no later item is drawn.
 ///
-/// The values are kept in an [`NEVec`] until all are there. In the Rust crate they are handed on one at a time.
+/// The values are kept in an [`NEVec`] until all are there, so they take memory of their own.
 impl<T: Drop, E: Drop, V: FromNonEmptyIterator<T>> FromNonEmptyIterator<Result<T, E>>
     for Result<V, E> {
     ghost collected = { ResultsMake V.collected V.is_complete };

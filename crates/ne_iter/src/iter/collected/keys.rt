@@ -1,4 +1,5 @@
-//! Collecting into maps and sets. Keys and items count as the same where `==` says so; which of several equal ones is kept is left open.
+//! Collecting into maps and sets. Keys and items count as the same where `==` says so; which of several equal ones is kept is left
+//! open.
 ghost use Rattle.std.specs.Prelude.{◌<◌, length};
 ghost use Rattle.std.specs.BTreeMap.{IsOrdered};
 ghost use Rattle.std.specs.BTreeSet.{IsOrdered as AreOrdered};

@@ -1,0 +1,126 @@
+//! Collecting into the standard library's types. What was taken is dropped where more memory is refused.
+
+use super::{Countdown, tell};
+use nonempty_collections::iter::once;
+use nonempty_collections::{IntoNonEmptyIterator, NonEmptyIterator};
+use std::alloc::AllocError;
+use std::collections::{BTreeMap, BTreeSet, HashMap, HashSet};
+use std::convert::AsSlice;
+use std::path::PathBuf;
+use std::test::Fail;
+
+// The vector grows twice, for the first item and for the fifth.
+#[test]
+fn vector(rt: HostRuntime) -> Result<(), Fail> {
+    let call = "collect into Vec";
+    let answer: Result<Vec<u32>, AllocError> = once(5).chain(Countdown(5)).collect(rt.alloc());
+    let Ok(items) = answer else {
+        return tell(&rt, "refused", call);
+    };
+    assert_eq!(rt; items.as_slice(), [5, 4, 3, 2, 1, 0].as_slice());
+    tell(&rt, "made", call)
+}
+
+// The text grows for each piece.
+#[test]
+fn text(rt: HostRuntime) -> Result<(), Fail> {
+    let call = "collect into String";
+    let pieces = ["eight by", "tes and some more"].into_nonempty_iter();
+    let answer: Result<String, AllocError> = pieces.collect(rt.alloc());
+    let Ok(joined) = answer else {
+        return tell(&rt, "refused", call);
+    };
+    assert_eq!(rt; joined.as_str(), "eight bytes and some more");
+    tell(&rt, "made", call)
+}
+
+// The path grows for each part.
+#[test]
+fn path(rt: HostRuntime) -> Result<(), Fail> {
+    let call = "collect into PathBuf";
+    let parts = ["a folder", "with a file in it"].into_nonempty_iter();
+    let answer: Result<PathBuf, AllocError> = parts.collect(rt.alloc());
+    let Ok(joined) = answer else {
+        return tell(&rt, "refused", call);
+    };
+    assert_eq!(rt; joined.into_string().as_str(), "a folder/with a file in it");
+    tell(&rt, "made", call)
+}
+
+#[test]
+fn hashed_map(rt: HostRuntime) -> Result<(), Fail> {
+    let call = "collect into HashMap";
+    let pairs = once((5, 6)).chain(Countdown(5).map(|x| (x, x)));
+    let answer: Result<HashMap<u32, u32>, AllocError> = pairs.collect(rt.alloc());
+    let Ok(map) = answer else {
+        return tell(&rt, "refused", call);
+    };
+    assert_eq!(rt;
+        (map.get(&5), map.get(&0), map.len()),
+        (Some(&6), Some(&0), 6)
+    );
+    tell(&rt, "made", call)
+}
+
+#[test]
+fn tree_map(rt: HostRuntime) -> Result<(), Fail> {
+    let call = "collect into BTreeMap";
+    let pairs = once((5, 6)).chain(Countdown(5).map(|x| (x, x)));
+    let answer: Result<BTreeMap<u32, u32>, AllocError> = pairs.collect(rt.alloc());
+    let Ok(map) = answer else {
+        return tell(&rt, "refused", call);
+    };
+    assert_eq!(rt;
+        (map.get(&5), map.get(&0), map.len()),
+        (Some(&6), Some(&0), 6)
+    );
+    tell(&rt, "made", call)
+}
+
+#[test]
+fn hashed_set(rt: HostRuntime) -> Result<(), Fail> {
+    let call = "collect into HashSet";
+    let answer: Result<HashSet<u32>, AllocError> = once(5).chain(Countdown(5)).collect(rt.alloc());
+    let Ok(set) = answer else {
+        return tell(&rt, "refused", call);
+    };
+    assert_eq!(rt;
+        (set.contains(&5), set.contains(&0), set.len()),
+        (true, true, 6)
+    );
+    tell(&rt, "made", call)
+}
+
+// Of an array, whose hint is right: the set asks for the room of the hint at once.
+#[test]
+fn tree_set(rt: HostRuntime) -> Result<(), Fail> {
+    let call = "collect into BTreeSet";
+    let items = [5u32, 4, 3, 4].into_nonempty_iter();
+    let answer: Result<BTreeSet<u32>, AllocError> = items.collect(rt.alloc());
+    let Ok(set) = answer else {
+        return tell(&rt, "refused", call);
+    };
+    assert_eq!(rt;
+        (set.contains(&5), set.contains(&4), set.len()),
+        (true, true, 3)
+    );
+    tell(&rt, "made", call)
+}
+
+// The values take memory of their own, and then the text that is made of them grows for each.
+#[test]
+fn result(rt: HostRuntime) -> Result<(), Fail> {
+    let call = "collect into Result";
+    let pieces = ["eight by", "tes and some more"].into_nonempty_iter();
+    let answer: Result<Result<String, char>, AllocError> = pieces
+        .map(Ok::<&str, char>)
+        .collect(rt.alloc());
+    let Ok(joined) = answer else {
+        return tell(&rt, "refused", call);
+    };
+    assert_eq!(rt;
+        joined.as_ref().map(|text| text.as_str()),
+        Ok("eight bytes and some more")
+    );
+    tell(&rt, "made", call)
+}
