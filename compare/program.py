@@ -28,7 +28,26 @@ def stats(numbers):
     return [[min(numbers), max(numbers), sum(numbers)]]
 
 
-MODES = {"ends": ends, "stats": stats}
+def runs(numbers, key):
+    """Each number goes on a run while its key is that of the run's first number."""
+    rows = []
+    for number in numbers:
+        if rows and key(rows[-1][0]) == key(number):
+            rows[-1].append(number)
+        else:
+            rows.append([number])
+    return rows
+
+
+def equal(numbers):
+    return runs(numbers, lambda number: number)
+
+
+def parity(numbers):
+    return runs(numbers, lambda number: number % 2 == 0)
+
+
+MODES = {"ends": ends, "stats": stats, "equal": equal, "parity": parity}
 
 
 def number(line):
