@@ -3,7 +3,7 @@ use Rattle.std.proofs.Common.{◌≡◌, Bool, true, false, List, [], ◌∷◌,
 use Rattle.std.proofs.lemmas.List.{append-nil, map_push}
 use Rattle.std.specs.Borrow.{Bor}
 use Rattle.std.specs.Fn.{Mut}
-use Rattle.std.specs.Iterator.{Yields, DrainsIf}
+use Rattle.std.specs.Iterator.{Yields}
 use Rattle.std.specs.List.{FoldsTo, AllByRecursion}
 use Rattle.std.specs.declared.alloc.AllocError.{AllocError}
 use Rattle.ne_vec.specs.Divisions.{IsDivision, by_first}

@@ -1,4 +1,4 @@
-use Rattle.std.proofs.Common.{true, ltb, map, Ok, length, ◌≤◌, subst}
+use Rattle.std.proofs.Common.{true, ltb, map, Ok, ◌≤◌, subst}
 use Rattle.std.proofs.lemmas.Result.{IfOk-weaker}
 use Rattle.std.proofs.lemmas.List.{length-map}
 use Rattle.std.specs.Int.NonZero.{non_zero_usize_get}

@@ -1,6 +1,6 @@
 use Rattle.std.proofs.Common.{arith, refl, true, false, sym, ap, subst, ◌∙◌, ◌≡◌, ◌+◌, ◌≤◌}
 use Rattle.std.proofs.lemmas.Fn.{called_at}
-use Rattle.std.specs.Iterator.{IsFinite, size}
+use Rattle.std.specs.Iterator.{size}
 use denote.Param.Always.{always_mut, mut_next}
 use Rattle.ne_vec.specs.Divisions.{by_first}
 use Rattle.ne_iter.specs.Keys.{same_key}
