@@ -3,7 +3,6 @@ ghost use Rattle.std.specs.Prelude.{◌^◌, ◌<◌};
 ghost use Rattle.std.specs.Iterator.{IsFiniteIterable, size};
 
 use super::of;
-use super::totals::digits;
 use nonempty_collections::iter::once;
 use nonempty_collections::{IntoNonEmptyIterator, NEVec, NonEmptyIterator, nev};
 use std::alloc::{AllocError, Global};
@@ -131,19 +130,5 @@ fn over_references(rt: HostRuntime) -> Result<(), Fail> {
         copied(alloc, two.nonempty_iter())?.as_slice(),
         [1, 2].as_slice()
     );
-    Ok(())
-}
-
-// What the adapters make is a source too.
-#[test]
-fn adapted_twice(rt: HostRuntime) -> Result<(), Fail> {
-    let tower = [1u32, 2]
-        .into_nonempty_iter()
-        .take(of(1)?)
-        .zip(once(3u32))
-        .map(|(a, b)| a.wrapping_add(b));
-    assert_eq!(rt; digits(tower, 0), 4);
-    let tower = once(4u32).chain([5u32]).peekable().flat_map(|x| [x, 0]);
-    assert_eq!(rt; digits(tower, 0), 4050);
     Ok(())
 }
