@@ -9,7 +9,8 @@ use std::num::NonZeroUsize;
 /// What the workload of this name makes of `n` items; `None` where none has the name.
 pub fn checksum(alloc: Global, name: &str, n: NonZeroUsize) -> Result<Option<u64>, AllocError> {
     let checksum = match name {
-        "input" => input(alloc, n)?,
+        "scrambled" => length_and_last(&scrambled(alloc, n)?),
+        "rising" => length_and_last(&rising(alloc, n, 3)?),
         "push_pop" => push_pop(alloc, n)?,
         "sort" => sort(alloc, n)?,
         "dedup" => dedup(alloc, n)?,
@@ -28,9 +29,9 @@ pub fn checksum(alloc: Global, name: &str, n: NonZeroUsize) -> Result<Option<u64
     Ok(Some(checksum))
 }
 
-// The numbers alone, which most others begin with.
-fn input(alloc: Global, n: NonZeroUsize) -> Result<u64, AllocError> {
-    Ok(combined(&scrambled(alloc, n)?))
+// What there is to tell of the numbers alone, with which the others begin.
+fn length_and_last(items: &NEVec<u64>) -> u64 {
+    mixed(items.len().get() as u64, *items.last())
 }
 
 fn combined(items: &NEVec<u64>) -> u64 {
