@@ -72,10 +72,26 @@ fn rising(n: NonZeroUsize, mask: u64) -> NEVec<u64> {
     items
 }
 
+#[inline(never)]
+fn paired(n: NonZeroUsize) -> NEVec<(u64, u64)> {
+    let keys = n.get() as u64 / 2 + 1;
+    let mut state = 1u64;
+    let mut items = NEVec::with_capacity(n, (0, 0));
+    for _ in 1..n.get() {
+        state = next(state);
+        items.push(((state >> 11) % keys, state));
+    }
+    items
+}
+
 fn checksum(name: &str, n: NonZeroUsize) -> Option<u64> {
     Some(match name {
         "scrambled" => length_and_last(&scrambled(n)),
         "rising" => length_and_last(&rising(n, 3)),
+        "paired" => {
+            let (key, value) = *paired(n).last();
+            mixed(key, value)
+        }
         "push_pop" => push_pop(n),
         "sort" => sort(n),
         "dedup" => dedup(n),
@@ -199,9 +215,8 @@ fn intersperse(n: NonZeroUsize) -> u64 {
 }
 
 fn hash_map(n: NonZeroUsize) -> u64 {
-    let half = n.get() as u64 / 2 + 1;
-    let items = scrambled(n).into_nonempty_iter();
-    let map: HashMap<u64, u64> = items.map(|x| (x % half, x)).collect();
+    let items = paired(n).into_nonempty_iter();
+    let map: HashMap<u64, u64> = items.collect();
     let mut sum = 0u64;
     for (key, value) in &map {
         sum = sum.wrapping_add(mixed(*key, *value));
@@ -210,9 +225,8 @@ fn hash_map(n: NonZeroUsize) -> u64 {
 }
 
 fn tree_map(n: NonZeroUsize) -> u64 {
-    let half = n.get() as u64 / 2 + 1;
-    let items = scrambled(n).into_nonempty_iter();
-    let map: BTreeMap<u64, u64> = items.map(|x| (x % half, x)).collect();
+    let items = paired(n).into_nonempty_iter();
+    let map: BTreeMap<u64, u64> = items.collect();
     let mut checksum = 0u64;
     for (key, value) in &map {
         checksum = mixed(mixed(checksum, *key), *value);

@@ -1,4 +1,4 @@
-//! What the workloads are run on: numbers of a linear congruential generator.
+//! What the workloads are run on: numbers of a linear congruential generator, and pairs of them.
 
 use ne_vec::NEVec;
 use std::alloc::{AllocError, Global};
@@ -38,6 +38,18 @@ pub fn rising(alloc: Global, n: NonZeroUsize, mask: u64) -> Result<NEVec<u64>, A
             item = item.wrapping_add(1);
         }
         items.push(item)?;
+    }
+    Ok(items)
+}
+
+/// `n` pairs of a key and a number, with about n / 2 keys.
+pub fn paired(alloc: Global, n: NonZeroUsize) -> Result<NEVec<(u64, u64)>, AllocError> {
+    let keys = n.get() as u64 / 2 + 1;
+    let mut state = 1u64;
+    let mut items = NEVec::with_capacity(alloc, n, (0, 0))?;
+    for _ in 1..n.get() {
+        state = next(state);
+        items.push(((state >> 11) % keys, state))?;
     }
     Ok(items)
 }

@@ -1,6 +1,6 @@
 //! The workloads, each over `n` items.
 
-use crate::input::{mixed, next, rising, scrambled};
+use crate::input::{mixed, next, paired, rising, scrambled};
 use nonempty_collections::{IntoNonEmptyIterator, NEVec, NonEmptyIterator};
 use std::alloc::{AllocError, Global};
 use std::collections::{BTreeMap, HashMap};
@@ -11,6 +11,10 @@ pub fn checksum(alloc: Global, name: &str, n: NonZeroUsize) -> Result<Option<u64
     let checksum = match name {
         "scrambled" => length_and_last(&scrambled(alloc, n)?),
         "rising" => length_and_last(&rising(alloc, n, 3)?),
+        "paired" => {
+            let (key, value) = *paired(alloc, n)?.last();
+            mixed(key, value)
+        }
         "push_pop" => push_pop(alloc, n)?,
         "sort" => sort(alloc, n)?,
         "dedup" => dedup(alloc, n)?,
@@ -138,9 +142,8 @@ fn intersperse(alloc: Global, n: NonZeroUsize) -> Result<u64, AllocError> {
 
 // The number of keys and the sum of all values, which tell nothing of the order in which a hash map is walked.
 fn hash_map(alloc: Global, n: NonZeroUsize) -> Result<u64, AllocError> {
-    let half = n.get() as u64 / 2 + 1;
-    let items = scrambled(alloc, n)?.into_nonempty_iter();
-    let map: HashMap<u64, u64> = items.map(|x| (x % half, x)).collect(alloc)?;
+    let items = paired(alloc, n)?.into_nonempty_iter();
+    let map: HashMap<u64, u64> = items.collect(alloc)?;
     let mut sum = 0u64;
     for (key, value) in &map {
         sum = sum.wrapping_add(mixed(*key, *value));
@@ -149,9 +152,8 @@ fn hash_map(alloc: Global, n: NonZeroUsize) -> Result<u64, AllocError> {
 }
 
 fn tree_map(alloc: Global, n: NonZeroUsize) -> Result<u64, AllocError> {
-    let half = n.get() as u64 / 2 + 1;
-    let items = scrambled(alloc, n)?.into_nonempty_iter();
-    let map: BTreeMap<u64, u64> = items.map(|x| (x % half, x)).collect(alloc)?;
+    let items = paired(alloc, n)?.into_nonempty_iter();
+    let map: BTreeMap<u64, u64> = items.collect(alloc)?;
     let mut checksum = 0u64;
     for (key, value) in &map {
         checksum = mixed(mixed(checksum, *key), *value);
