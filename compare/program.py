@@ -1,4 +1,4 @@
-"""The proved program, and a reference of what it has to do, written from the description of its modes and faults alone."""
+"""A proved program, built; and a reference of what `ne_runs` has to do, written from the description of its modes and faults alone."""
 
 import os
 import subprocess
@@ -6,18 +6,18 @@ import sys
 
 sys.dont_write_bytecode = True
 HERE = os.path.dirname(os.path.abspath(__file__))
-CRATE = os.path.join(HERE, os.pardir, "crates", "ne_runs")
 LIMIT = 1_048_576
 
 
-def build():
-    """Proves and builds the program, and returns the path of what was built."""
-    how = {"cwd": CRATE, "stdin": subprocess.DEVNULL, "stdout": subprocess.DEVNULL, "stderr": subprocess.PIPE}
+def build(name="ne_runs"):
+    """Proves and builds the program of the crate of this name, and returns the path of what was built."""
+    crate = os.path.join(HERE, os.pardir, "crates", name)
+    how = {"cwd": crate, "stdin": subprocess.DEVNULL, "stdout": subprocess.DEVNULL, "stderr": subprocess.PIPE}
     # without a word the program answers its usage, with status 2
     ran = subprocess.run(["rt", "run"], **how)
-    if ran.returncode != 2 or b"usage: ne_runs MODE" not in ran.stderr:
+    if ran.returncode != 2 or f"usage: {name} ".encode() not in ran.stderr:
         sys.exit(f"the program is not proved, or not built:\n{ran.stderr.decode(errors='replace')[-2000:]}")
-    return os.path.abspath(os.path.join(CRATE, "out", "ne_runs"))
+    return os.path.abspath(os.path.join(crate, "out", name))
 
 
 def ends(numbers):
