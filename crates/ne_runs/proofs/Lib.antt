@@ -5,4 +5,3 @@ pub mod OneList
 pub mod Rows
 pub mod Stats
 pub mod Writes
-pub mod Collected

@@ -1,17 +1,16 @@
 //! [`Mode`], what a run makes of its numbers: the word that names each mode, and its text.
 //!
 //! The laws of the library that are called here do nothing. What they ensure is cited by the proofs.
-ghost use Rattle.std.specs.Prelude.{◌≡◌, ◌^◌, ◌<◌, ◌∷◌, ◌++◌, OnOk, IfOk, Some, string_bytes, List, ℕ, length, sum};
-ghost use Rattle.std.specs.Iterator.{ActsAsAt};
+ghost use Rattle.std.specs.Prelude.{◌≡◌, ◌^◌, ◌<◌, ◌∷◌, ◌++◌, OnOk, IfOk, Ok, Some, string_bytes, List, ℕ, length, map, sum, true};
+ghost use Rattle.std.specs.Iterator.{ActsAsAt, IsFiniteIterable};
 ghost use Rattle.std.specs.List.{flat_map};
 ghost use Rattle.ne_vec.specs.Divisions.{IsDivision, by_first};
 ghost use Rattle.ne_runs.specs.Modes.{mode_of, word_of, row_text, AreRows, IsText, IsLeast, IsGreatest};
 ghost use Rattle.ne_runs.specs.declared.mode.Mode.{Mode};
 
-use ne_iter::laws::{
-    calls_of_a_function, results_make_a_vector, runs_by_a_function, vectors_give_their_items,
-};
+use ne_iter::laws::{calls_of_a_function, runs_by_a_function, vectors_give_their_items};
 use ne_vec::laws::has_one_division;
+use nonempty_collections::iter::Source;
 use nonempty_collections::{NEVec, NonEmptyIterator};
 use std::alloc::{AllocError, Global};
 
@@ -100,41 +99,43 @@ fn stats_text(alloc: Global, numbers: &NEVec<u32>) -> Result<String, AllocError>
 fn equal_text(alloc: Global, numbers: &NEVec<u32>) -> Result<String, AllocError>
     ensures { IfOk result (λ text. IsText Mode.Equal numbers.now (string_bytes text)) }
 {
-    let runs = runs_by(alloc, numbers, |number| *number)?;
-    text_of_runs(alloc, &runs)
+    text_by(alloc, numbers, |number| *number)
 }
 
 // The runs of numbers that are all even or all odd.
 fn parity_text(alloc: Global, numbers: &NEVec<u32>) -> Result<String, AllocError>
     ensures { IfOk result (λ text. IsText Mode.Parity numbers.now (string_bytes text)) }
 {
-    let runs = runs_by(alloc, numbers, |number| *number % 2 == 0)?;
-    text_of_runs(alloc, &runs)
+    text_by(alloc, numbers, |number| *number % 2 == 0)
 }
 
-// The runs of numbers with the same key.
-fn runs_by<K: PartialEq + Drop, F: FnMut(&u32) -> K + Drop>(
+// The runs of numbers with the same key, each as a row.
+fn text_by<K: PartialEq + Drop, F: FnMut(&u32) -> K + Drop>(
     alloc: Global,
     numbers: &NEVec<u32>,
     key: F,
-) -> Result<NEVec<NEVec<u32>>, AllocError>
+) -> Result<String, AllocError>
     requires { F.IsAlwaysCallable key }
-    ensures { IfOk result (λ runs. (h : ℕ → K) → ActsAsAt F.FnMut key h → IsDivision (by_first (λ m n. K.eq (h m) (h n))) numbers.now runs) }
+    ensures { IfOk result (λ text. (h : ℕ → K) → ActsAsAt F.FnMut key h
+        → (runs : List (List ℕ)) × IsDivision (by_first (λ m n. K.eq (h m) (h n))) numbers.now runs × (string_bytes text ≡ flat_map row_text runs)) }
 {
     vectors_give_their_items::<u32>();
-    results_make_a_vector::<NEVec<u32>, AllocError>();
     runs_by_a_function::<u32, K, F>(&key);
     let walk = numbers.nonempty_iter().copied();
-    walk.group_by(alloc, key).collect(alloc)?
+    text_of_runs(alloc, walk.group_by(alloc, key))
 }
 
-// Each run as a row.
-fn text_of_runs(alloc: Global, runs: &NEVec<NEVec<u32>>) -> Result<String, AllocError>
-    ensures { IfOk result (λ text. string_bytes text ≡ flat_map row_text runs.now) }
+// Each run as a row. It is dropped before the next one is drawn.
+fn text_of_runs<R: NonEmptyIterator<Item = Result<NEVec<u32>, AllocError>>>(
+    alloc: Global,
+    runs: R,
+) -> Result<String, AllocError>
+    requires { IsFiniteIterable R.into_iter_gives R.IntoIter.can_next R.IntoIter.remaining runs }
+    ensures { IfOk result (λ text. (rows : List (List ℕ)) × ⟦<R as Source>⟧.reads true runs (map Ok rows) × (string_bytes text ≡ flat_map row_text rows)) }
 {
     let mut text = String::new(alloc);
     for run in runs {
-        push_run(&mut text, run)?;
+        push_run(&mut text, &run?)?;
     }
     Ok(text)
 }

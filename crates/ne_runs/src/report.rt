@@ -105,6 +105,8 @@ pub fn run<R: Source, W: Sink>(
         return Err(Fault::TooLong);
     }
     let numbers = numbers(alloc, input.as_slice())?;
+    // what follows needs the numbers alone
+    drop(input);
     let numbers = NEVec::try_from_vec(numbers).ok_or(Fault::Empty)?;
     let text = mode.text(alloc, &numbers)?;
     write_all(writer, text.as_bytes())

@@ -3,8 +3,6 @@ use Rattle.std.proofs.lemmas.Result.{IfOk-weaker}
 use Rattle.ne_runs.proofs.mode.equal_text.Goals as goal
 
 pub returns : goal.returns
-returns c = IfOk-weaker c.text_of_runs.result _ _ (λ text written. record {
-  rows = c.in_ok-runs.runs;
-  of_mode = c.in_ok-runs.ensures (λ n. n) (λ n key f asked. search rules);
-  written = written;
-}) c.text_of_runs.ensures
+returns c = IfOk-weaker c.text_by.result _ _ (λ text says.
+    let made = says (λ n. n) (λ n key f asked. search rules) in
+    record { rows = made.0; of_mode = made.1; written = made.2 }) c.text_by.ensures

@@ -1,0 +1,52 @@
+"""What a run of a program takes, its start and its end among it: time, instructions and memory; and how two programs are compared."""
+
+import os
+import re
+import statistics
+import subprocess
+import time
+
+
+def spent(words, file):
+    """The milliseconds that one run takes."""
+    with open(file, "rb") as given:
+        start = time.perf_counter()
+        subprocess.run(words, stdin=given, stdout=subprocess.DEVNULL, check=True)
+        return 1000 * (time.perf_counter() - start)
+
+
+def medians(programs, words, rounds, file=os.devnull):
+    """The median time of each program, which are run in turn."""
+    times = [[spent([program, *words], file) for program in programs] for _ in range(rounds)]
+    return [statistics.median(taken) for taken in zip(*times)]
+
+
+def valgrind(tool, pattern, words, file):
+    """What a tool of valgrind counts of one run."""
+    with open(file, "rb") as given:
+        traced = ["valgrind", f"--tool={tool}", f"--{tool}-out-file={os.devnull}", *words]
+        said = subprocess.run(traced, stdin=given, stdout=subprocess.DEVNULL, stderr=subprocess.PIPE, check=True).stderr
+    return int(re.search(pattern, said)[1].replace(b",", b""))
+
+
+def instructions(words, file=os.devnull):
+    return valgrind("callgrind", rb"Collected : (\d+)", words, file)
+
+
+def heap(words, file):
+    """The most bytes of the heap that are held at once."""
+    return valgrind("dhat", rb"At t-gmax: +([\d,]+) bytes", words, file)
+
+
+def ratio(port, rust):
+    """How many times as much the port takes, with a star where that is more."""
+    return f"{port / rust:.2f}{' *' if port > rust else ''}"
+
+
+def print_row(cells):
+    print("|", " | ".join(map(str, cells)), "|", flush=True)
+
+
+def print_head(cells):
+    print_row(cells)
+    print("|" + "---|" * len(cells), flush=True)
