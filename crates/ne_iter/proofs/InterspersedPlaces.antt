@@ -1,8 +1,9 @@
 -- What stands where in a list with separators.
 use Rattle.std.proofs.Common.{rules, arith, subst, ap}
-use Rattle.std.specs.Prelude.{◌≡◌, ℕ, zero, suc, ◌+◌, ◌-◌, ◌*◌, List, [], ◌∷◌, length, slice_get, Some, IsSomeAnd, refl, true, Result, Ok, Err}
+use Rattle.std.specs.Prelude.{◌≡◌, ℕ, zero, suc, ◌+◌, ◌-◌, ◌*◌, List, [], ◌∷◌, length, slice_get, Some, IsSomeAnd, refl, true, Result, Ok, Err, is_ok}
+use Rattle.std.specs.List.{list_all}
 use Rattle.std.proofs.lemmas.Option.{none-some}
-use Rattle.ne_iter.specs.Interspersed.{Interspersed, all_ok}
+use Rattle.ne_iter.specs.Interspersed.{Interspersed}
 
 two_more : (i : ℕ) → 2 * suc i ≡ suc (suc (2 * i))
 two_more i = omega arith
@@ -21,13 +22,13 @@ module _ {X : Type 0} where
   nothing_there i z e = none-some z e
 
 module _ {A E : Type 0} (came : Result A E → Type 0) where
-  ok_behind : (x c : A) (zs more : List (Result A E)) → zs ≡ Ok x ∷ Ok c ∷ more → all_ok zs ≡ true → all_ok more ≡ true
-  ok_behind x c zs more e ok = subst (λ l. all_ok l ≡ true) e ok
+  ok_behind : (x c : A) (zs more : List (Result A E)) → zs ≡ Ok x ∷ Ok c ∷ more → list_all is_ok zs ≡ true → list_all is_ok more ≡ true
+  ok_behind x c zs more e ok = subst (λ l. list_all is_ok l ≡ true) e ok
 
-  err_behind : (x : A) (e : E) (zs more : List (Result A E)) → zs ≡ Ok x ∷ Err e ∷ more → all_ok zs ≡ true → ⊥
-  err_behind x e zs more same ok = let f = subst (λ l. all_ok l ≡ true) same ok in search rules
+  err_behind : (x : A) (e : E) (zs more : List (Result A E)) → zs ≡ Ok x ∷ Err e ∷ more → list_all is_ok zs ≡ true → ⊥
+  err_behind x e zs more same ok = let f = subst (λ l. list_all is_ok l ≡ true) same ok in search rules
 
-  pub count_of : (xs : List A) (zs : List (Result A E)) → Interspersed came xs zs → all_ok zs ≡ true → length zs ≡ 2 * length xs - 1
+  pub count_of : (xs : List A) (zs : List (Result A E)) → Interspersed came xs zs → list_all is_ok zs ≡ true → length zs ≡ 2 * length xs - 1
   count_of [] zs h ok = ap length h
   count_of (x ∷ []) zs h ok = ap length h
   count_of (x ∷ y ∷ xs) zs (Ok c, more, came_of, same, rest) ok =

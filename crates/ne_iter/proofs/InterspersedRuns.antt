@@ -1,17 +1,18 @@
 -- What a run of an interspersing iterator says of the run of its source.
 use Rattle.std.proofs.Common.{rules, subst, sym, ap, ◌∙◌}
-use Rattle.std.specs.Prelude.{◌≡◌, List, [], ◌∷◌, ◌++◌, Option, Some, None, refl, Bool, true, false, ◌&&◌, Result, Ok, Err, MatchResult}
+use Rattle.std.specs.Prelude.{◌≡◌, List, [], ◌∷◌, ◌++◌, Option, Some, None, refl, Bool, true, false, ◌&&◌, Result, Ok, Err, is_ok, MatchResult}
 use Rattle.std.specs.Iterator.{DrainsIf}
+use Rattle.std.specs.List.{list_all}
 use Rattle.std.proofs.lemmas.Bool.{MatchBool-at_true, MatchBool-at_false}
 use Rattle.std.proofs.lemmas.Option.{MatchOption-at_some, MatchOption-at_none, none-some}
-use Rattle.ne_iter.specs.Interspersed.{Interspersed, all_ok, drawn_from, clones_of, in_hand, is_over, DrawsNext, InterspersesNext}
+use Rattle.ne_iter.specs.Interspersed.{Interspersed, drawn_from, clones_of, in_hand, is_over, DrawsNext, InterspersesNext}
 use Rattle.ne_iter.specs.declared.iter.intersperse.RawIntersperse.{RawIntersperse}
 use Rattle.ne_iter.proofs.Runs.{both_true}
 
 module _ {S A E : Type 0} (steps : S → Option A → S → Type 0) (tries : A → Result A E → Type 0) (separator : A) where
   -- zs were given since x was in hand, and xs are the items behind it
   abbrev Behind : Bool → A → S → List (Result A E) → Type 0
-  Behind whole x s zs = (xs : List A) × (more : List (Result A E)) × DrainsIf steps ((whole && all_ok zs) ≡ true) s xs
+  Behind whole x s zs = (xs : List A) × (more : List (Result A E)) × DrainsIf steps ((whole && list_all is_ok zs) ≡ true) s xs
       × Interspersed (tries separator) (x ∷ xs) (zs ++ more) × (whole ≡ true → more ≡ [])
 
   -- no clone was refused, and o is in hand

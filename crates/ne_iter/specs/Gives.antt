@@ -1,15 +1,15 @@
 -- What each adapter gives, by what its source gives.
 -- A source is named by what it reads: `reads whole u xs` says that u may give the items xs first, and where whole is true may then
 -- end. So each word below speaks of every list that an adapter may have given so far, and of every list that it may give to its end.
-use Rattle.std.specs.Prelude.{◌≡◌, ◌≢◌, ℕ, ◌≤◌, Bool, true, false, ◌||◌, ◌&&◌, ltb, List, [], ◌∷◌, ◌++◌, length, zip, ⊤, Option, None, Some, MatchOption, Result, Ok, Err, map, IsTrue, drop, filter, filter_map}
-use Rattle.std.specs.List.{AllZip, enumerate_from}
+use Rattle.std.specs.Prelude.{◌≡◌, ◌≢◌, ℕ, ◌≤◌, Bool, true, false, ◌||◌, ◌&&◌, ltb, List, [], ◌∷◌, ◌++◌, length, zip, ⊤, Option, None, Some, MatchOption, Result, Ok, Err, is_ok, map, IsTrue, drop, filter, filter_map}
+use Rattle.std.specs.List.{AllZip, enumerate_from, list_all}
 use Rattle.std.specs.Fn.{Mut, CalledAt}
 use Rattle.std.specs.Borrow.{Bor}
 use Rattle.std.proofs.Common.{◌⊎◌}
 use Rattle.ne_vec.specs.Divisions.{joined}
 use Rattle.ne_iter.specs.Calls.{Calls, ShownEach, AnswersEachAt}
 use Rattle.ne_iter.specs.Keys.{items_of, DividesByKey}
-use Rattle.ne_iter.specs.Interspersed.{Interspersed, all_ok}
+use Rattle.ne_iter.specs.Interspersed.{Interspersed}
 
 -- f, shown the first of the items ys, if there is one, may answer false.
 abbrev pub FailsFirst : {F A : Type 0} → Mut F (Bor A × Unit {0}) Bool → F → List A → Type 0
@@ -94,7 +94,7 @@ module _ {U V A : Type 0} (reads : Bool → U → List A → Type 0) where
   -- that, and what came to the end is all of it; the source had then ended too, where no clone was refused.
   abbrev pub IntersperseGives : {E : Type 0} → (A → Result A E → Type 0) → (Bool → V → List (Result A E) → Type 0) → U → A → V → Type 0
   IntersperseGives {E} tries interspersed source separator result = (whole : Bool) (zs : List (Result A E)) → interspersed whole result zs
-      → (xs : List A) × (more : List (Result A E)) × reads (whole && all_ok zs) source xs
+      → (xs : List A) × (more : List (Result A E)) × reads (whole && list_all is_ok zs) source xs
       × Interspersed (tries separator) xs (zs ++ more) × (whole ≡ true → more ≡ [])
 
 module _ {U V T : Type 0} (reads : Bool → U → List (Bor T) → Type 0) where

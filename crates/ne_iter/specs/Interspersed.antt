@@ -1,6 +1,6 @@
 -- Items with a separator between each two of them.
 use Rattle.std.proofs.Common.{rules}
-use Rattle.std.specs.Prelude.{◌≡◌, ◌+◌, ◌*◌, Bool, false, List, [], ◌∷◌, ◌&&◌, true, is_ok, Option, None, Some, MatchOption, IsSomeAnd, Result, Ok, MatchResult}
+use Rattle.std.specs.Prelude.{◌≡◌, ◌+◌, ◌*◌, Bool, false, List, [], ◌∷◌, true, Option, None, Some, MatchOption, IsSomeAnd, Result, Ok, MatchResult}
 use Rattle.std.specs.Bool.{MatchBool}
 use Rattle.std.specs.Option.{option_len}
 use Rattle.std.specs.Iterator.{Count, count_map, count_unless}
@@ -16,11 +16,6 @@ Interspersed came [] zs = zs ≡ []
 Interspersed came (x ∷ []) zs = zs ≡ Ok x ∷ []
 Interspersed {A} {E} came (x ∷ y ∷ xs) zs = (c : Result A E) × (more : List (Result A E)) × came c × (zs ≡ Ok x ∷ c ∷ more)
     × MatchResult c (λ _. Interspersed came (y ∷ xs) more) (λ _. more ≡ [])
-
--- none of zs is an `Err`
-abbrev pub all_ok : {A E : Type 0} → List (Result A E) → Bool
-all_ok [] = true
-all_ok (z ∷ zs) = is_ok z && all_ok zs
 
 -- the iterator that a `RawIntersperse` draws from, the separator, the item that was drawn and comes next, and whether a clone was refused
 abbrev pub drawn_from : {I X : Type 0} → RawIntersperse I X → I

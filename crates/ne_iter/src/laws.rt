@@ -1,17 +1,16 @@
 //! Laws on sources. Each is the contract of a function that does nothing.
-ghost use Rattle.std.specs.Prelude.{◌≡◌, ◌≢◌, ◌<◌, true, Bool, List, [], ◌∷◌, ◌++◌, Option, Some, None, Result, Ok, Err, MatchResult, length, map, Vec, ℕ, ◌+◌, ◌-◌, ◌*◌, IsSomeAnd, slice_get};
+ghost use Rattle.std.specs.Prelude.{◌≡◌, ◌≢◌, ◌<◌, true, Bool, List, [], ◌∷◌, ◌++◌, Option, Some, None, Result, Ok, Err, is_ok, MatchResult, length, map, Vec, ℕ, ◌+◌, ◌-◌, ◌*◌, IsSomeAnd, slice_get};
 ghost use Rattle.std.specs.Global.{Global};
 ghost use Rattle.std.specs.Borrow.{Bor};
 ghost use Rattle.std.specs.Iterator.{ActsAs, ActsAsAt, Drains};
-ghost use Rattle.std.specs.List.{AllByRecursion, FoldsTo};
+ghost use Rattle.std.specs.List.{AllByRecursion, FoldsTo, list_all};
 ghost use Rattle.ne_vec.specs.Divisions.{IsDivision, by_first, joined};
 ghost use Rattle.ne_iter.specs.Calls.{Calls, ShownEach};
 ghost use Rattle.ne_iter.specs.Keys.{items_of, DividesByKey};
 ghost use Rattle.ne_iter.specs.Reader.{IsOver, HasRead, GivesRun, AnswersOn};
 ghost use Rattle.ne_iter.specs.Reading.{Reading, Unread};
-ghost use Rattle.std.specs.declared.alloc.AllocError.{AllocError};
 ghost use Rattle.ne_iter.specs.Clones.{TriesClone};
-ghost use Rattle.ne_iter.specs.Interspersed.{Interspersed, all_ok};
+ghost use Rattle.ne_iter.specs.Interspersed.{Interspersed};
 ghost use Rattle.ne_iter.specs.Gives.{GivesList, ShowsList};
 
 use crate::array::NonEmptyArray;
@@ -43,7 +42,7 @@ pub fn calls_of_a_function<A, B, F: FnMut(A) -> B>(f: &F)
 /// The items xs with separators: where no clone was refused, one less than twice as many; item i at place 2i, in `Ok`, what came of a
 /// clone at each odd place, and an `Err` at the last place alone.
 pub fn interspersed_lists_have_their_places<T: Clone>()
-    ensures count { (separator : T) (xs : List T) (zs : List (Result T AllocError)) → Interspersed (TriesClone T.is_clone T.is_infallible separator) xs zs → all_ok zs ≡ true → length zs ≡ 2 * length xs - 1 }
+    ensures count { (separator : T) (xs : List T) (zs : List (Result T AllocError)) → Interspersed (TriesClone T.is_clone T.is_infallible separator) xs zs → list_all is_ok zs ≡ true → length zs ≡ 2 * length xs - 1 }
     ensures items { (separator : T) (xs : List T) (zs : List (Result T AllocError)) → Interspersed (TriesClone T.is_clone T.is_infallible separator) xs zs → (i : ℕ) (z : Result T AllocError) → slice_get zs (2 * i) ≡ Some z → IsSomeAnd (slice_get xs i) (λ x. z ≡ Ok x) }
     ensures separators { (separator : T) (xs : List T) (zs : List (Result T AllocError)) → Interspersed (TriesClone T.is_clone T.is_infallible separator) xs zs → (i : ℕ) (z : Result T AllocError) → slice_get zs (2 * i + 1) ≡ Some z → TriesClone T.is_clone T.is_infallible separator z }
     ensures last { (separator : T) (xs : List T) (zs : List (Result T AllocError)) → Interspersed (TriesClone T.is_clone T.is_infallible separator) xs zs → (i : ℕ) (refused : AllocError) → slice_get zs i ≡ Some (Err refused) → length zs ≡ i + 1 }

@@ -51,7 +51,8 @@ where
     ghost not_empty = { λ s g made. HasFirst-grouped I.IntoIter.next_gives F.FnMut K.eq g made.2 (I.not_empty (source_of_group_by s) g.source made.0) };
 }
 
-/// The iterator of a [`NEGroupBy`]: one run after the other, each a vector.
+/// The iterator of a [`NEGroupBy`]: one run after the other, each a vector in `Ok`, or an `Err` where there was no memory for a run; what
+/// it has drawn and not given is then dropped. After an `Err` it answers `None`, and draws nothing more.
 ///
 /// Between two calls a contract sees its source, its closure, and what is ahead: nothing was drawn yet, or one item is held with its
 /// key, or no more will come.

@@ -55,14 +55,14 @@ pub trait IntoNonEmptyIterator: IntoIterator {
     ghost same_lists: { SameLists Self.into_iter_gives Self.IntoIter.next_gives into_nonempty_iter_gives Self.IntoNEIter.into_iter_gives Self.IntoNEIter.IntoIter.next_gives };
 }
 
-impl<I: NonEmptyIterator> IntoNonEmptyIterator for I {
-    type IntoNEIter = I;
+impl<S: NonEmptyIterator> IntoNonEmptyIterator for S {
+    type IntoNEIter = S;
 
     ghost into_nonempty_iter_gives = { λ s r. r ≡ s };
 
-    ghost same_lists = { SameLists-self I.into_iter_gives I.IntoIter.next_gives };
+    ghost same_lists = { SameLists-self S.into_iter_gives S.IntoIter.next_gives };
 
-    fn into_nonempty_iter(self) -> I {
+    fn into_nonempty_iter(self) -> S {
         self
     }
 }

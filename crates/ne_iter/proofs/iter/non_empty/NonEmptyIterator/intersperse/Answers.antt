@@ -1,8 +1,8 @@
 use Rattle.std.proofs.Common.{subst}
-use Rattle.std.specs.Prelude.{◌∷◌, ◌≡◌, true, ◌&&◌}
+use Rattle.std.specs.Prelude.{◌∷◌, ◌≡◌, true, ◌&&◌, is_ok}
 use Rattle.std.specs.Iterator.{DrainsIf}
+use Rattle.std.specs.List.{list_all}
 use Rattle.ne_iter.specs.Clones.{TriesClone}
-use Rattle.ne_iter.specs.Interspersed.{all_ok}
 use Rattle.ne_iter.proofs.InterspersedRuns.{DrainsIf-interspersed}
 use Rattle.ne_iter.proofs.iter.non_empty.NonEmptyIterator.intersperse.Goals as goal
 
@@ -11,7 +11,7 @@ returns-clause-gives g c whole zs h =
     let steps = g.Self.IntoIter.Iterator.next_gives in
     let drawn = c.next-first.ensures.first in
     let p = DrainsIf-interspersed steps (TriesClone g.Self.Item.Clone.is_clone g.Self.Item.Clone.is_infallible) c.args.separator whole h.it c.next-first.result.0 zs (h.made.0, h.made.3, h.made.2) h.given in
-    let run = subst (λ q. DrainsIf steps ((whole && all_ok zs) ≡ true) q p.0) h.made.1 p.2 in (
+    let run = subst (λ q. DrainsIf steps ((whole && list_all is_ok zs) ≡ true) q p.0) h.made.1 p.2 in (
       c.next-first.result.0 ∷ p.0,
       p.1,
       record { it = drawn.0; made = drawn.1; given = (run.0, (c.next-first.result.1, drawn.2, run.1), run.2) },
