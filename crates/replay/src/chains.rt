@@ -1,0 +1,165 @@
+//! Adapters, alone and over one another. What a chain gives is collected into a vector.
+
+use crate::call::Call;
+use nonempty_collections::iter::once;
+use nonempty_collections::{IntoIteratorExt, IntoNonEmptyIterator, NEVec, NonEmptyIterator};
+use std::alloc::{AllocError, Global};
+use towers::{parted, runs_of_answers, spread, spread_pairs};
+
+/// Adapters of references.
+pub fn referring(
+    alloc: Global,
+    items: &NEVec<u32>,
+    call: &Call,
+    text: &mut String,
+) -> Result<bool, AllocError> {
+    let source = items.nonempty_iter();
+    let given: NEVec<u32> = match call.name {
+        "cloned" => source
+            .cloned()
+            .collect::<Result<NEVec<u32>, AllocError>>(alloc)??,
+        "copied" => source.copied().collect(alloc)?,
+        _ => return Ok(false),
+    };
+    write!(text, "{given:?}")?;
+    Ok(true)
+}
+
+/// The other adapters, alone.
+pub fn alone(
+    alloc: Global,
+    items: &NEVec<u32>,
+    call: &Call,
+    text: &mut String,
+) -> Result<bool, AllocError> {
+    let closure = &call.closure;
+    let source = items.clone()?.into_nonempty_iter();
+    let given: NEVec<u32> = match call.name {
+        "map" => source.map(|x| closure.of(x)).collect(alloc)?,
+        "take" => source.take(call.size).collect(alloc)?,
+        "chain" => source
+            .chain(Vec::from_slice(alloc, call.numbers.as_slice())?)
+            .collect(alloc)?,
+        "flat_map" => source.flat_map(|x| [x, closure.of(x)]).collect(alloc)?,
+        "once" => once(call.first).collect(alloc)?,
+        "intersperse" => source
+            .intersperse(call.first)
+            .collect::<Result<NEVec<u32>, AllocError>>(alloc)??,
+        _ => return Ok(false),
+    };
+    write!(text, "{given:?}")?;
+    Ok(true)
+}
+
+/// What is looked at, and written there.
+pub fn looked(
+    alloc: Global,
+    items: &NEVec<u32>,
+    call: &Call,
+    text: &mut String,
+) -> Result<bool, AllocError> {
+    let mut source = items.clone()?.into_nonempty_iter().peekable();
+    let first = *source.peek();
+    match call.name {
+        "peekable" => {}
+        "peek_mut" => *source.peek_mut() = call.first,
+        _ => return Ok(false),
+    }
+    write!(text, "{first} {:?}", source.collect::<NEVec<u32>>(alloc)?)?;
+    Ok(true)
+}
+
+/// Adapters that answer pairs, and what is tried.
+pub fn paired(
+    alloc: Global,
+    items: &NEVec<u32>,
+    call: &Call,
+    text: &mut String,
+) -> Result<bool, AllocError> {
+    let source = items.clone()?.into_nonempty_iter();
+    match call.name {
+        "enumerate" => write!(
+            text,
+            "{:?}",
+            source.enumerate().collect::<NEVec<(usize, u32)>>(alloc)?
+        )?,
+        "zip" => {
+            let other = NEVec::from_parts(call.first, Vec::from_slice(alloc, call.rest())?)?;
+            write!(
+                text,
+                "{:?}",
+                source.zip(other).collect::<NEVec<(u32, u32)>>(alloc)?
+            )?;
+        }
+        "try_into_nonempty_iter" => {
+            let numbers = Vec::from_slice(alloc, call.numbers.as_slice())?;
+            match numbers.try_into_nonempty_iter() {
+                Some(numbers) => write!(text, "{:?}", numbers.collect::<NEVec<u32>>(alloc)?)?,
+                None => write!(text, "None")?,
+            }
+        }
+        _ => return Ok(false),
+    }
+    Ok(true)
+}
+
+/// Two adapters, one over the other.
+pub fn over(
+    alloc: Global,
+    items: &NEVec<u32>,
+    call: &Call,
+    text: &mut String,
+) -> Result<bool, AllocError> {
+    let source = items.clone()?.into_nonempty_iter();
+    let of = |x: u32| call.closure.of(x);
+    let given: NEVec<u32> = match call.name {
+        "map_take" => source.map(of).take(call.size).collect(alloc)?,
+        "take_map" => source.take(call.size).map(of).collect(alloc)?,
+        "peekable_map" => source.peekable().map(of).collect(alloc)?,
+        "chain_take" => source
+            .chain(Vec::from_slice(alloc, call.numbers.as_slice())?)
+            .take(call.size)
+            .collect(alloc)?,
+        _ => return Ok(false),
+    };
+    write!(text, "{given:?}")?;
+    Ok(true)
+}
+
+/// Three adapters and more, in towers.
+pub fn high(
+    alloc: Global,
+    items: &NEVec<u32>,
+    call: &Call,
+    text: &mut String,
+) -> Result<bool, AllocError> {
+    let source = items.clone()?.into_nonempty_iter();
+    let other = NEVec::from_parts(call.first, Vec::from_slice(alloc, call.rest())?)?;
+    let of = |x: u32| call.closure.of(x);
+    match call.name {
+        "peekable_flat_map_take_enumerate" => {
+            let given: NEVec<(usize, u32)> = spread(alloc, source, |x| [x, of(x)], call.size)?;
+            write!(text, "{given:?}")?;
+        }
+        "zip_peekable_flat_map_take_enumerate" => {
+            let given: NEVec<(usize, u32)> = spread_pairs(
+                alloc,
+                source,
+                other,
+                |(x, y)| [x, of(y)],
+                call.size,
+            )?;
+            write!(text, "{given:?}")?;
+        }
+        "map_zip_take_unzip" => {
+            let given: (NEVec<u32>, NEVec<u32>) = parted(alloc, source, of, other, call.size)?;
+            write!(text, "{given:?}")?;
+        }
+        "map_group_by" => {
+            let given = runs_of_answers(alloc, source, of, |x| x / 2)?;
+            write!(text, "{given:?}")?;
+        }
+        _ => return Ok(false),
+    }
+    Ok(true)
+}
