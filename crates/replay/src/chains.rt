@@ -1,8 +1,7 @@
 //! Adapters, alone and over one another. What a chain gives is collected into a vector.
 
 use crate::call::Call;
-use nonempty_collections::iter::once;
-use nonempty_collections::{IntoIteratorExt, IntoNonEmptyIterator, NEVec, NonEmptyIterator};
+use nonempty_collections::{IntoNonEmptyIterator, NEVec, NonEmptyIterator};
 use std::alloc::{AllocError, Global};
 use towers::{parted, runs_of_answers, spread, spread_pairs};
 
@@ -32,19 +31,15 @@ pub fn alone(
     call: &Call,
     text: &mut String,
 ) -> Result<bool, AllocError> {
-    let closure = &call.closure;
     let source = items.clone()?.into_nonempty_iter();
+    let of = |x: u32| call.closure.of(x);
     let given: NEVec<u32> = match call.name {
-        "map" => source.map(|x| closure.of(x)).collect(alloc)?,
+        "map" => source.map(of).collect(alloc)?,
         "take" => source.take(call.size).collect(alloc)?,
         "chain" => source
             .chain(Vec::from_slice(alloc, call.numbers.as_slice())?)
             .collect(alloc)?,
-        "flat_map" => source.flat_map(|x| [x, closure.of(x)]).collect(alloc)?,
-        "once" => once(call.first).collect(alloc)?,
-        "intersperse" => source
-            .intersperse(call.first)
-            .collect::<Result<NEVec<u32>, AllocError>>(alloc)??,
+        "flat_map" => source.flat_map(|x| [x, of(x)]).collect(alloc)?,
         _ => return Ok(false),
     };
     write!(text, "{given:?}")?;
@@ -69,7 +64,7 @@ pub fn looked(
     Ok(true)
 }
 
-/// Adapters that answer pairs, and what is tried.
+/// Adapters that answer pairs.
 pub fn paired(
     alloc: Global,
     items: &NEVec<u32>,
@@ -90,13 +85,6 @@ pub fn paired(
                 "{:?}",
                 source.zip(other).collect::<NEVec<(u32, u32)>>(alloc)?
             )?;
-        }
-        "try_into_nonempty_iter" => {
-            let numbers = Vec::from_slice(alloc, call.numbers.as_slice())?;
-            match numbers.try_into_nonempty_iter() {
-                Some(numbers) => write!(text, "{:?}", numbers.collect::<NEVec<u32>>(alloc)?)?,
-                None => write!(text, "None")?,
-            }
         }
         _ => return Ok(false),
     }

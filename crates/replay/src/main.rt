@@ -11,6 +11,7 @@ mod collected;
 mod consumers;
 mod runs;
 mod slice;
+mod sources;
 mod vector;
 
 use call::Call;
@@ -62,6 +63,9 @@ fn answered(
         changed
             || vector::read(alloc, items, call, text)?
             || vector::compared(alloc, items, call, text)?
+            || vector::walked(alloc, items, call, text)?
+            || sources::arrayed(alloc, call, text)?
+            || sources::tried(alloc, call, text)?
             || slice::read(alloc, items, call, text)?
             || slice::walked(alloc, items, call, text)?
             || slice::tried(alloc, items, call, text)?

@@ -1,4 +1,4 @@
-//! Runs of equal keys.
+//! Runs of equal keys, and separators.
 
 use crate::call::Call;
 use nonempty_collections::{IntoNonEmptyIterator, NEVec, NonEmptyIterator};
@@ -32,5 +32,23 @@ pub fn read(
         _ => return Ok(false),
     };
     write!(text, "{runs:?}")?;
+    Ok(true)
+}
+
+/// Items with a separator between each two.
+pub fn separated(
+    alloc: Global,
+    items: &NEVec<u32>,
+    call: &Call,
+    text: &mut String,
+) -> Result<bool, AllocError> {
+    let source = items.clone()?.into_nonempty_iter();
+    if call.name != "intersperse" {
+        return Ok(false);
+    }
+    let given = source
+        .intersperse(call.first)
+        .collect::<Result<NEVec<u32>, AllocError>>(alloc)??;
+    write!(text, "{given:?}")?;
     Ok(true)
 }

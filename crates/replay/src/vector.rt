@@ -1,9 +1,8 @@
 //! Calls on a vector.
 
 use crate::call::Call;
-use nonempty_collections::{NEVec, Singleton, nev};
+use nonempty_collections::{IntoNonEmptyIterator, NEVec, NonEmptyIterator, Singleton, nev};
 use std::alloc::{AllocError, Global};
-use std::cmp::Ordering;
 use std::hash::{DefaultHasher, Hash, Hasher};
 
 /// Calls that make a vector, in the place of the one that there is.
@@ -81,6 +80,27 @@ pub fn read(
         "debug" => write!(text, "{items:#?}")?,
         _ => return Ok(false),
     }
+    Ok(true)
+}
+
+/// Walks over the vector, which is taken by value and by reference.
+pub fn walked(
+    alloc: Global,
+    items: &NEVec<u32>,
+    call: &Call,
+    text: &mut String,
+) -> Result<bool, AllocError> {
+    let given: Vec<u32> = match call.name {
+        "iter" => items.iter().copied().collect(alloc)?,
+        "nonempty_iter" => items.nonempty_iter().copied().collect(alloc)?,
+        "nonempty_iter_clone" => items.nonempty_iter().clone()?.copied().collect(alloc)?,
+        "into_iter" => items.clone()?.into_iter().collect(alloc)?,
+        "ref_into_iter" => items.into_iter().copied().collect(alloc)?,
+        "into_nonempty_iter" => items.clone()?.into_nonempty_iter().collect(alloc)?,
+        "ref_into_nonempty_iter" => items.into_nonempty_iter().copied().collect(alloc)?,
+        _ => return Ok(false),
+    };
+    write!(text, "{given:?}")?;
     Ok(true)
 }
 
