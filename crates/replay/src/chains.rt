@@ -125,11 +125,11 @@ pub fn high(
     let other = NEVec::from_parts(call.first, Vec::from_slice(alloc, call.rest())?)?;
     let of = |x: u32| call.closure.of(x);
     match call.name {
-        "peekable_flat_map_take_enumerate" => {
+        "flat_map_peekable_take_enumerate" => {
             let given: NEVec<(usize, u32)> = spread(alloc, source, |x| [x, of(x)], call.size)?;
             write!(text, "{given:?}")?;
         }
-        "zip_peekable_flat_map_take_enumerate" => {
+        "zip_flat_map_peekable_take_enumerate" => {
             let given: NEVec<(usize, u32)> = spread_pairs(
                 alloc,
                 source,

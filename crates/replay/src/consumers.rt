@@ -30,12 +30,7 @@ pub fn asked(
 }
 
 /// Consumers that answer a total.
-pub fn totalled(
-    alloc: Global,
-    items: &NEVec<u32>,
-    call: &Call,
-    text: &mut String,
-) -> Result<bool, AllocError> {
+pub fn totalled(items: &NEVec<u32>, call: &Call, text: &mut String) -> Result<bool, AllocError> {
     let source = items.clone()?.into_nonempty_iter();
     let closure = &call.closure;
     match call.name {
@@ -60,12 +55,7 @@ pub fn totalled(
 }
 
 /// Consumers that answer a greatest or a least item. The items are shown with their places, so that equal ones are told apart.
-pub fn extreme(
-    alloc: Global,
-    items: &NEVec<u32>,
-    call: &Call,
-    text: &mut String,
-) -> Result<bool, AllocError> {
+pub fn extreme(items: &NEVec<u32>, call: &Call, text: &mut String) -> Result<bool, AllocError> {
     let items = items.clone()?.into_nonempty_iter();
     let order = |x: &(usize, u32), y: &(usize, u32)| call.closure.order(x.1, y.1);
     let key = |x: &(usize, u32)| call.closure.of(x.1);

@@ -53,36 +53,80 @@ fn answered(
     call: &Call,
     text: &mut String,
 ) -> Result<bool, AllocError> {
-    let changed = vector::made(alloc, items, call, text)?
-        || vector::tried(alloc, items, call, text)?
-        || vector::written(alloc, items, call, text)?
-        || vector::edited(alloc, items, call, text)?
-        || vector::kept(alloc, items, call, text)?
-        || vector::ordered(alloc, items, call, text)?;
     Ok(
-        changed
-            || vector::read(alloc, items, call, text)?
+        changed(alloc, items, call, text)?
+            || read(alloc, items, call, text)?
+            || consumed(alloc, items, call, text)?
+            || chained(alloc, items, call, text)?,
+    )
+}
+
+fn changed(
+    alloc: Global,
+    items: &mut NEVec<u32>,
+    call: &Call,
+    text: &mut String,
+) -> Result<bool, AllocError> {
+    Ok(
+        vector::made(alloc, items, call)?
+            || vector::tried(alloc, items, call, text)?
+            || vector::written(items, call, text)?
+            || vector::edited(alloc, items, call, text)?
+            || vector::kept(items, call, text)?
+            || vector::ordered(items, call, text)?,
+    )
+}
+
+fn read(
+    alloc: Global,
+    items: &NEVec<u32>,
+    call: &Call,
+    text: &mut String,
+) -> Result<bool, AllocError> {
+    Ok(
+        vector::read(items, call, text)?
             || vector::compared(alloc, items, call, text)?
             || vector::walked(alloc, items, call, text)?
-            || sources::arrayed(alloc, call, text)?
-            || sources::tried(alloc, call, text)?
-            || slice::read(alloc, items, call, text)?
+            || slice::read(items, call, text)?
             || slice::walked(alloc, items, call, text)?
-            || slice::tried(alloc, items, call, text)?
+            || slice::tried(items, call, text)?
             || slice::chunked(alloc, items, call, text)?
-            || consumers::asked(alloc, items, call, text)?
-            || consumers::totalled(alloc, items, call, text)?
-            || consumers::extreme(alloc, items, call, text)?
+            || sources::arrayed(alloc, call, text)?
+            || sources::tried(alloc, call, text)?,
+    )
+}
+
+fn consumed(
+    alloc: Global,
+    items: &NEVec<u32>,
+    call: &Call,
+    text: &mut String,
+) -> Result<bool, AllocError> {
+    Ok(
+        consumers::asked(alloc, items, call, text)?
+            || consumers::totalled(items, call, text)?
+            || consumers::extreme(items, call, text)?
             || consumers::parted(alloc, items, call, text)?
             || collected::listed(alloc, items, call, text)?
             || collected::keyed(alloc, items, call, text)?
-            || collected::joined(alloc, items, call, text)?
-            || chains::referring(alloc, items, call, text)?
+            || collected::joined(alloc, items, call, text)?,
+    )
+}
+
+fn chained(
+    alloc: Global,
+    items: &NEVec<u32>,
+    call: &Call,
+    text: &mut String,
+) -> Result<bool, AllocError> {
+    Ok(
+        chains::referring(alloc, items, call, text)?
             || chains::alone(alloc, items, call, text)?
             || chains::looked(alloc, items, call, text)?
             || chains::paired(alloc, items, call, text)?
             || chains::over(alloc, items, call, text)?
             || chains::high(alloc, items, call, text)?
-            || runs::read(alloc, items, call, text)?,
+            || runs::read(alloc, items, call, text)?
+            || runs::separated(alloc, items, call, text)?,
     )
 }

@@ -6,12 +6,7 @@ use std::alloc::{AllocError, Global};
 use std::convert::AsSlice;
 
 /// Calls on the slice of the whole vector.
-pub fn read(
-    alloc: Global,
-    items: &NEVec<u32>,
-    call: &Call,
-    text: &mut String,
-) -> Result<bool, AllocError> {
+pub fn read(items: &NEVec<u32>, call: &Call, text: &mut String) -> Result<bool, AllocError> {
     let slice = items.as_nonempty_slice();
     match call.name {
         "slice_first" => write!(text, "{}", slice.first())?,
@@ -50,12 +45,7 @@ pub fn walked(
 }
 
 /// Calls on the slice of the call's numbers, which may be none.
-pub fn tried(
-    alloc: Global,
-    items: &NEVec<u32>,
-    call: &Call,
-    text: &mut String,
-) -> Result<bool, AllocError> {
+pub fn tried(items: &NEVec<u32>, call: &Call, text: &mut String) -> Result<bool, AllocError> {
     let items = items.as_nonempty_slice();
     let Some(slice) = NESlice::try_from_slice(call.numbers.as_slice()) else {
         match call.name {

@@ -6,12 +6,7 @@ use std::alloc::{AllocError, Global};
 use std::hash::{DefaultHasher, Hash, Hasher};
 
 /// Calls that make a vector, in the place of the one that there is.
-pub fn made(
-    alloc: Global,
-    items: &mut NEVec<u32>,
-    call: &Call,
-    text: &mut String,
-) -> Result<bool, AllocError> {
+pub fn made(alloc: Global, items: &mut NEVec<u32>, call: &Call) -> Result<bool, AllocError> {
     let (first, last) = (call.first, call.last);
     *items = match call.name {
         "new" => NEVec::new(alloc, first)?,
@@ -22,7 +17,7 @@ pub fn made(
         "nev_one" => nev![alloc; first]?,
         "nev_two" => nev![alloc; first, last]?,
         "nev_three" => nev![alloc; first, last, first]?,
-        "nev_many" => nev![alloc; last; call.size.get()]?,
+        "nev_many" => nev![alloc; last; 3]?,
         _ => return Ok(false),
     };
     Ok(true)
@@ -56,12 +51,7 @@ pub fn tried(
 }
 
 /// Calls that read the vector.
-pub fn read(
-    alloc: Global,
-    items: &NEVec<u32>,
-    call: &Call,
-    text: &mut String,
-) -> Result<bool, AllocError> {
+pub fn read(items: &NEVec<u32>, call: &Call, text: &mut String) -> Result<bool, AllocError> {
     match call.name {
         "first" => write!(text, "{}", items.first())?,
         "last" => write!(text, "{}", items.last())?,
@@ -130,12 +120,7 @@ fn hashed<T: Hash>(value: &T) -> u64 {
 }
 
 /// Calls that write items where they stand.
-pub fn written(
-    alloc: Global,
-    items: &mut NEVec<u32>,
-    call: &Call,
-    text: &mut String,
-) -> Result<bool, AllocError> {
+pub fn written(items: &mut NEVec<u32>, call: &Call, text: &mut String) -> Result<bool, AllocError> {
     let closure = &call.closure;
     match call.name {
         "first_mut" => *items.first_mut() = call.last,
@@ -205,12 +190,7 @@ pub fn edited(
 }
 
 /// Calls that keep some of the items.
-pub fn kept(
-    alloc: Global,
-    items: &mut NEVec<u32>,
-    call: &Call,
-    text: &mut String,
-) -> Result<bool, AllocError> {
+pub fn kept(items: &mut NEVec<u32>, call: &Call, text: &mut String) -> Result<bool, AllocError> {
     let closure = &call.closure;
     let kept = match call.name {
         "retain" => items.clone()?.retain(|x| closure.holds(*x)),
@@ -240,12 +220,7 @@ pub fn kept(
 }
 
 /// Calls on the order of the items. How often a closure is called is std's affair.
-pub fn ordered(
-    alloc: Global,
-    items: &mut NEVec<u32>,
-    call: &Call,
-    text: &mut String,
-) -> Result<bool, AllocError> {
+pub fn ordered(items: &mut NEVec<u32>, call: &Call, text: &mut String) -> Result<bool, AllocError> {
     let (closure, x) = (call.closure.anew(), call.first);
     match call.name {
         "sort" => items.sort()?,
