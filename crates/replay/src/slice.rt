@@ -17,7 +17,6 @@ pub fn read(items: &NEVec<u32>, call: &Call, text: &mut String) -> Result<bool, 
         "slice_index" => write!(text, "out of range")?,
         "slice_as_ref" => write!(text, "{:?}", slice.as_slice())?,
         "slice_clone" => write!(text, "{:?}", slice.clone()?)?,
-        "slice_debug" => write!(text, "{slice:#?}")?,
         _ => return Ok(false),
     }
     Ok(true)
@@ -64,7 +63,7 @@ pub fn tried(items: &NEVec<u32>, call: &Call, text: &mut String) -> Result<bool,
     Ok(true)
 }
 
-/// Calls on the chunks of the vector.
+/// Calls on the chunks of the vector, and its slice as it is printed.
 pub fn chunked(
     alloc: Global,
     items: &NEVec<u32>,

@@ -67,7 +67,6 @@ pub fn read(items: &NEVec<u32>, call: &Call, text: &mut String) -> Result<bool, 
         "split" => write!(text, "{:?}", items.split())?,
         "clone" => write!(text, "{:?}", items.clone()?)?,
         "into_vec" => write!(text, "{:?}", Vec::from(items.clone()?))?,
-        "debug" => write!(text, "{items:#?}")?,
         _ => return Ok(false),
     }
     Ok(true)
@@ -94,7 +93,7 @@ pub fn walked(
     Ok(true)
 }
 
-/// Calls that compare the vector with one of the call's numbers.
+/// Calls that print the vector, and compare it with one of the call's numbers.
 pub fn compared(
     alloc: Global,
     items: &NEVec<u32>,
@@ -103,6 +102,7 @@ pub fn compared(
 ) -> Result<bool, AllocError> {
     let other = NEVec::from_parts(call.first, Vec::from_slice(alloc, call.rest())?)?;
     match call.name {
+        "debug" => write!(text, "{:?}", format!(in alloc; "{items:#?}")?)?,
         "eq" => write!(text, "{}", *items == other)?,
         "cmp" => write!(text, "{:?}", items.cmp(&other))?,
         "partial_cmp" => write!(text, "{:?}", items.partial_cmp(&other))?,
