@@ -74,7 +74,6 @@ fn chained(items: &NEVec<u32>, call: &Call, text: &mut String) -> Result<bool, f
         || chains_alone(items, call, text)?
         || chains_looked(items, call, text)?
         || chains_paired(items, call, text)?
-        || chains_over(items, call, text)?
         || chains_high(items, call, text)?
         || runs_read(items, call, text)?
         || runs_separated(items, call, text)?)
@@ -139,8 +138,6 @@ impl Closure {
     fn calls(&self) -> u32 {
         self.calls.get()
     }
-
-    // What it answers at `x`.
     fn of(&self, x: u32) -> u32 {
         let calls = self.calls.get();
         self.calls.set(calls.wrapping_add(1));
@@ -162,8 +159,6 @@ impl Closure {
     fn holds(&self, x: u32) -> bool {
         self.of(x) % 2 == 0
     }
-
-    // How what it answers at `x` and what it then answers at `y` compare.
     fn order(&self, x: u32, y: u32) -> Ordering {
         let first = self.of(x);
         first.cmp(&self.of(y))
@@ -215,9 +210,6 @@ impl<'t> Call<'t> {
     }
 }
 
-// Calls on a vector.
-
-// Calls that make a vector, in the place of the one that there is.
 fn vector_made(items: &mut NEVec<u32>, call: &Call) -> Result<bool, fmt::Error> {
     let (first, last) = (call.first, call.last);
     *items = match call.name {
@@ -235,7 +227,6 @@ fn vector_made(items: &mut NEVec<u32>, call: &Call) -> Result<bool, fmt::Error> 
     Ok(true)
 }
 
-// Calls that make a vector of what may be empty. Where it is, the one that there is stays.
 fn vector_tried(items: &mut NEVec<u32>, call: &Call, text: &mut String) -> Result<bool, fmt::Error> {
     let numbers = call.numbers.clone();
     let made = match call.name {
@@ -257,7 +248,6 @@ fn vector_tried(items: &mut NEVec<u32>, call: &Call, text: &mut String) -> Resul
     Ok(true)
 }
 
-// Calls that read the vector.
 fn vector_read(items: &NEVec<u32>, call: &Call, text: &mut String) -> Result<bool, fmt::Error> {
     match call.name {
         "first" => write!(text, "{}", items.first())?,
@@ -279,6 +269,7 @@ fn vector_read(items: &NEVec<u32>, call: &Call, text: &mut String) -> Result<boo
     }
     Ok(true)
 }
+
 fn vector_walked(items: &NEVec<u32>, call: &Call, text: &mut String) -> Result<bool, fmt::Error> {
     let given: Vec<u32> = match call.name {
         "iter" => items.iter().copied().collect(),
@@ -294,7 +285,6 @@ fn vector_walked(items: &NEVec<u32>, call: &Call, text: &mut String) -> Result<b
     Ok(true)
 }
 
-// Calls that compare the vector with one of the call's numbers.
 fn vector_compared(items: &NEVec<u32>, call: &Call, text: &mut String) -> Result<bool, fmt::Error> {
     let other = NEVec::from((call.first, call.rest().to_vec()));
     match call.name {
@@ -314,7 +304,6 @@ fn hashed<T: Hash>(value: &T) -> u64 {
     hasher.finish()
 }
 
-// Calls that write items where they stand.
 fn vector_written(items: &mut NEVec<u32>, call: &Call, text: &mut String) -> Result<bool, fmt::Error> {
     let closure = &call.closure;
     match call.name {
@@ -348,7 +337,6 @@ fn vector_written(items: &mut NEVec<u32>, call: &Call, text: &mut String) -> Res
     Ok(true)
 }
 
-// Calls that add and remove items.
 fn vector_edited(items: &mut NEVec<u32>, call: &Call, text: &mut String) -> Result<bool, fmt::Error> {
     match call.name {
         "push" => items.push(call.first),
@@ -371,7 +359,6 @@ fn vector_edited(items: &mut NEVec<u32>, call: &Call, text: &mut String) -> Resu
     Ok(true)
 }
 
-// Calls that keep some of the items.
 fn vector_kept(items: &mut NEVec<u32>, call: &Call, text: &mut String) -> Result<bool, fmt::Error> {
     let closure = &call.closure;
     let kept = match call.name {
@@ -401,7 +388,6 @@ fn vector_kept(items: &mut NEVec<u32>, call: &Call, text: &mut String) -> Result
     Ok(true)
 }
 
-// Calls on the order of the items. How often a closure is called is std's affair.
 fn vector_ordered(items: &mut NEVec<u32>, call: &Call, text: &mut String) -> Result<bool, fmt::Error> {
     let (closure, x) = (call.closure.anew(), call.first);
     match call.name {
@@ -417,9 +403,6 @@ fn vector_ordered(items: &mut NEVec<u32>, call: &Call, text: &mut String) -> Res
     Ok(true)
 }
 
-// Calls on slices and on chunks.
-
-// Calls on the slice of the whole vector.
 fn slice_read(items: &NEVec<u32>, call: &Call, text: &mut String) -> Result<bool, fmt::Error> {
     let slice = items.as_nonempty_slice();
     match call.name {
@@ -436,6 +419,7 @@ fn slice_read(items: &NEVec<u32>, call: &Call, text: &mut String) -> Result<bool
     }
     Ok(true)
 }
+
 fn slice_walked(items: &NEVec<u32>, call: &Call, text: &mut String) -> Result<bool, fmt::Error> {
     let slice = items.as_nonempty_slice();
     let given: Vec<u32> = match call.name {
@@ -451,12 +435,11 @@ fn slice_walked(items: &NEVec<u32>, call: &Call, text: &mut String) -> Result<bo
     Ok(true)
 }
 
-// Calls on the slice of the call's numbers, which may be none.
 fn slice_tried(items: &NEVec<u32>, call: &Call, text: &mut String) -> Result<bool, fmt::Error> {
     let items = items.as_nonempty_slice();
     let Some(slice) = NESlice::try_from_slice(call.numbers.as_slice()) else {
         match call.name {
-            "slice_try_from" => write!(text, "None")?,
+            "slice_try_from" | "slice_eq" | "slice_cmp" | "slice_partial_cmp" => write!(text, "None")?,
             _ => return Ok(false),
         }
         return Ok(true);
@@ -471,7 +454,6 @@ fn slice_tried(items: &NEVec<u32>, call: &Call, text: &mut String) -> Result<boo
     Ok(true)
 }
 
-// Calls on the chunks of the vector.
 fn slice_chunked(items: &NEVec<u32>, call: &Call, text: &mut String) -> Result<bool, fmt::Error> {
     let chunks = items.nonempty_chunks(call.size);
     match call.name {
@@ -494,7 +476,6 @@ fn slice_chunked(items: &NEVec<u32>, call: &Call, text: &mut String) -> Result<b
     Ok(true)
 }
 
-// Calls on an array of three items, by value and by reference: the call's first number, its last, and the first again.
 fn sources_arrayed(call: &Call, text: &mut String) -> Result<bool, fmt::Error> {
     let array = [call.first, call.last, call.first];
     match call.name {
@@ -507,6 +488,7 @@ fn sources_arrayed(call: &Call, text: &mut String) -> Result<bool, fmt::Error> {
     }
     Ok(true)
 }
+
 fn sources_tried(call: &Call, text: &mut String) -> Result<bool, fmt::Error> {
     match call.name {
         "once" => write!(text, "{:?}", once(call.first).collect::<NEVec<u32>>())?,
@@ -521,6 +503,7 @@ fn sources_tried(call: &Call, text: &mut String) -> Result<bool, fmt::Error> {
     }
     Ok(true)
 }
+
 fn consumers_asked(items: &NEVec<u32>, call: &Call, text: &mut String) -> Result<bool, fmt::Error> {
     let source = items.clone().into_nonempty_iter();
     let holds = |x: u32| call.closure.holds(x);
@@ -538,6 +521,7 @@ fn consumers_asked(items: &NEVec<u32>, call: &Call, text: &mut String) -> Result
     }
     Ok(true)
 }
+
 fn consumers_totalled(items: &NEVec<u32>, call: &Call, text: &mut String) -> Result<bool, fmt::Error> {
     let source = items.clone().into_nonempty_iter();
     let closure = &call.closure;
@@ -556,6 +540,7 @@ fn consumers_totalled(items: &NEVec<u32>, call: &Call, text: &mut String) -> Res
     }
     Ok(true)
 }
+
 fn consumers_extreme(items: &NEVec<u32>, call: &Call, text: &mut String) -> Result<bool, fmt::Error> {
     let items = items.clone().into_nonempty_iter();
     let order = |x: &(usize, u32), y: &(usize, u32)| call.closure.order(x.1, y.1);
@@ -571,6 +556,7 @@ fn consumers_extreme(items: &NEVec<u32>, call: &Call, text: &mut String) -> Resu
     }
     Ok(true)
 }
+
 fn consumers_parted(items: &NEVec<u32>, call: &Call, text: &mut String) -> Result<bool, fmt::Error> {
     let source = items.clone().into_nonempty_iter();
     let closure = &call.closure;
@@ -598,7 +584,6 @@ fn consumers_parted(items: &NEVec<u32>, call: &Call, text: &mut String) -> Resul
     Ok(true)
 }
 
-// What non-empty iterators are collected into.
 fn collected_listed(items: &NEVec<u32>, call: &Call, text: &mut String) -> Result<bool, fmt::Error> {
     let source = items.nonempty_iter();
     let closure = &call.closure;
@@ -606,7 +591,7 @@ fn collected_listed(items: &NEVec<u32>, call: &Call, text: &mut String) -> Resul
         "collect_nevec" => write!(text, "{:?}", source.collect::<NEVec<&u32>>())?,
         "collect_vec" => write!(text, "{:?}", source.collect::<Vec<&u32>>())?,
         "collect_unit" => {
-            source.map(|x| _ = closure.of(*x)).collect::<()>();
+            let () = source.map(|x| _ = closure.of(*x)).collect();
         }
         "collect_result" => {
             let answers = source.map(|x| if closure.holds(*x) { Ok(*x) } else { Err(*x) });
@@ -616,6 +601,7 @@ fn collected_listed(items: &NEVec<u32>, call: &Call, text: &mut String) -> Resul
     }
     Ok(true)
 }
+
 fn collected_keyed(items: &NEVec<u32>, call: &Call, text: &mut String) -> Result<bool, fmt::Error> {
     let source = items.nonempty_iter().copied();
     let closure = &call.closure;
@@ -637,6 +623,7 @@ fn collected_keyed(items: &NEVec<u32>, call: &Call, text: &mut String) -> Result
     }
     Ok(true)
 }
+
 fn letter(x: u32) -> char {
     match x % 4 {
         0 => 'a',
@@ -645,6 +632,7 @@ fn letter(x: u32) -> char {
         _ => '/',
     }
 }
+
 fn letters(x: u32) -> &'static str {
     match x % 5 {
         0 => "a",
@@ -654,6 +642,7 @@ fn letters(x: u32) -> &'static str {
         _ => "/d",
     }
 }
+
 fn collected_joined(items: &NEVec<u32>, call: &Call, text: &mut String) -> Result<bool, fmt::Error> {
     let source = items.nonempty_iter().copied();
     let joined: String = match call.name {
@@ -663,7 +652,7 @@ fn collected_joined(items: &NEVec<u32>, call: &Call, text: &mut String) -> Resul
             letters.nonempty_iter().collect()
         }
         "collect_strs" => source.map(letters).collect(),
-        "collect_strings" => source.map(|x| letters(x).to_string()).collect::<String>(),
+        "collect_strings" => source.map(|x| letters(x).to_string()).collect(),
         "collect_cows" => source.map(|x| Cow::Borrowed(letters(x))).collect(),
         "collect_path" => {
             let path: PathBuf = source.map(letters).collect();
@@ -675,10 +664,11 @@ fn collected_joined(items: &NEVec<u32>, call: &Call, text: &mut String) -> Resul
     write!(text, "{joined}")?;
     Ok(true)
 }
+
 fn chains_referring(items: &NEVec<u32>, call: &Call, text: &mut String) -> Result<bool, fmt::Error> {
     let source = items.nonempty_iter();
     let given: NEVec<u32> = match call.name {
-        "cloned" => source.cloned().collect::<NEVec<u32>>(),
+        "cloned" => source.cloned().collect(),
         "copied" => source.copied().collect(),
         _ => return Ok(false),
     };
@@ -686,14 +676,15 @@ fn chains_referring(items: &NEVec<u32>, call: &Call, text: &mut String) -> Resul
     Ok(true)
 }
 
-// The other adapters, alone.
 fn chains_alone(items: &NEVec<u32>, call: &Call, text: &mut String) -> Result<bool, fmt::Error> {
+    let other = call.numbers.clone();
     let source = items.clone().into_nonempty_iter();
     let of = |x: u32| call.closure.of(x);
     let given: NEVec<u32> = match call.name {
         "map" => source.map(of).collect(),
         "take" => source.take(call.size).collect(),
-        "chain" => source.chain(call.numbers.clone()).collect(),
+        "chain" => source.chain(other).collect(),
+        "chain_take" => source.chain(other).take(call.size).collect(),
         "flat_map" => source.flat_map(|x| [x, of(x)]).collect(),
         _ => return Ok(false),
     };
@@ -701,7 +692,6 @@ fn chains_alone(items: &NEVec<u32>, call: &Call, text: &mut String) -> Result<bo
     Ok(true)
 }
 
-// What is looked at, and written there.
 fn chains_looked(items: &NEVec<u32>, call: &Call, text: &mut String) -> Result<bool, fmt::Error> {
     let mut source = items.clone().into_nonempty_iter().peekable();
     let first = *source.peek();
@@ -713,31 +703,22 @@ fn chains_looked(items: &NEVec<u32>, call: &Call, text: &mut String) -> Result<b
     write!(text, "{first} {:?}", source.collect::<NEVec<u32>>())?;
     Ok(true)
 }
+
 fn chains_paired(items: &NEVec<u32>, call: &Call, text: &mut String) -> Result<bool, fmt::Error> {
+    let other = NEVec::from((call.first, call.rest().to_vec()));
     let source = items.clone().into_nonempty_iter();
     match call.name {
         "enumerate" => write!(text, "{:?}", source.enumerate().collect::<NEVec<(usize, u32)>>())?,
         "zip" => {
-            let other = NEVec::from((call.first, call.rest().to_vec()));
-            write!(text, "{:?}", source.zip(other).collect::<NEVec<(u32, u32)>>())?;
+            for pair in source.zip(other) {
+                write!(text, "{pair:?} ")?;
+            }
         }
         _ => return Ok(false),
     }
     Ok(true)
 }
-fn chains_over(items: &NEVec<u32>, call: &Call, text: &mut String) -> Result<bool, fmt::Error> {
-    let source = items.clone().into_nonempty_iter();
-    let of = |x: u32| call.closure.of(x);
-    let given: NEVec<u32> = match call.name {
-        "map_take" => source.map(of).take(call.size).collect(),
-        "take_map" => source.take(call.size).map(of).collect(),
-        "peekable_map" => source.peekable().map(of).collect(),
-        "chain_take" => source.chain(call.numbers.clone()).take(call.size).collect(),
-        _ => return Ok(false),
-    };
-    write!(text, "{given:?}")?;
-    Ok(true)
-}
+
 fn chains_high(items: &NEVec<u32>, call: &Call, text: &mut String) -> Result<bool, fmt::Error> {
     let source = items.clone().into_nonempty_iter();
     let other = NEVec::from((call.first, call.rest().to_vec()));
@@ -764,6 +745,7 @@ fn chains_high(items: &NEVec<u32>, call: &Call, text: &mut String) -> Result<boo
     }
     Ok(true)
 }
+
 fn runs_read(items: &NEVec<u32>, call: &Call, text: &mut String) -> Result<bool, fmt::Error> {
     let source = items.nonempty_iter().copied();
     let closure = &call.closure;
@@ -786,6 +768,7 @@ fn runs_read(items: &NEVec<u32>, call: &Call, text: &mut String) -> Result<bool,
     write!(text, "{runs:?}")?;
     Ok(true)
 }
+
 fn runs_separated(items: &NEVec<u32>, call: &Call, text: &mut String) -> Result<bool, fmt::Error> {
     let source = items.clone().into_nonempty_iter();
     if call.name != "intersperse" {

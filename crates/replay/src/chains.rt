@@ -1,4 +1,4 @@
-//! Adapters, alone and over one another. What a chain gives is collected into a vector.
+//! Adapters, alone and over one another.
 
 use crate::call::Call;
 use nonempty_collections::{IntoNonEmptyIterator, NEVec, NonEmptyIterator};
@@ -24,21 +24,21 @@ pub fn referring(
     Ok(true)
 }
 
-/// The other adapters, alone.
+/// The other adapters, and one over another.
 pub fn alone(
     alloc: Global,
     items: &NEVec<u32>,
     call: &Call,
     text: &mut String,
 ) -> Result<bool, AllocError> {
+    let other = Vec::from_slice(alloc, call.numbers.as_slice())?;
     let source = items.clone()?.into_nonempty_iter();
     let of = |x: u32| call.closure.of(x);
     let given: NEVec<u32> = match call.name {
         "map" => source.map(of).collect(alloc)?,
         "take" => source.take(call.size).collect(alloc)?,
-        "chain" => source
-            .chain(Vec::from_slice(alloc, call.numbers.as_slice())?)
-            .collect(alloc)?,
+        "chain" => source.chain(other).collect(alloc)?,
+        "chain_take" => source.chain(other).take(call.size).collect(alloc)?,
         "flat_map" => source.flat_map(|x| [x, of(x)]).collect(alloc)?,
         _ => return Ok(false),
     };
@@ -71,6 +71,7 @@ pub fn paired(
     call: &Call,
     text: &mut String,
 ) -> Result<bool, AllocError> {
+    let other = NEVec::from_parts(call.first, Vec::from_slice(alloc, call.rest())?)?;
     let source = items.clone()?.into_nonempty_iter();
     match call.name {
         "enumerate" => write!(
@@ -79,50 +80,24 @@ pub fn paired(
             source.enumerate().collect::<NEVec<(usize, u32)>>(alloc)?
         )?,
         "zip" => {
-            let other = NEVec::from_parts(call.first, Vec::from_slice(alloc, call.rest())?)?;
-            write!(
-                text,
-                "{:?}",
-                source.zip(other).collect::<NEVec<(u32, u32)>>(alloc)?
-            )?;
+            for pair in source.zip(other) {
+                write!(text, "{pair:?} ")?;
+            }
         }
         _ => return Ok(false),
     }
     Ok(true)
 }
 
-/// Two adapters, one over the other.
-pub fn over(
-    alloc: Global,
-    items: &NEVec<u32>,
-    call: &Call,
-    text: &mut String,
-) -> Result<bool, AllocError> {
-    let source = items.clone()?.into_nonempty_iter();
-    let of = |x: u32| call.closure.of(x);
-    let given: NEVec<u32> = match call.name {
-        "map_take" => source.map(of).take(call.size).collect(alloc)?,
-        "take_map" => source.take(call.size).map(of).collect(alloc)?,
-        "peekable_map" => source.peekable().map(of).collect(alloc)?,
-        "chain_take" => source
-            .chain(Vec::from_slice(alloc, call.numbers.as_slice())?)
-            .take(call.size)
-            .collect(alloc)?,
-        _ => return Ok(false),
-    };
-    write!(text, "{given:?}")?;
-    Ok(true)
-}
-
-/// Three adapters and more, in towers.
+/// Two adapters and more over one another, in towers.
 pub fn high(
     alloc: Global,
     items: &NEVec<u32>,
     call: &Call,
     text: &mut String,
 ) -> Result<bool, AllocError> {
-    let source = items.clone()?.into_nonempty_iter();
     let other = NEVec::from_parts(call.first, Vec::from_slice(alloc, call.rest())?)?;
+    let source = items.clone()?.into_nonempty_iter();
     let of = |x: u32| call.closure.of(x);
     match call.name {
         "flat_map_peekable_take_enumerate" => {

@@ -124,7 +124,6 @@ fn chained(
             || chains::alone(alloc, items, call, text)?
             || chains::looked(alloc, items, call, text)?
             || chains::paired(alloc, items, call, text)?
-            || chains::over(alloc, items, call, text)?
             || chains::high(alloc, items, call, text)?
             || runs::read(alloc, items, call, text)?
             || runs::separated(alloc, items, call, text)?,

@@ -48,7 +48,10 @@ pub fn tried(items: &NEVec<u32>, call: &Call, text: &mut String) -> Result<bool,
     let items = items.as_nonempty_slice();
     let Some(slice) = NESlice::try_from_slice(call.numbers.as_slice()) else {
         match call.name {
-            "slice_try_from" => write!(text, "None")?,
+            "slice_try_from" | "slice_eq" | "slice_cmp" | "slice_partial_cmp" => write!(
+                text,
+                "None"
+            )?,
             _ => return Ok(false),
         }
         return Ok(true);
