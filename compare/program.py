@@ -1,6 +1,8 @@
-"""A proved program, built; and a reference of what `ne_runs` has to do, written from the description of its modes and faults alone."""
+"""A proved program and its twin, built; and a reference of what `ne_runs` has to do, written from the description of its modes and faults
+alone."""
 
 import os
+import shutil
 import subprocess
 import sys
 
@@ -9,15 +11,25 @@ HERE = os.path.dirname(os.path.abspath(__file__))
 LIMIT = 1_048_576
 
 
-def build(name="ne_runs"):
-    """Proves and builds the program of the crate of this name, and returns the path of what was built."""
+def build(name="ne_runs", status=2):
+    """Proves and builds the program of the crate of this name, and returns the path of what was built. `status` is that of a run that is
+    given no word and no input."""
     crate = os.path.join(HERE, os.pardir, "crates", name)
     how = {"cwd": crate, "stdin": subprocess.DEVNULL, "stdout": subprocess.DEVNULL, "stderr": subprocess.PIPE}
-    # without a word the program answers its usage, with status 2
+    # without a word a program that takes one answers its usage, with status 2
     ran = subprocess.run(["rt", "run"], **how)
-    if ran.returncode != 2 or f"usage: {name} ".encode() not in ran.stderr:
+    if ran.returncode != status or status == 2 and f"usage: {name} ".encode() not in ran.stderr:
         sys.exit(f"the program is not proved, or not built:\n{ran.stderr.decode(errors='replace')[-2000:]}")
     return os.path.abspath(os.path.join(crate, "out", name))
+
+
+def built_twin(folder, name):
+    """Builds a program's twin beside the Rust crate in this folder, and returns the path of what was built."""
+    programs = os.path.join(folder, "src", "bin")
+    os.makedirs(programs, exist_ok=True)
+    shutil.copy(os.path.join(HERE, f"{name}.rs"), os.path.join(programs, f"{name}.rs"))
+    subprocess.run(["cargo", "build", "--release", "--offline", "--quiet", "--bin", name], cwd=folder, check=True)
+    return os.path.abspath(os.path.join(folder, "target", "release", name))
 
 
 def ends(numbers):

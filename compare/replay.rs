@@ -439,7 +439,7 @@ fn slice_tried(items: &NEVec<u32>, call: &Call, text: &mut String) -> Result<boo
     let items = items.as_nonempty_slice();
     let Some(slice) = NESlice::try_from_slice(call.numbers.as_slice()) else {
         match call.name {
-            "slice_try_from" | "slice_eq" | "slice_cmp" | "slice_partial_cmp" => write!(text, "None")?,
+            "slice_try_from" | "slice_eq" | "slice_cmp" | "slice_partial_cmp" | "slice_hash" => write!(text, "None")?,
             _ => return Ok(false),
         }
         return Ok(true);
@@ -449,6 +449,7 @@ fn slice_tried(items: &NEVec<u32>, call: &Call, text: &mut String) -> Result<boo
         "slice_eq" => write!(text, "{}", items == slice)?,
         "slice_cmp" => write!(text, "{:?}", items.cmp(&slice))?,
         "slice_partial_cmp" => write!(text, "{:?}", items.partial_cmp(&slice))?,
+        "slice_hash" => write!(text, "{}", hashed(&items) == hashed(&slice))?,
         _ => return Ok(false),
     }
     Ok(true)

@@ -1,6 +1,7 @@
 //! Calls on slices and on chunks.
 
 use crate::call::Call;
+use crate::vector::hashed;
 use nonempty_collections::{IntoNonEmptyIterator, NESlice, NEVec, NonEmptyIterator};
 use std::alloc::{AllocError, Global};
 use std::convert::AsSlice;
@@ -48,10 +49,9 @@ pub fn tried(items: &NEVec<u32>, call: &Call, text: &mut String) -> Result<bool,
     let items = items.as_nonempty_slice();
     let Some(slice) = NESlice::try_from_slice(call.numbers.as_slice()) else {
         match call.name {
-            "slice_try_from" | "slice_eq" | "slice_cmp" | "slice_partial_cmp" => write!(
-                text,
-                "None"
-            )?,
+            "slice_try_from" | "slice_eq" | "slice_cmp" | "slice_partial_cmp" | "slice_hash" => {
+                write!(text, "None")?;
+            }
             _ => return Ok(false),
         }
         return Ok(true);
@@ -61,6 +61,7 @@ pub fn tried(items: &NEVec<u32>, call: &Call, text: &mut String) -> Result<bool,
         "slice_eq" => write!(text, "{}", items == slice)?,
         "slice_cmp" => write!(text, "{:?}", items.cmp(&slice))?,
         "slice_partial_cmp" => write!(text, "{:?}", items.partial_cmp(&slice))?,
+        "slice_hash" => write!(text, "{}", hashed(&items) == hashed(&slice))?,
         _ => return Ok(false),
     }
     Ok(true)

@@ -113,7 +113,8 @@ pub fn compared(
     Ok(true)
 }
 
-fn hashed<T: Hash>(value: &T) -> u64 {
+/// What a hasher answers of a value.
+pub fn hashed<T: Hash>(value: &T) -> u64 {
     let mut hasher = DefaultHasher::new();
     value.hash(&mut hasher);
     hasher.finish()

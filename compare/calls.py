@@ -1,0 +1,271 @@
+"""The calls that `compare/replay` makes, and its scripts of them. A call is its name, its closure's name or "", and its numbers."""
+
+import glob
+import itertools
+import os
+import re
+from collections import namedtuple
+
+from program import HERE
+
+GREATEST = 2**32 - 1
+EDGES = sorted({x for power in range(33) for x in (2**power - 1, 2**power, 2**power + 1) if x <= GREATEST} | {0})
+# The closures, the simplest first. Those of PURE answer by the number that they are shown alone, the others by their state too.
+PURE = ["same", "zero", "half", "tens", "digit", "falling"]
+ANY = [*PURE, "calls", "pairs", "total"]
+NONE = [""]
+# What a call does to the vector.
+READS, CHANGES, MAKES = range(3)
+
+
+def lists(shortest, longest, values):
+    return [it for length in range(shortest, longest + 1) for it in itertools.product(values, repeat=length)]
+
+
+def single(values):
+    return [(value,) for value in values]
+
+
+def an_item(chance, items):
+    """Often one of the vector's, or beside one."""
+    beside = min(GREATEST, chance.choice(items) + 1)
+    return chance.choice([chance.choice(items), chance.choice(items), beside, chance.randrange(10), chance.choice(EDGES), GREATEST])
+
+
+def a_place(chance, items):
+    """Often about the vector's length."""
+    length = len(items)
+    known = 0, 1, length // 2, length - 1, length, length + 1, GREATEST
+    return chance.choice([*known, chance.randrange(length), chance.choice(EDGES)])
+
+
+def some_items(chance, items):
+    return tuple(an_item(chance, items) for _ in range(chance.choice([0, 1, 2, 3, 5, len(items)])))
+
+
+def like_vector(chance, items):
+    """The vector's items, or almost."""
+    at = chance.randrange(len(items))
+    changed = (*items[:at], an_item(chance, items), *items[at + 1 :])
+    return chance.choice([items, items[: at + 1], (*items, an_item(chance, items)), changed, (an_item(chance, items),)])
+
+
+# What a call's numbers may be: the values in small scripts, in pairs of calls and in the sample, and those made beside a vector.
+Kind = namedtuple("Kind", "small few telling random")
+KINDS = {
+    "item": Kind(single(range(4)), single([1]), single([5, 8]), lambda chance, items: (an_item(chance, items),)),
+    "pair": Kind(lists(2, 2, range(4)), [(1, 2)], [(1, 4), (3, 9)], lambda chance, items: (an_item(chance, items), an_item(chance, items))),
+    "place": Kind(single(range(5)), single([0, 2]), single([2, 7]), lambda chance, items: (a_place(chance, items),)),
+    "size": Kind(single(range(1, 5)), single([1, 2]), single([3, 9]), lambda chance, items: (a_place(chance, items),)),
+    # a size of what is made, and how often something is done: never far above the length, as EXCUSED says
+    "count": Kind(single(range(1, 5)), single([2]), single([3, 9]), lambda chance, items: (chance.randrange(len(items) + 2),)),
+    "items": Kind(lists(0, 2, range(2)), [(), (0, 2)], [(5, 9, 2), ()], some_items),
+    "other": Kind(lists(1, 3, range(3)), [(1, 0)], [(3, 1, 4, 1, 5, 9, 2, 6), (7, 7, 0, 13)], like_vector),
+}
+
+# Names of calls, the closures that they take, the kinds of their numbers, and what they do to the vector. A new call is a new name.
+ROWS = [
+    ("new singleton nev_one", NONE, "item", MAKES),
+    ("nev_two nev_three", NONE, "pair", MAKES),
+    ("from_elem with_capacity nev_many", NONE, "count item", MAKES),
+    ("from_parts", NONE, "other", MAKES),
+    ("try_from_vec try_from_slice try_from", NONE, "items", MAKES),
+    ("first_mut last_mut push", NONE, "item", CHANGES),
+    ("get_mut index_mut insert", NONE, "place item", CHANGES),
+    ("remove swap_remove", NONE, "place", CHANGES),
+    ("append extend", NONE, "items", CHANGES),
+    ("truncate", NONE, "size", CHANGES),
+    ("as_mut_slice reverse pop dedup sort", NONE, "", CHANGES),
+    ("iter_mut nonempty_iter_mut for_mut retain retain_mut dedup_by dedup_by_key", ANY, "", CHANGES),
+    ("sort_by sort_by_key", PURE, "", CHANGES),
+    ("binary_search", NONE, "item", READS),
+    ("binary_search_by binary_search_by_key partition_point", PURE, "item", READS),
+    ("first last len is_empty capacity as_ref split_first split clone into_vec debug", NONE, "", READS),
+    ("iter nonempty_iter nonempty_iter_clone into_iter ref_into_iter", NONE, "", READS),
+    ("into_nonempty_iter ref_into_nonempty_iter", NONE, "", READS),
+    ("get index", NONE, "place", READS),
+    ("contains", NONE, "item", READS),
+    ("eq cmp partial_cmp lt hash", NONE, "other", READS),
+    ("slice_first slice_last slice_len slice_is_empty slice_as_ref slice_clone", NONE, "", READS),
+    ("slice_iter slice_nonempty_iter slice_into_iter slice_ref_into_iter", NONE, "", READS),
+    ("slice_into_nonempty_iter slice_ref_into_nonempty_iter", NONE, "", READS),
+    ("slice_index", NONE, "place", READS),
+    ("slice_try_from", NONE, "items", READS),
+    ("slice_eq slice_cmp slice_partial_cmp slice_hash", NONE, "other", READS),
+    ("slice_chunks nonempty_chunks chunk_sizes", NONE, "size", READS),
+    ("all any find reduce", ANY, "", READS),
+    ("nth skip", NONE, "place", READS),
+    ("count next sum product max min", NONE, "", READS),
+    ("fold", ANY, "item", READS),
+    ("max_by max_by_key min_by_key", ANY, "", READS),
+    ("min_by", PURE, "", READS),
+    ("filter filter_map skip_while take_while unzip", ANY, "", READS),
+    ("sorted_by_key", PURE, "", READS),
+    ("collect_nevec collect_vec collect_chars collect_char_refs collect_strs", NONE, "", READS),
+    ("collect_strings collect_cows collect_path", NONE, "", READS),
+    ("collect_unit collect_result collect_tree_map collect_tree_set", ANY, "", READS),
+    ("collect_hash_map collect_hash_set", ANY, "pair", READS),
+    ("cloned copied peekable enumerate", NONE, "", READS),
+    ("map flat_map map_group_by", ANY, "", READS),
+    ("take", NONE, "size", READS),
+    ("chain try_into_nonempty_iter", NONE, "items", READS),
+    ("once peek_mut intersperse", NONE, "item", READS),
+    ("zip", NONE, "other", READS),
+    ("flat_map_peekable_take_enumerate", ANY, "size", READS),
+    ("chain_take", NONE, "size items", READS),
+    ("zip_flat_map_peekable_take_enumerate map_zip_take_unzip", ANY, "size items", READS),
+    ("group_by", ANY, "", READS),
+    ("group_by_take", ANY, "size", READS),
+    ("group_by_stopped", ANY, "count", READS),
+    ("array_len array_slice array_vec array_iter array_ref_iter", NONE, "pair", READS),
+]
+Row = namedtuple("Row", "closures kinds does")
+CALLS = {
+    name: Row(closures, [KINDS[kind] for kind in kinds.split()], does)
+    for names, closures, kinds, does in ROWS
+    for name in names.split()
+}
+NAMES = list(CALLS)
+# The sort that stands before a search.
+SORTS = {
+    "binary_search": "sort",
+    "binary_search_by": "sort_by",
+    "binary_search_by_key": "sort_by_key",
+    "partition_point": "sort_by_key",
+}
+# All that is left out on purpose, and why.
+EXCUSED = [
+    (
+        "sort_by, sort_by_key, sorted_by_key: closures with state",
+        "Rust's sorts may panic, and leave the order open, where a closure makes no total order",
+    ),
+    (
+        "binary_search, binary_search_by, binary_search_by_key, partition_point: closures with state, and vectors in another order",
+        "Rust leaves the answer open, so the matching sort stands before each",
+    ),
+    (
+        "min_by: closures with state",
+        "the port shows the comparison the item and then the least so far, the Rust crate the other way round",
+    ),
+    (
+        "how often the closure of a sort or a search is called",
+        "the standard library's affair, and no part of what either says; both programs call a copy, which is not counted",
+    ),
+    (
+        "from_elem, with_capacity, nev_many: sizes far above the length",
+        "where there is no memory the Rust crate ends the process, and the port answers AllocError",
+    ),
+    (
+        "remove, swap_remove, insert, index, index_mut: places out of range",
+        "the Rust crate panics; in the port that they are in range is a condition of the call. Both programs say so and make no call",
+    ),
+    ("capacity: how much", "the standard library's affair; told is that it is at least the length"),
+    ("collect_hash_map, collect_hash_set: the order", "it is open in both; told are the size and what is found"),
+    ("group_by_stopped: far more turns than there are runs", "no difference: each turn is written"),
+]
+
+
+def setting(items):
+    return "try_from_vec", "", tuple(items)
+
+
+def prepared(call):
+    """The call, behind its sort where it is a search."""
+    name, closure, _ = call
+    return [(SORTS[name], closure, ()), call] if name in SORTS else [call]
+
+
+def is_allowed(script):
+    """Whether a script begins with its vector, and has each search behind its sort."""
+    behind = zip(script, script[1:])
+    searches = all(first[:2] == (SORTS[name], closure) for first, (name, closure, _) in behind if name in SORTS)
+    return script[0][0] == "try_from_vec" and bool(script[0][2]) and searches
+
+
+def each_call(name, values):
+    """Every call of this name, at these values of each kind of number."""
+    row = CALLS[name]
+    for closure, *numbers in itertools.product(row.closures, *map(values, row.kinds)):
+        yield name, closure, tuple(itertools.chain(*numbers))
+
+
+def small_scripts():
+    """Each call over each vector of one to three small items, and each pair of two that change it over each of one or two."""
+    single_calls = [call for name in NAMES for call in each_call(name, lambda kind: kind.small)]
+    for items in lists(1, 3, range(3)):
+        yield from ([setting(items), *prepared(call)] for call in single_calls)
+    changes = [call for name in NAMES if CALLS[name].does != READS for call in each_call(name, lambda kind: kind.few)]
+    for items, *pair in itertools.product(lists(1, 2, range(3)), changes, changes):
+        yield [setting(items), *pair]
+
+
+def a_vector(chance, length):
+    """Of few or many different items."""
+    few = chance.sample(range(10), chance.randint(1, 4))
+    pool = chance.choice([few, range(10), range(100), EDGES, [chance.randrange(2**32) for _ in range(30)]])
+    items = chance.choices(pool, k=length)
+    return tuple(sorted(items) if chance.random() < 0.2 else items)
+
+
+def a_call(chance, name, items):
+    """A call of this name over these items, behind its sort where it is a search."""
+    numbers = itertools.chain(*(kind.random(chance, items) for kind in CALLS[name].kinds))
+    return prepared((name, chance.choice(CALLS[name].closures), tuple(numbers)))
+
+
+def a_script(chance, items, size):
+    """A script of so many calls over these items."""
+    script = []
+    while len(script) < size:
+        calls = a_call(chance, chance.choice(NAMES), items)
+        script += calls if len(script) + len(calls) <= size else []
+    return [setting(items), *script]
+
+
+def random_scripts(chance, count):
+    while count > 0:
+        size = min(count, chance.randint(1, 12))
+        yield a_script(chance, a_vector(chance, chance.randint(1, 40)), size)
+        count -= size
+
+
+def long_scripts(chance):
+    """Some of ten calls over thousands of items, and each call alone over three such vectors."""
+    vectors = (a_vector(chance, chance.randint(1000, 5000)) for _ in itertools.count())
+    for _ in range(20):
+        yield a_script(chance, next(vectors), 10)
+    for name, items in zip(NAMES * 3, vectors):
+        yield [setting(items), *a_call(chance, name, items)]
+
+
+def sample():
+    """A script with each call twice, each time but for those that make a vector over the same one."""
+    script = []
+    for turn, items in enumerate([(3, 1, 4, 1, 5, 9, 2, 6), (7, 7, 0, 12, 12, 35, GREATEST)]):
+        is_set = False
+        for name, row in CALLS.items():
+            closure = {1: "", len(PURE): ["half", "falling"][turn], len(ANY): ["half", "pairs"][turn]}[len(row.closures)]
+            calls = prepared((name, closure, tuple(itertools.chain(*(kind.telling[turn] for kind in row.kinds)))))
+            script += calls if is_set or row.does == MAKES else [setting(items), *calls]
+            is_set = all(CALLS[it].does == READS for it, _, _ in calls)
+    return script
+
+
+def line(call):
+    return " ".join(map(str, filter(None, (call[0], call[1], *map(str, call[2])))))
+
+
+def text(scripts):
+    """What the programs read."""
+    return "".join(f"{line(call)}\n" for script in scripts for call in script).encode()
+
+
+def unlisted():
+    """The names that either the program or this table lacks."""
+    named = set()
+    for path in glob.glob(os.path.join(HERE, os.pardir, "crates", "replay", "src", "*.rt")):
+        if os.path.basename(path) != "closure.rt":
+            with open(path) as it:
+                for arm in re.findall(r'^ *(".*?)=>|call\.name [!=]= ("\w+")', it.read(), re.M):
+                    named.update(re.findall(r'"(\w+)"', "".join(arm)))
+    return sorted(named ^ set(NAMES))
