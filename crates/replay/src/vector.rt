@@ -164,18 +164,13 @@ pub fn edited(
     match call.name {
         "push" => items.push(call.first)?,
         "pop" => write!(text, "{:?}", items.pop())?,
-        "remove" if call.place < items.len().get() => write!(
-            text,
-            "{:?}",
-            items.remove(call.place)
-        )?,
-        "remove" => write!(text, "out of range")?,
-        "swap_remove" if call.place < items.len().get() => write!(
-            text,
-            "{:?}",
-            items.swap_remove(call.place)
-        )?,
-        "swap_remove" => write!(text, "out of range")?,
+        "remove" if items.len().get() == 1 || call.place < items.len().get() => {
+            write!(text, "{:?}", items.remove(call.place))?;
+        }
+        "swap_remove" if items.len().get() == 1 || call.place < items.len().get() => {
+            write!(text, "{:?}", items.swap_remove(call.place))?;
+        }
+        "remove" | "swap_remove" => write!(text, "out of range")?,
         "insert" if call.place <= items.len().get() => items.insert(call.place, call.last)?,
         "insert" => write!(text, "out of range")?,
         "append" => {
