@@ -10,7 +10,7 @@ use Rattle.std.specs.declared.cmp.Ordering.{Ordering}
 use Rattle.std.proofs.lemmas.List.Elements.{Contains-append_left}
 use Rattle.std.proofs.lemmas.List.MinMax.{IsFirstBest-from_best_of, IsStrictWeakOrder-flip}
 use Rattle.std.proofs.lemmas.Option.{slice_get-get_or}
-use Rattle.ne_iter.specs.Answers.{ComparesBy, IsFirstGreatest, IsFirstLeast, less_by}
+use Rattle.ne_iter.specs.Answers.{AnswersJustWhere, IsFirstGreatest, IsFirstLeast, less_by}
 use Rattle.ne_iter.specs.Calls.{ShownEach}
 
 module _ {A : Type 0} (beats : A → A → Bool) where
@@ -43,8 +43,9 @@ pub less_by-from_partial_lt : {A : Type 0} {C : A → A → Option Ordering} {R 
 less_by-from_partial_lt a x y r t e h = ap (is_some_and is_lt) (sym (a x y)) ∙ sym e ∙ h
 
 -- what holds of the calls at all items holds of those at the first ones
-pub ComparesBy-fewer : {F A : Type 0} (calls : Shared F (Bor A × (Bor A × Unit {0})) Ordering) (f : F) (xs ys : List A) (less : A → A → Bool) → ComparesBy calls f (xs ++ ys) less → ComparesBy calls f xs less
-ComparesBy-fewer calls f xs ys less h x y r a b c = h x y r (Contains-append_left xs ys x a) (Contains-append_left xs ys y b) c
+pub AnswersJustWhere-fewer : {F A : Type 0} (calls : Shared F (Bor A × (Bor A × Unit {0})) Ordering) (f : F) (xs ys : List A) (meant : Ordering → Bool) (test : A → A → Bool)
+    → AnswersJustWhere calls f (xs ++ ys) meant test → AnswersJustWhere calls f xs meant test
+AnswersJustWhere-fewer calls f xs ys meant test h x y r a b c = h x y r (Contains-append_left xs ys x a) (Contains-append_left xs ys y b) c
 
 shown : {F A B : Type 0} (calls : Mut F (Bor A × Unit {0}) B) (f : F) (ps : List (A × B)) (g : F)
     → ShownEach calls f ps g → FoldsTo (λ p x q. (r : B) × CalledAt calls p x r q) f (map (λ p. p.0) ps) g

@@ -7,7 +7,7 @@ use Rattle.std.specs.Cmp.{IsStrictWeakOrder}
 use Rattle.std.specs.Fn.{Called, CalledAt, Mut, Shared, FnReturnsAtPair}
 use Rattle.std.specs.Iterator.{Yields}
 use Rattle.std.specs.List.{IsFirstBest, Contains}
-use Rattle.std.specs.Ordering.{is_lt}
+use Rattle.std.specs.Ordering.{is_gt, is_lt}
 use Rattle.std.specs.declared.cmp.Ordering.{Ordering}
 use Rattle.ne_iter.specs.Calls.{AnswersEach, AnswersEachAt, Folds}
 
@@ -58,14 +58,14 @@ module _ {A : Type 0} where
   abbrev pub CallableOnTwo : {S F : Type 0} → (S → Option A → S → Type 0) → Shared F (Bor A × (Bor A × Unit {0})) Ordering → S → F → Type 0
   CallableOnTwo {S} steps calls it f = (xs : List A) (t : S) (x y : Bor A) → Yields steps it xs t → Contains xs x.now → Contains xs y.now → calls.pre f (x, (y, tt))
 
-  -- f, called at two items of xs, answers `Less` just where `less` holds.
-  abbrev pub ComparesBy : {F : Type 0} → Shared F (Bor A × (Bor A × Unit {0})) Ordering → F → List A → (A → A → Bool) → Type 0
-  ComparesBy calls f xs less = (x y : A) (r : Ordering) → Contains xs x → Contains xs y → FnReturnsAtPair calls f x y r → is_lt r ≡ less x y
+  -- f, called at two items x and y of xs, gives the answer that is meant, `Less` by `is_lt` or `Greater` by `is_gt`, just where `test x y`.
+  abbrev pub AnswersJustWhere : {F : Type 0} → Shared F (Bor A × (Bor A × Unit {0})) Ordering → F → List A → (Ordering → Bool) → (A → A → Bool) → Type 0
+  AnswersJustWhere calls f xs meant test = (x y : A) (r : Ordering) → Contains xs x → Contains xs y → FnReturnsAtPair calls f x y r → meant r ≡ test x y
 
-  -- `max_by`: m is an item of xs; where the answers of f are a total preorder, the first greatest.
+  -- `max_by`: m is an item of xs; where f answers `Less` just as a total preorder does, the first greatest.
   abbrev pub PicksGreatest : {F : Type 0} → Shared F (Bor A × (Bor A × Unit {0})) Ordering → F → List A → A → Type 0
-  PicksGreatest calls f xs m = Contains xs m × ((less : A → A → Bool) → IsStrictWeakOrder less → ComparesBy calls f xs less → IsFirstGreatest less xs m)
+  PicksGreatest calls f xs m = Contains xs m × ((less : A → A → Bool) → IsStrictWeakOrder less → AnswersJustWhere calls f xs is_lt less → IsFirstGreatest less xs m)
 
-  -- `min_by`: the same, the first least.
+  -- `min_by`: m is an item of xs; where f answers `Greater` just as a total preorder does, the first least.
   abbrev pub PicksLeast : {F : Type 0} → Shared F (Bor A × (Bor A × Unit {0})) Ordering → F → List A → A → Type 0
-  PicksLeast calls f xs m = Contains xs m × ((less : A → A → Bool) → IsStrictWeakOrder less → ComparesBy calls f xs less → IsFirstLeast less xs m)
+  PicksLeast calls f xs m = Contains xs m × ((less : A → A → Bool) → IsStrictWeakOrder less → AnswersJustWhere calls f xs is_gt (λ x y. less y x) → IsFirstLeast less xs m)

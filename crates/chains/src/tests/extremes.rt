@@ -3,6 +3,7 @@ ghost use Rattle.std.specs.Iterator.{IsFiniteIterable};
 
 use nonempty_collections::{IntoNonEmptyIterator, NEVec, NonEmptyIterator};
 use std::alloc::{AllocError, Global};
+use std::cell::Cell;
 use std::cmp::Ordering;
 use std::convert::AsSlice;
 use std::test::Fail;
@@ -99,6 +100,20 @@ fn always_less(rt: HostRuntime) {
     let three = [1u32, 2, 3].into_nonempty_iter();
     let some = three.max_by(|_, _| Ordering::Less);
     assert!(rt; 1 <= some && some <= 3);
+}
+
+// The comparison is called with the best item so far and the next one, in this order: `asked` holds its last call.
+#[test]
+fn best_so_far_in_front(rt: HostRuntime) {
+    let asked = Cell::new((0u32, 0u32));
+    let compare = |x: &u32, y: &u32| {
+        asked.set((*x, *y));
+        x.cmp(y)
+    };
+    let greatest = [4u32, 7, 5].into_nonempty_iter().max_by(compare);
+    assert_eq!(rt; (greatest, asked.get()), (7, (7, 5)));
+    let least = [5u32, 2, 4].into_nonempty_iter().min_by(compare);
+    assert_eq!(rt; (least, asked.get()), (2, (2, 4)));
 }
 
 #[test]

@@ -237,8 +237,9 @@ pub trait NonEmptyIterator: IntoIterator {
     /// no item is compared with the one before it. A run is given once the first item of the next one was drawn, or the source has
     /// ended. Nothing further is drawn, so that a reader that is stopped has drawn one item beyond its runs, at most.
     ///
-    /// An `Err` comes where there was no memory for a run; what was taken of that is dropped, and nothing comes behind it. `alloc` is
-    /// where the runs take their memory. In the Rust crate the runs are plain vectors.
+    /// An `Err` comes in the place of a run where there was no memory for its items, or for the first item of the next one. What was
+    /// drawn and not given is then dropped, the run with it, and nothing comes behind it. `alloc` is where the runs take their memory.
+    /// In the Rust crate the runs are plain vectors.
     final fn group_by<K: PartialEq + Drop, F: FnMut(&Self::Item) -> K + Drop>(
         self,
         alloc: Global,
@@ -313,7 +314,8 @@ pub trait NonEmptyIterator: IntoIterator {
 
     /// The greatest item by `compare`, and of several equal ones the first. std's `max_by` answers the last of them.
     ///
-    /// That it is the greatest asks that the answers of `compare` are a total preorder; else it is some item.
+    /// `compare` is called with the best item so far and the next one, in this order. That the answer is the greatest item asks that the
+    /// answers of `compare` are a total preorder; else it is some item.
     final fn max_by<F: Fn(&Self::Item, &Self::Item) -> Ordering>(self, compare: F) -> Self::Item
     where
         Self: Sized,
@@ -376,7 +378,8 @@ pub trait NonEmptyIterator: IntoIterator {
 
     /// The least item by `compare`, and of several equal ones the first.
     ///
-    /// That it is the least asks that the answers of `compare` are a total preorder; else it is some item.
+    /// `compare` is called with the best item so far and the next one, in this order. That the answer is the least item asks that the
+    /// answers of `compare` are a total preorder; else it is some item.
     final fn min_by<F: Fn(&Self::Item, &Self::Item) -> Ordering>(self, compare: F) -> Self::Item
     where
         Self: Sized,
@@ -388,7 +391,7 @@ pub trait NonEmptyIterator: IntoIterator {
         let (first, rest) = self.next();
         let mut best = first;
         for x in rest {
-            if compare(&x, &best).is_lt() {
+            if compare(&best, &x).is_gt() {
                 best = x;
             }
         }

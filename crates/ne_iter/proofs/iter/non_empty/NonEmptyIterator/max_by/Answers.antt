@@ -1,7 +1,8 @@
 use Rattle.std.proofs.Common.{refl, ◌∷◌, ◌++◌, [], sym, ◌∙◌}
+use Rattle.std.specs.Ordering.{is_lt}
 use Rattle.std.proofs.lemmas.Fn.{says_at_two}
 use Rattle.std.proofs.lemmas.List.Elements.{Contains-append_left, Contains-push}
-use Rattle.ne_iter.proofs.Best.{ComparesBy-fewer, best_of-takes, best_of-keeps, IsFirstGreatest-best_of}
+use Rattle.ne_iter.proofs.Best.{AnswersJustWhere-fewer, best_of-takes, best_of-keeps, IsFirstGreatest-best_of}
 use Rattle.ne_iter.proofs.Loops.{Reads-loop, Yields-first}
 use Rattle.ne_iter.proofs.JoinedRuns.{Yields-append}
 use Rattle.ne_iter.proofs.iter.non_empty.NonEmptyIterator.max_by.Goals as goal
@@ -30,7 +31,7 @@ loop-x-preserved-then-is_lt g c =
     let kept = Contains-append_left (first ∷ ys) (x ∷ []) best c.loop-x.invariant.0 in
     let new = Contains-push (first ∷ ys) x in (
       new,
-      λ less h. best_of-takes (λ x y. less y x) first ys best x (c.loop-x.invariant.1 less (ComparesBy-fewer g.F.Fn c.args.compare (first ∷ ys) (x ∷ []) less h))
+      λ less h. best_of-takes (λ x y. less y x) first ys best x (c.loop-x.invariant.1 less (AnswersJustWhere-fewer g.F.Fn c.args.compare (first ∷ ys) (x ∷ []) is_lt less h))
           (sym (h best x c.compare.result kept new (says_at_two g.F.Fn c.compare.ensures refl)) ∙ sym c.is_lt.ensures ∙ c.if-is_lt.true),
     )
 
@@ -43,7 +44,7 @@ loop-x-preserved g c =
     let kept = Contains-append_left (first ∷ ys) (x ∷ []) best c.loop-x.invariant.0 in
     let new = Contains-push (first ∷ ys) x in (
       kept,
-      λ less h. best_of-keeps (λ x y. less y x) first ys best x (c.loop-x.invariant.1 less (ComparesBy-fewer g.F.Fn c.args.compare (first ∷ ys) (x ∷ []) less h))
+      λ less h. best_of-keeps (λ x y. less y x) first ys best x (c.loop-x.invariant.1 less (AnswersJustWhere-fewer g.F.Fn c.args.compare (first ∷ ys) (x ∷ []) is_lt less h))
           (sym (h best x c.compare.result kept new (says_at_two g.F.Fn c.compare.ensures refl)) ∙ sym c.is_lt.ensures ∙ c.if-is_lt.false),
     )
 

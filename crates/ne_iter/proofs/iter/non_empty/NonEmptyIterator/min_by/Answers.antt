@@ -1,7 +1,8 @@
 use Rattle.std.proofs.Common.{refl, ◌∷◌, ◌++◌, [], sym, ◌∙◌}
+use Rattle.std.specs.Ordering.{is_gt}
 use Rattle.std.proofs.lemmas.Fn.{says_at_two}
 use Rattle.std.proofs.lemmas.List.Elements.{Contains-append_left, Contains-push}
-use Rattle.ne_iter.proofs.Best.{ComparesBy-fewer, best_of-takes, best_of-keeps, IsFirstLeast-best_of}
+use Rattle.ne_iter.proofs.Best.{AnswersJustWhere-fewer, best_of-takes, best_of-keeps, IsFirstLeast-best_of}
 use Rattle.ne_iter.proofs.Loops.{Reads-loop, Yields-first}
 use Rattle.ne_iter.proofs.JoinedRuns.{Yields-append}
 use Rattle.ne_iter.proofs.iter.non_empty.NonEmptyIterator.min_by.Goals as goal
@@ -19,10 +20,10 @@ compare-requires g c =
     let best = c.loop-x.best in
     let begun = Yields-first steps from.0 first ys c.loop-x.x-iterator from.2 c.into_iter-x-iterator.ensures.into_iter_gives c.loop-x.yielded_by in
     c.requires.callable from.0 from.1 (first ∷ ys ++ x ∷ []) c.next.new.self _ _ (Yields-append steps (first ∷ ys) (x ∷ []) from.0 c.loop-x.x-iterator c.next.new.self begun (c.next.new.self, c.in-Some.ensures.steps, refl))
-    (Contains-push (first ∷ ys) x) (Contains-append_left (first ∷ ys) (x ∷ []) best c.loop-x.invariant.0)
+    (Contains-append_left (first ∷ ys) (x ∷ []) best c.loop-x.invariant.0) (Contains-push (first ∷ ys) x)
 
-pub loop-x-preserved-then-is_lt : goal.loop-x-preserved-then-is_lt
-loop-x-preserved-then-is_lt g c =
+pub loop-x-preserved-then-is_gt : goal.loop-x-preserved-then-is_gt
+loop-x-preserved-then-is_gt g c =
     let first = c.next-first.result.0 in
     let ys = c.loop-x.yielded in
     let best = c.loop-x.best in
@@ -30,8 +31,8 @@ loop-x-preserved-then-is_lt g c =
     let kept = Contains-append_left (first ∷ ys) (x ∷ []) best c.loop-x.invariant.0 in
     let new = Contains-push (first ∷ ys) x in (
       new,
-      λ less h. best_of-takes (less) first ys best x (c.loop-x.invariant.1 less (ComparesBy-fewer g.F.Fn c.args.compare (first ∷ ys) (x ∷ []) less h))
-          (sym (h x best c.compare.result new kept (says_at_two g.F.Fn c.compare.ensures refl)) ∙ sym c.is_lt.ensures ∙ c.if-is_lt.true),
+      λ less h. best_of-takes less first ys best x (c.loop-x.invariant.1 less (AnswersJustWhere-fewer g.F.Fn c.args.compare (first ∷ ys) (x ∷ []) is_gt (λ x y. less y x) h))
+          (sym (h best x c.compare.result kept new (says_at_two g.F.Fn c.compare.ensures refl)) ∙ sym c.is_gt.ensures ∙ c.if-is_gt.true),
     )
 
 pub loop-x-preserved : goal.loop-x-preserved
@@ -43,8 +44,8 @@ loop-x-preserved g c =
     let kept = Contains-append_left (first ∷ ys) (x ∷ []) best c.loop-x.invariant.0 in
     let new = Contains-push (first ∷ ys) x in (
       kept,
-      λ less h. best_of-keeps (less) first ys best x (c.loop-x.invariant.1 less (ComparesBy-fewer g.F.Fn c.args.compare (first ∷ ys) (x ∷ []) less h))
-          (sym (h x best c.compare.result new kept (says_at_two g.F.Fn c.compare.ensures refl)) ∙ sym c.is_lt.ensures ∙ c.if-is_lt.false),
+      λ less h. best_of-keeps less first ys best x (c.loop-x.invariant.1 less (AnswersJustWhere-fewer g.F.Fn c.args.compare (first ∷ ys) (x ∷ []) is_gt (λ x y. less y x) h))
+          (sym (h best x c.compare.result kept new (says_at_two g.F.Fn c.compare.ensures refl)) ∙ sym c.is_gt.ensures ∙ c.if-is_gt.false),
     )
 
 pub returns : goal.returns
