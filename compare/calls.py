@@ -97,8 +97,7 @@ ROWS = [
     ("nth skip", NONE, "place", READS),
     ("count next sum product max min", NONE, "", READS),
     ("fold", ANY, "item", READS),
-    ("max_by max_by_key min_by_key", ANY, "", READS),
-    ("min_by", PURE, "", READS),
+    ("max_by min_by max_by_key min_by_key", ANY, "", READS),
     ("filter filter_map skip_while take_while unzip", ANY, "", READS),
     ("sorted_by_key", PURE, "", READS),
     ("collect_nevec collect_vec collect_chars collect_char_refs collect_strs", NONE, "", READS),
@@ -144,10 +143,6 @@ EXCUSED = [
         "Rust leaves the answer open, so the matching sort stands before each",
     ),
     (
-        "min_by: closures with state",
-        "the port shows the comparison the item and then the least so far, the Rust crate the other way round",
-    ),
-    (
         "how often the closure of a sort or a search is called",
         "the standard library's affair, and no part of what either says; both programs call a copy, which is not counted",
     ),
@@ -156,7 +151,7 @@ EXCUSED = [
         "where there is no memory the Rust crate ends the process, and the port answers AllocError",
     ),
     (
-        "remove, swap_remove, insert, index, index_mut: places out of range",
+        "remove, swap_remove, insert, index, index_mut: places out of range, but for the removals at length one",
         "the Rust crate panics; in the port that they are in range is a condition of the call. Both programs say so and make no call",
     ),
     ("capacity: how much", "the standard library's affair; told is that it is at least the length"),
