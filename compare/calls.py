@@ -156,6 +156,7 @@ EXCUSED = [
     ),
     ("capacity: how much", "the standard library's affair; told is that it is at least the length"),
     ("collect_hash_map, collect_hash_set: the order", "it is open in both; told are the size and what is found"),
+    ("shuffle, choose, serde", "features of the Rust crate that ask for crates besides"),
     ("group_by_stopped: far more turns than there are runs", "no difference: each turn is written"),
 ]
 
