@@ -66,6 +66,7 @@ fn consumed(items: &NEVec<u32>, call: &Call, text: &mut String) -> Result<bool, 
         || consumers_parted(items, call, text)?
         || collected_listed(items, call, text)?
         || collected_keyed(items, call, text)?
+        || collected_gathered(items, call, text)?
         || collected_joined(items, call, text)?)
 }
 
@@ -74,7 +75,8 @@ fn chained(items: &NEVec<u32>, call: &Call, text: &mut String) -> Result<bool, f
         || chains_alone(items, call, text)?
         || chains_looked(items, call, text)?
         || chains_paired(items, call, text)?
-        || chains_high(items, call, text)?
+        || chains_flattened(items, call, text)?
+        || chains_divided(items, call, text)?
         || runs_read(items, call, text)?
         || runs_separated(items, call, text)?)
 }
@@ -129,12 +131,10 @@ impl Closure {
         Closure { rule, calls: Cell::new(0), total: Cell::new(0) }
     }
 
-    // The same closure before its first call.
     fn anew(&self) -> Closure {
         Closure::new(self.rule)
     }
 
-    // How often it was called.
     fn calls(&self) -> u32 {
         self.calls.get()
     }
@@ -173,18 +173,14 @@ struct Call<'t> {
     // The closure that it takes; where none is named, the one that answers what it is shown.
     closure: Closure,
     numbers: Vec<u32>,
-    // The first of them.
     first: u32,
-    // The last of them.
     last: u32,
-    // The first of them as a place.
     place: usize,
     // The first of them as a size, which is at least 1.
     size: NonZeroUsize,
 }
 
 impl<'t> Call<'t> {
-    // The call that a line writes.
     fn parsed(line: &'t str) -> Call<'t> {
         let mut words = line.split(' ');
         let name = words.next().unwrap_or("");
@@ -204,7 +200,6 @@ impl<'t> Call<'t> {
         Call { name, closure, numbers, first, last, place, size }
     }
 
-    // The numbers after the first.
     fn rest(&self) -> &[u32] {
         self.numbers.as_slice().get(1..).unwrap_or(&[])
     }
@@ -614,11 +609,20 @@ fn collected_keyed(items: &NEVec<u32>, call: &Call, text: &mut String) -> Result
             let map: BTreeMap<u32, (usize, u32)> = source.enumerate().map(|x| (closure.of(x.1), x)).collect();
             write!(text, "{map:?}")?;
         }
-        "collect_tree_set" => write!(text, "{:?}", source.map(|x| closure.of(x)).collect::<BTreeSet<u32>>())?,
         "collect_hash_map" => {
             let map: HashMap<u32, (usize, u32)> = source.enumerate().map(|x| (closure.of(x.1), x)).collect();
             write!(text, "{} {:?} {:?}", map.len(), map.get(&call.first), map.get(&call.last))?;
         }
+        _ => return Ok(false),
+    }
+    Ok(true)
+}
+
+fn collected_gathered(items: &NEVec<u32>, call: &Call, text: &mut String) -> Result<bool, fmt::Error> {
+    let source = items.nonempty_iter().copied();
+    let closure = &call.closure;
+    match call.name {
+        "collect_tree_set" => write!(text, "{:?}", source.map(|x| closure.of(x)).collect::<BTreeSet<u32>>())?,
         "collect_hash_set" => {
             let set: HashSet<u32> = source.map(|x| closure.of(x)).collect();
             write!(text, "{} {} {}", set.len(), set.contains(&call.first), set.contains(&call.last))?;
@@ -723,7 +727,7 @@ fn chains_paired(items: &NEVec<u32>, call: &Call, text: &mut String) -> Result<b
     Ok(true)
 }
 
-fn chains_high(items: &NEVec<u32>, call: &Call, text: &mut String) -> Result<bool, fmt::Error> {
+fn chains_flattened(items: &NEVec<u32>, call: &Call, text: &mut String) -> Result<bool, fmt::Error> {
     let source = items.clone().into_nonempty_iter();
     let other = NEVec::from((call.first, call.rest().to_vec()));
     let of = |x: u32| call.closure.of(x);
@@ -737,6 +741,16 @@ fn chains_high(items: &NEVec<u32>, call: &Call, text: &mut String) -> Result<boo
                 source.zip(other).flat_map(|(x, y)| [x, of(y)]).peekable().take(call.size).enumerate().collect();
             write!(text, "{given:?}")?;
         }
+        _ => return Ok(false),
+    }
+    Ok(true)
+}
+
+fn chains_divided(items: &NEVec<u32>, call: &Call, text: &mut String) -> Result<bool, fmt::Error> {
+    let source = items.clone().into_nonempty_iter();
+    let other = NEVec::from((call.first, call.rest().to_vec()));
+    let of = |x: u32| call.closure.of(x);
+    match call.name {
         "map_zip_take_unzip" => {
             let given: (NEVec<u32>, NEVec<u32>) = source.map(of).zip(other).take(call.size).unzip();
             write!(text, "{given:?}")?;

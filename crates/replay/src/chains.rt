@@ -89,8 +89,8 @@ pub fn paired(
     Ok(true)
 }
 
-/// Two adapters and more over one another, in towers.
-pub fn high(
+/// Towers that flatten.
+pub fn flattened(
     alloc: Global,
     items: &NEVec<u32>,
     call: &Call,
@@ -114,6 +114,22 @@ pub fn high(
             )?;
             write!(text, "{given:?}")?;
         }
+        _ => return Ok(false),
+    }
+    Ok(true)
+}
+
+/// Towers that part what comes, in two lists or in runs.
+pub fn divided(
+    alloc: Global,
+    items: &NEVec<u32>,
+    call: &Call,
+    text: &mut String,
+) -> Result<bool, AllocError> {
+    let other = NEVec::from_parts(call.first, Vec::from_slice(alloc, call.rest())?)?;
+    let source = items.clone()?.into_nonempty_iter();
+    let of = |x: u32| call.closure.of(x);
+    match call.name {
         "map_zip_take_unzip" => {
             let given: (NEVec<u32>, NEVec<u32>) = parted(alloc, source, of, other, call.size)?;
             write!(text, "{given:?}")?;

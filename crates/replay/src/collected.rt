@@ -39,7 +39,7 @@ pub fn listed(
     Ok(true)
 }
 
-/// Maps and sets. Those that hash are told by their sizes and what is found in them, since their order is their own.
+/// Maps. One that hashes is told by its size and what is found in it, since its order is its own.
 pub fn keyed(
     alloc: Global,
     items: &NEVec<u32>,
@@ -56,13 +56,6 @@ pub fn keyed(
                 .collect(alloc)?;
             write!(text, "{map:?}")?;
         }
-        "collect_tree_set" => write!(
-            text,
-            "{:?}",
-            source
-                .map(|x| closure.of(x))
-                .collect::<BTreeSet<u32>>(alloc)?
-        )?,
         "collect_hash_map" => {
             let map: HashMap<u32, (usize, u32)> = source
                 .enumerate()
@@ -76,6 +69,28 @@ pub fn keyed(
                 map.get(&call.last)
             )?;
         }
+        _ => return Ok(false),
+    }
+    Ok(true)
+}
+
+/// Sets, told in the same way.
+pub fn gathered(
+    alloc: Global,
+    items: &NEVec<u32>,
+    call: &Call,
+    text: &mut String,
+) -> Result<bool, AllocError> {
+    let source = items.nonempty_iter().copied();
+    let closure = &call.closure;
+    match call.name {
+        "collect_tree_set" => write!(
+            text,
+            "{:?}",
+            source
+                .map(|x| closure.of(x))
+                .collect::<BTreeSet<u32>>(alloc)?
+        )?,
         "collect_hash_set" => {
             let set: HashSet<u32> = source.map(|x| closure.of(x)).collect(alloc)?;
             write!(

@@ -109,6 +109,7 @@ fn consumed(
             || consumers::parted(alloc, items, call, text)?
             || collected::listed(alloc, items, call, text)?
             || collected::keyed(alloc, items, call, text)?
+            || collected::gathered(alloc, items, call, text)?
             || collected::joined(alloc, items, call, text)?,
     )
 }
@@ -124,7 +125,8 @@ fn chained(
             || chains::alone(alloc, items, call, text)?
             || chains::looked(alloc, items, call, text)?
             || chains::paired(alloc, items, call, text)?
-            || chains::high(alloc, items, call, text)?
+            || chains::flattened(alloc, items, call, text)?
+            || chains::divided(alloc, items, call, text)?
             || runs::read(alloc, items, call, text)?
             || runs::separated(alloc, items, call, text)?,
     )
