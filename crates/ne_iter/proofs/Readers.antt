@@ -9,11 +9,8 @@ use Rattle.std.specs.Iterator.{Yields}
 use Rattle.ne_vec.specs.Divisions.{IsDivision, by_first}
 use Rattle.ne_iter.specs.Calls.{ShownEach}
 use Rattle.ne_iter.specs.Keys.{items_of, same_key}
-use Rattle.ne_iter.specs.OpenRuns.{held_of, ahead_of, IsOne, IsSettled}
 use Rattle.ne_iter.specs.Reader.{StandsAt, HasRead}
 use Rattle.ne_iter.specs.Reading.{Reading, Ahead, Unread, Held, Ended}
-use Rattle.ne_iter.specs.declared.iter.group_by.State.{State}
-use Rattle.ne_iter.specs.declared.iter.group_by.State.TheVariants.{Open as opened}
 
 one_more_is_some : {A : Type 0} (xs : List A) (y : A) → xs ++ y ∷ [] ≢ []
 one_more_is_some [] y = λ e. cc
@@ -131,12 +128,3 @@ held_is_not_over e o = let p = sym e ∙ o in cc
 
 pub unread_is_not_over : {K A : Type 0} {a : Ahead K A} → a ≡ Unread → a ≡ Ended → ⊥
 unread_is_not_over e o = let p = sym e ∙ o in cc
-
--- a settled open run has one item, and that is held
-pub settled_run : {K A : Type 0} (st : State K A) (k : K) (run : List A) → st ≡ opened k run → IsSettled st → (x : A) × (run ≡ x ∷ []) × (ahead_of st ≡ Held k x)
-settled_run st k run e settled = one run (subst IsSettled e settled) (ap ahead_of e)
-  where
-    one : (r : List _) → IsOne r → ahead_of st ≡ held_of k r → (x : _) × (r ≡ x ∷ []) × (ahead_of st ≡ Held k x)
-    one [] i a = absurd i
-    one (x ∷ []) i a = (x, refl, a)
-    one (x ∷ y ∷ r) i a = absurd i

@@ -13,6 +13,6 @@ pub mod Answers
 pub mod Keys
 pub mod Reading
 pub mod Reader
-pub mod OpenRuns
+pub mod HeldItems
 pub mod ReaderLaws
 pub mod Collected

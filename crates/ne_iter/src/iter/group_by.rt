@@ -64,23 +64,22 @@ pub struct GroupBy<I, K, V, F> {
     alloc: Global,
 }
 
-// The run that was begun, with the key of its first item.
+// What is ahead: nothing was drawn yet; one item, with its key, was drawn beyond the runs that were
+// given; or nothing more comes.
 #[derive(Drop)]
 enum State<K, V> {
     Unread,
-    Open(K, NEVec<V>),
+    Held(K, V),
     Ended,
 }
 
 impl<I, K, V, F> Model for GroupBy<I, K, V, F> {
     ghost use Rattle.ne_iter.specs.Reading.{Reading};
-    ghost use Rattle.ne_iter.specs.OpenRuns.{ahead_of, IsSettled};
+    ghost use Rattle.ne_iter.specs.HeldItems.{ahead_of};
 
     ghost Value = { Reading I K V F };
 
     ghost view = { λ g. record { source = g.iter; closure = g.key; ahead = ahead_of g.state } };
-
-    ghost invariant = { λ g. IsSettled g.state };
 }
 
 impl<I: Iterator, K: PartialEq + Drop, F: FnMut(&I::Item) -> K + Drop> Iterator
@@ -98,17 +97,16 @@ where
 
     fn next(&mut self) -> Option<Result<NEVec<I::Item>, AllocError>> {
         laws::one_item_more::<(I::Item, K)>();
-        let (first_key, mut run) = match mem::replace(&mut self.state, State::Ended) {
-            State::Open(key, run) => (key, run),
+        let (first_key, first) = match mem::replace(&mut self.state, State::Ended) {
+            State::Held(key, item) => (key, item),
             State::Unread => {
                 let item = self.iter.next()?;
-                let item_key = (self.key)(&item);
-                let Ok(run) = NEVec::new(self.alloc, item) else {
-                    return Some(Err(AllocError));
-                };
-                (item_key, run)
+                ((self.key)(&item), item)
             }
             State::Ended => return None,
+        };
+        let Ok(mut run) = NEVec::new(self.alloc, first) else {
+            return Some(Err(AllocError));
         };
         while let Some(item) = self.iter.next() {
             let item_key = (self.key)(&item);
@@ -118,10 +116,7 @@ where
                     return Some(Err(AllocError));
                 };
             } else {
-                let Ok(next_run) = NEVec::new(self.alloc, item) else {
-                    return Some(Err(AllocError));
-                };
-                self.state = State::Open(item_key, next_run);
+                self.state = State::Held(item_key, item);
                 return Some(Ok(run));
             }
         }

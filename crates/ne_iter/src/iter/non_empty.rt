@@ -237,9 +237,9 @@ pub trait NonEmptyIterator: IntoIterator {
     /// no item is compared with the one before it. A run is given once the first item of the next one was drawn, or the source has
     /// ended. Nothing further is drawn, so that a reader that is stopped has drawn one item beyond its runs, at most.
     ///
-    /// An `Err` comes in the place of a run where there was no memory for its items, or for the first item of the next one. What was
-    /// drawn and not given is then dropped, the run with it, and nothing comes behind it. `alloc` is where the runs take their memory.
-    /// In the Rust crate the runs are plain vectors.
+    /// A run takes its memory when it is asked for, from `alloc`, and none is taken for the run that comes after it. If there is no
+    /// memory for the items of a run, an `Err` comes in its place. What was drawn and not given is then dropped, and `None` comes
+    /// after it. In the Rust crate the runs are plain vectors.
     final fn group_by<K: PartialEq + Drop, F: FnMut(&Self::Item) -> K + Drop>(
         self,
         alloc: Global,

@@ -5,11 +5,11 @@ use denote.Param.Always.{always_mut, mut_next}
 use Rattle.ne_vec.specs.Divisions.{by_first}
 use Rattle.ne_iter.specs.Keys.{same_key}
 use Rattle.ne_iter.specs.Reading.{Reading, Unread, Held}
-use Rattle.ne_iter.specs.OpenRuns.{ahead_of}
-use Rattle.ne_iter.specs.declared.iter.group_by.State.TheVariants.{Unread as unread, Open as opened}
+use Rattle.ne_iter.specs.HeldItems.{ahead_of}
+use Rattle.ne_iter.specs.declared.iter.group_by.State.TheVariants.{Unread as unread, Held as held}
 use Rattle.ne_iter.specs.Reader.{CanRead, HasRead, runs_left}
-use Rattle.ne_iter.proofs.Readers.{open_held, open_first, open_more, close_held, close_end, held_is_not_over, unread_is_not_over, settled_run}
-use Rattle.ne_iter.proofs.iter.group_by.GroupByItemIterator.next.Goals.{in-Open, in-Unread+in_ok-item-in-Unread+in-Ok}
+use Rattle.ne_iter.proofs.Readers.{open_held, open_first, open_more, close_held, close_end, held_is_not_over, unread_is_not_over}
+use Rattle.ne_iter.proofs.iter.group_by.GroupByItemIterator.next.Goals.{in-Held, in-Unread+in_ok-item-in-Unread}
 use Rattle.ne_iter.proofs.iter.group_by.GroupByItemIterator.next.Goals as goal
 
 pub loop-item-init : goal.loop-item-init
@@ -20,31 +20,31 @@ loop-item-init g c =
     let begun : Reading _ _ _ _ = record { source = at.iter; closure = at.key; ahead = ahead_of at.state } in
     let ready = subst (CanRead g.I.Iterator.can_next left (always_mut g.F.FnMut)) (sym c.self.view_is) c.requires in
     elim c.match-replace.branch [
-      | in-Open w ↦
-          let state : at.state ≡ opened w.in-Open.key w.in-Open.run' = sym c.replace.ensures.value ∙ w.in-Open.is in
-          let held = settled_run at.state w.in-Open.key w.in-Open.run' state c.self.invariant in
-          let e : c.args.self.now.ahead ≡ Held w.in-Open.key held.0 = subst (λ v. v.ahead ≡ Held w.in-Open.key held.0) c.self.view_is held.2 in
-          let can = ready (held_is_not_over held.2) in
-          rw (w.first_key-is, w.self-inside-is, c.replace.ensures.after, held.1) (
-            λ s f rs h. open_held steps g.F.FnMut g.K.PartialEq.eq s f rs begun held.0 w.in-Open.key (subst (HasRead steps g.F.FnMut g.K.PartialEq.eq s f rs) (sym c.self.view_is) h) held.2,
+      | in-Held w ↦
+          let state : at.state ≡ held w.in-Held.key w.in-Held.item = sym c.replace.ensures.value ∙ w.in-Held.is in
+          let there : ahead_of at.state ≡ Held w.in-Held.key w.in-Held.item = ap ahead_of state in
+          let e : c.args.self.now.ahead ≡ Held w.in-Held.key w.in-Held.item = subst (λ v. v.ahead ≡ Held w.in-Held.key w.in-Held.item) c.self.view_is there in
+          let can = ready (held_is_not_over there) in
+          rw (c.in-Ok.ensures, w.first_key-is, w.self-inside-is, c.replace.ensures.after) (
+            λ s f rs h. open_held steps g.F.FnMut g.K.PartialEq.eq s f rs begun w.in-Held.item w.in-Held.key (subst (HasRead steps g.F.FnMut g.K.PartialEq.eq s f rs) (sym c.self.view_is) h) there,
             refl,
             held_is_not_over e,
             can.2,
             can.0,
             can.1,
-            subst (λ v. size (left at.iter) + 1 ≤ size (runs_left left v)) c.self.view_is (rw held.2 (omega arith)),
+            subst (λ v. size (left at.iter) + 1 ≤ size (runs_left left v)) c.self.view_is (rw there (omega arith)),
           )
-      | in-Unread+in_ok-item-in-Unread+in-Ok w ↦
+      | in-Unread+in_ok-item-in-Unread w ↦
           let state : at.state ≡ unread = sym c.replace.ensures.value ∙ w.in-Unread.is in
           let fresh : ahead_of at.state ≡ Unread = ap ahead_of state in
           let e : c.args.self.now.ahead ≡ Unread = subst (λ v. v.ahead ≡ Unread) c.self.view_is fresh in
           let can = ready (unread_is_not_over fresh) in
           let first = w.in_ok-item-in-Unread.ensures in
-          rw (w.first_key-is, w.self-inside-is, c.replace.ensures.after, w.in-Ok.ensures) (
-            λ s f rs h. open_first steps g.F.FnMut g.K.PartialEq.eq s f rs begun _ _ _ _ (subst (HasRead steps g.F.FnMut g.K.PartialEq.eq s f rs) (sym c.self.view_is) h) fresh first.steps (called_at g.F.FnMut w.call_mut-item_key.ensures refl),
+          rw (c.in-Ok.ensures, w.first_key-is, w.self-inside-is, c.replace.ensures.after) (
+            λ s f rs h. open_first steps g.F.FnMut g.K.PartialEq.eq s f rs begun _ _ _ _ (subst (HasRead steps g.F.FnMut g.K.PartialEq.eq s f rs) (sym c.self.view_is) h) fresh first.steps (called_at g.F.FnMut w.call_mut.ensures refl),
             refl,
             unread_is_not_over e,
-            mut_next g.F.FnMut _ _ _ _ _ w.call_mut-item_key.ensures refl can.2,
+            mut_next g.F.FnMut _ _ _ _ _ w.call_mut.ensures refl can.2,
             (first.goes.on can.1).0,
             (first.goes.on can.1).1,
             subst (λ v. size (left w.next.new.self) + 1 ≤ size (runs_left left v)) c.self.view_is (rw fresh (omega (arith, (first.goes.on can.1).2))),
@@ -56,10 +56,10 @@ loop-item-preserved g c =
     let i = c.loop-item.invariant in
     let came = c.in-Some.ensures in
     let eq = g.K.PartialEq.eq in (
-      λ s f rs h. rw c.in-Ok-push.ensures.added (open_more g.I.Iterator.next_gives g.F.FnMut eq s f rs _ _ _ _ _ _ _ _ (c.one_item_more.ensures.goes_on (by_first (same_key eq))) (i.0 s f rs h) came.steps (called_at g.F.FnMut c.call_mut-item_key-in-Some.ensures refl) (subst (λ v. v ≡ true) c.eq-goes_on.ensures c.if-goes_on.true)),
+      λ s f rs h. rw c.in-Ok-push.ensures.added (open_more g.I.Iterator.next_gives g.F.FnMut eq s f rs _ _ _ _ _ _ _ _ (c.one_item_more.ensures.goes_on (by_first (same_key eq))) (i.0 s f rs h) came.steps (called_at g.F.FnMut c.call_mut-item_key.ensures refl) (subst (λ v. v ≡ true) c.eq-goes_on.ensures c.if-goes_on.true)),
       i.1,
       i.2,
-      mut_next g.F.FnMut _ _ _ _ _ c.call_mut-item_key-in-Some.ensures refl i.3,
+      mut_next g.F.FnMut _ _ _ _ _ c.call_mut-item_key.ensures refl i.3,
       (came.goes.on i.5).0,
       (came.goes.on i.5).1,
       omega (arith, (came.goes.on i.5).2, i.6),
@@ -72,7 +72,7 @@ returns-else-goes_on-clause-steps g c =
     let eq = g.K.PartialEq.eq in record {
       over = λ o. absurd (i.2 o);
       stops = tt;
-      reads = λ s f rs h. rw c.in-Ok-new.ensures (close_held g.I.Iterator.next_gives g.F.FnMut eq s f rs _ _ _ _ _ _ _ (c.one_item_more.ensures.breaks (by_first (same_key eq))) (i.0 s f rs h) c.in-Some.ensures.steps (called_at g.F.FnMut c.call_mut-item_key-in-Some.ensures refl) (subst (λ v. v ≡ false) c.eq-goes_on.ensures c.if-goes_on.false) refl);
+      reads = λ s f rs h. close_held g.I.Iterator.next_gives g.F.FnMut eq s f rs _ _ _ _ _ _ _ (c.one_item_more.ensures.breaks (by_first (same_key eq))) (i.0 s f rs h) c.in-Some.ensures.steps (called_at g.F.FnMut c.call_mut-item_key.ensures refl) (subst (λ v. v ≡ false) c.eq-goes_on.ensures c.if-goes_on.false) refl;
     }
 
 -- the source ended
