@@ -32,7 +32,7 @@ module _ {A : Type 0} (goes_on : List A → A → Bool) where
 
   -- ---- it is a division
 
-  run_one : (x : A) → IsRun goes_on (x ∷ [])
+  pub run_one : (x : A) → IsRun goes_on (x ∷ [])
   run_one x = record {
     some = λ e. cc;
     inside = λ front y back ne e. elim front as (λ f. f ≢ [] → x ∷ [] ≡ f ++ y ∷ back → goes_on f y ≡ true) [
@@ -41,7 +41,7 @@ module _ {A : Type 0} (goes_on : List A → A → Bool) where
     ] ne e;
   }
 
-  run_more : (r : List A) (x : A) → IsRun goes_on r → goes_on r x ≡ true → IsRun goes_on (r ++ x ∷ [])
+  pub run_more : (r : List A) (x : A) → IsRun goes_on r → goes_on r x ≡ true → IsRun goes_on (r ++ x ∷ [])
   run_more r x h on = record {
     some = λ e. nil_is_no_append r x [] (sym e);
     inside = λ front y back ne e. elim (split_last r front x y back e) [

@@ -5,3 +5,4 @@ pub mod Kept
 pub mod Chunked
 pub mod Compared
 pub mod MappedRuns
+pub mod FirstRuns

@@ -1,4 +1,5 @@
 pub mod Divisions
+pub mod SliceRuns
 pub mod Kept
 pub mod Chunks
 pub mod Walks

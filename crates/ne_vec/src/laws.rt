@@ -4,8 +4,11 @@ ghost use Rattle.std.specs.List.{AllByRecursion};
 ghost use Rattle.std.specs.Cmp.{IsPartialEquivalence};
 ghost use Rattle.std.specs.Cmp.Lexicographic.{pointwise, slice_cmp};
 ghost use Rattle.std.specs.declared.cmp.Ordering.TheVariants.{Less, Equal};
-ghost use Rattle.ne_vec.specs.Divisions.{IsDivision, by_first, by_previous, joined};
+ghost use Rattle.ne_vec.specs.Divisions.{IsDivision, by_first, by_previous, joined, firsts};
+ghost use Rattle.ne_vec.specs.Kept.{KeepsFirsts};
 ghost use Rattle.ne_vec.specs.Chunks.{chunks};
+ghost use Rattle.ne_vec.specs.SliceRuns.{Cutting, ActsAsAtPair, CutsRun};
+ghost use Rattle.std.specs.Iterator.{Yields};
 
 use crate::{NESlice, NEVec};
 use std::hash::Hash;
@@ -37,6 +40,19 @@ pub fn first_and_previous_agree<T>()
 pub fn converse_has_the_same_division<T>()
     ensures { (same : T → T → Bool) (xs : List T) (rs : List (List T)) → ((x y : T) → same x y ≡ same y x) → IsDivision (by_first same) xs rs → IsDivision (by_first (λ x y. same y x)) xs rs }
 {}
+
+/// Under a key that is a function of the item alone, and leaves the item as it is, the items that
+/// [`NEVec::dedup_by_key`] keeps are the first items of the runs of equal keys. These are the runs
+/// of `group_by` by the same key.
+pub fn dedup_by_key_keeps_the_first_items<T, K: PartialEq>()
+    ensures { (read : T → K) (xs ys : List T) (runs : List (List T))
+        → KeepsFirsts (λ later kept. K.eq (read later) (read kept)) xs ys
+        → IsDivision (by_first (λ x y. K.eq (read x) (read y))) xs runs
+        → ys ≡ firsts runs }
+{
+    has_one_division::<T>();
+    converse_has_the_same_division::<T>();
+}
 
 /// Where a mapped item goes on a mapped run as the item goes on the run, the runs of the mapped list are the mapped runs.
 pub fn mapped_list_has_the_mapped_runs<T, U>()
@@ -73,4 +89,15 @@ pub fn lists_are_in_lexicographic_order<T: Ord>()
     ensures differs { (front v w : List T) (x y : T) → T.cmp x y ≢ Equal → slice_cmp T.cmp (front ++ x ∷ v) (front ++ y ∷ w) ≡ T.cmp x y }
     ensures shorter { (front w : List T) (y : T) → slice_cmp T.cmp front (front ++ y ∷ w) ≡ Less }
     ensures same { (v : List T) → slice_cmp T.cmp v v ≡ Equal }
+{}
+
+/// The runs that were taken from the front of a slice, and then the runs of the items that are
+/// left, are the runs of the slice, if the closure acts as a test of two items. It holds for either
+/// item that a new one is compared with, `by_first` and `by_previous`, and at any moment: once no
+/// item is left, the runs that were taken are all runs of the slice.
+pub fn runs_taken_are_the_first_runs<T, F: Fn(&T, &T) -> bool>()
+    ensures { (place : (T → T → Bool) → List T → T → Bool) (same : T → T → Bool)
+        (s t : Cutting T F) (rs all : List (List T))
+        → ActsAsAtPair F.Fn s.closure same → Yields (CutsRun F.Fn place) s rs t
+        → IsDivision (place same) t.left all → IsDivision (place same) s.left (rs ++ all) }
 {}

@@ -1,11 +1,14 @@
-//! [`NESlice`], a part of a list that is never empty, its chunks, and the walk over it.
+//! [`NESlice`], a part of a list that is never empty, its chunks, its runs, and the walk over it.
 ghost use Rattle.std.specs.Prelude.{◌≡◌, ◌-◌, ◌<◌, ◌↔◌, [], length, false, Some, None, IfSome, slice_get, ⊤};
 ghost use Rattle.std.specs.NonZero.{non_zero_usize_get};
-ghost use Rattle.std.specs.Iterator.{YieldsFirst, item_count};
+ghost use Rattle.std.specs.Iterator.{YieldsFirst, item_count, IsFiniteIterable};
 ghost use Rattle.std.specs.Cmp.Lexicographic.{pointwise, slice_cmp, slice_partial_cmp, lists_equiv, lists_agrees, lists_total, lists_ties, lists_po, lists_per};
 ghost use Rattle.std.specs.Hash as fed;
 ghost use Rattle.std.specs.Hash.{items_Alike};
 
+mod runs;
+
+pub use runs::{AdjacentRuns, AdjacentRunsIter, SliceRuns, SliceRunsIter};
 use std::alloc::AllocError;
 use std::cmp::Ordering;
 use std::convert::AsSlice;
@@ -101,6 +104,54 @@ impl<'a, T> NESlice<'a, T> {
     {
         NEChunks {
             inner: self.inner.chunks(chunk_size.get()),
+        }
+    }
+
+    /// The runs of the items, in order: each further item goes on the run if
+    /// `same(first item of the run, item)` returns `true`, else it begins the next run. No item is
+    /// compared with the one before it; [`adjacent_runs`](Self::adjacent_runs) does that.
+    ///
+    /// Each run is a part of the slice, so that nothing is copied and no memory is taken. The runs
+    /// are the one division of the items, for any `same` that depends on the two items alone,
+    /// reflexive and transitive or not. Under any other the parts still make up the slice, one
+    /// after another, and none is empty.
+    ///
+    /// It is ours: the Rust crate has no such call, and std's `chunk_by` compares neighbours.
+    ///
+    /// With `|a, b| a.abs_diff(*b) < 2` the runs of 1, 2 and 3 are `[1, 2]` and `[3]`.
+    pub fn runs_by<F: Fn(&T, &T) -> bool>(&'a self, same: F) -> SliceRuns<'a, T, F>
+        ensures holds { result ≡ record { left = self.now; closure = same } }
+        ensures ends { F.IsAlwaysCallable same
+            → IsFiniteIterable (⟦<SliceRuns<'a, T, F> as IntoIterator>⟧.into_iter_gives)
+            (⟦<SliceRunsIter<'a, T, F> as Iterator>⟧.can_next)
+            (⟦<SliceRunsIter<'a, T, F> as Iterator>⟧.remaining) result }
+    {
+        SliceRuns {
+            items: self.inner,
+            same,
+        }
+    }
+
+    /// The runs of the items, in order: each further item goes on the run if
+    /// `same(item before it, item)` returns `true`, else it begins the next run.
+    ///
+    /// Each run is a part of the slice, so that nothing is copied and no memory is taken. The runs
+    /// are the one division of the items, for any `same` that depends on the two items alone. If
+    /// `same` is symmetric and transitive, [`runs_by`](Self::runs_by) gives the same runs.
+    ///
+    /// It is ours: it does what `chunk_by` of std's slices does, and stays non-empty.
+    ///
+    /// With `|a, b| a.abs_diff(*b) < 2` the numbers 1, 2 and 3 are one run.
+    pub fn adjacent_runs<F: Fn(&T, &T) -> bool>(&'a self, same: F) -> AdjacentRuns<'a, T, F>
+        ensures holds { result ≡ record { left = self.now; closure = same } }
+        ensures ends { F.IsAlwaysCallable same
+            → IsFiniteIterable (⟦<AdjacentRuns<'a, T, F> as IntoIterator>⟧.into_iter_gives)
+            (⟦<AdjacentRunsIter<'a, T, F> as Iterator>⟧.can_next)
+            (⟦<AdjacentRunsIter<'a, T, F> as Iterator>⟧.remaining) result }
+    {
+        AdjacentRuns {
+            items: self.inner,
+            same,
         }
     }
 }

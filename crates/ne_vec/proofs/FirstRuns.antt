@@ -1,0 +1,137 @@
+-- The first run of a list, found item by item, and the division that such runs make.
+use Rattle.std.proofs.Common.{
+  ◌≡◌,
+  ◌≢◌,
+  ℕ,
+  zero,
+  suc,
+  ◌+◌,
+  ◌-◌,
+  ◌<◌,
+  ◌≤◌,
+  Bool,
+  true,
+  false,
+  List,
+  [],
+  ◌∷◌,
+  ◌++◌,
+  length,
+  take,
+  drop,
+  refl,
+  sym,
+  ap,
+  subst,
+  ◌∙◌,
+  arith,
+}
+use Rattle.std.proofs.lemmas.List.{drop_all}
+use Rattle.std.specs.Prelude.{Some, slice_get}
+use Rattle.std.specs.Borrow.{Bor}
+use Rattle.std.specs.Fn.{Shared}
+use Rattle.std.specs.Iterator.{Yields}
+use Rattle.ne_vec.specs.Divisions.{Neighbours, IsRun, Breaks, IsDivision, by_first, by_previous}
+use Rattle.ne_vec.specs.SliceRuns.{Cutting, ActsAsAtPair, CutsRun, IsFirstRun}
+use Rattle.ne_vec.proofs.Divisions.{run_one, run_more}
+
+-- the item at place n ends the first n + 1 items
+take_one_more : {A : Type 0} (xs : List A) (n : ℕ) (x : A)
+    → slice_get xs n ≡ Some x → take (suc n) xs ≡ take n xs ++ x ∷ []
+take_one_more [] n x e = let e = e in cc
+take_one_more (y ∷ xs) zero x e = let e = e in cc
+take_one_more (y ∷ xs) (suc n) x e = ap (λ l. y ∷ l) (take_one_more xs n x e)
+
+-- and begins the others
+drop_at : {A : Type 0} (xs : List A) (n : ℕ) (x : A)
+    → slice_get xs n ≡ Some x → (rest : List A) × (drop n xs ≡ x ∷ rest)
+drop_at [] n x e = let e = e in cc
+drop_at (y ∷ xs) zero x e = (xs, let e = e in cc)
+drop_at (y ∷ xs) (suc n) x e = drop_at xs n x e
+
+pub front_is_some : {A : Type 0} (xs : List A) (n : ℕ) → 0 < n → n ≤ length xs → take n xs ≢ []
+front_is_some xs zero some within = absurd (omega (arith, some))
+front_is_some [] (suc n) some within = absurd (omega (arith, within))
+front_is_some (x ∷ xs) (suc n) some within = λ e. cc
+
+module _ {A : Type 0} (goes_on : List A → A → Bool) where
+  pub run_of_one : (xs : List A) → 0 < length xs → IsRun goes_on (take 1 xs)
+  run_of_one [] some = absurd (omega (arith, some))
+  run_of_one (x ∷ xs) some = run_one goes_on x
+
+  -- the item at place n goes on the run of those before it
+  pub longer_run : (xs : List A) (n : ℕ) (x : A) → slice_get xs n ≡ Some x
+      → IsRun goes_on (take n xs) → goes_on (take n xs) x ≡ true → IsRun goes_on (take (n + 1) xs)
+  longer_run xs n x e run on =
+      let one_more : n + 1 ≡ suc n = omega arith in
+      subst (λ k. IsRun goes_on (take k xs)) (sym one_more)
+      (subst (IsRun goes_on) (sym (take_one_more xs n x e))
+      (run_more goes_on (take n xs) x run on))
+
+  -- it does not
+  pub run_breaks : (xs : List A) (n : ℕ) (x : A) → slice_get xs n ≡ Some x
+      → IsRun goes_on (take n xs) → goes_on (take n xs) x ≡ false → IsFirstRun goes_on xs n
+  run_breaks xs n x e run off =
+      let rest = drop_at xs n x e in
+      (run, subst (Breaks goes_on (take n xs)) (sym rest.1) off)
+
+  -- there is none
+  pub run_is_all : (xs : List A) (n : ℕ)
+      → length xs ≤ n → IsRun goes_on (take n xs) → IsFirstRun goes_on xs n
+  run_is_all xs n e run = (run, subst (Breaks goes_on (take n xs)) (sym (drop_all n xs e)) tt)
+
+-- Whether an item goes on the first n items is asked of the first of them, or of the last.
+module _ {A : Type 0} (same : A → A → Bool) where
+  pub by_first-take : (xs : List A) (n : ℕ) (first x : A)
+      → 0 < n → slice_get xs 0 ≡ Some first → by_first same (take n xs) x ≡ same first x
+  by_first-take xs zero first x some e = absurd (omega (arith, some))
+  by_first-take [] (suc n) first x some e = let e = e in cc
+  by_first-take (y ∷ xs) (suc n) first x some e = let e = e in cc
+
+  by_previous-last : (r : List A) (last x : A) → by_previous same (r ++ last ∷ []) x ≡ same last x
+  by_previous-last [] last x = refl
+  by_previous-last (a ∷ []) last x = refl
+  by_previous-last (a ∷ b ∷ r) last x = by_previous-last (b ∷ r) last x
+
+  pub by_previous-take : (xs : List A) (n : ℕ) (last x : A)
+      → 0 < n → slice_get xs (n - 1) ≡ Some last → by_previous same (take n xs) x ≡ same last x
+  by_previous-take xs zero last x some e = absurd (omega (arith, some))
+  by_previous-take xs (suc n) last x some e =
+      let before : suc n - 1 ≡ n = omega arith in
+      let here : slice_get xs n ≡ Some last = subst (λ k. slice_get xs k ≡ Some last) before e in
+      ap (λ r. by_previous same r x) (take_one_more xs n last here)
+      ∙ by_previous-last (take n xs) last x
+
+module _ {A : Type 0} (goes_on : List A → A → Bool) where
+  breaks_before : (run rest : List A) (all : List (List A)) → Breaks goes_on run rest
+      → IsDivision goes_on rest all → Neighbours (Breaks goes_on) (run ∷ all)
+  breaks_before run rest [] breaks d = tt
+  breaks_before run rest ([] ∷ all) breaks d = absurd (d.runs.0.some refl)
+  breaks_before run rest ((x ∷ r) ∷ all) breaks d =
+      (subst (Breaks goes_on run) (sym d.whole) breaks, d.breaks)
+
+  -- a run, and the division of the items after it
+  run_before : (xs run rest : List A) (all : List (List A)) → xs ≡ run ++ rest
+      → IsRun goes_on run → Breaks goes_on run rest
+      → IsDivision goes_on rest all → IsDivision goes_on xs (run ∷ all)
+  run_before xs run rest all e is breaks d = record {
+    whole = ap (λ l. run ++ l) d.whole ∙ sym e;
+    runs = (is, d.runs);
+    breaks = breaks_before run rest all breaks d;
+  }
+
+-- the runs that came, and the division of what is left then
+pub runs_before : {A F : Type 0} (calls : Shared F (Bor A × (Bor A × Unit {0})) Bool)
+    (place : (A → A → Bool) → List A → A → Bool) (same : A → A → Bool)
+    (s t : Cutting A F) (rs all : List (List A))
+    → ActsAsAtPair calls s.closure same → Yields (CutsRun calls place) s rs t
+    → IsDivision (place same) t.left all → IsDivision (place same) s.left (rs ++ all)
+runs_before calls place same s t [] all acts yields d =
+    subst (λ q. IsDivision (place same) q.left all) (sym yields) d
+runs_before calls place same s t (run ∷ rs) all acts yields d =
+    let next = yields.0 in
+    let step = yields.1 in
+    let cut = step.1.2 same acts in
+    let still = subst (λ f. ActsAsAtPair calls f same) (sym step.0) acts in
+    run_before (place same) s.left run next.left (rs ++ all) step.1.0 cut.0 cut.1
+    (runs_before calls place same next t rs all still yields.2 d)

@@ -1,0 +1,31 @@
+-- The runs of a slice, taken one after another from its front, as a closure compares the items.
+use Rattle.std.specs.Prelude.{◌≡◌, ◌≢◌, ℕ, Bool, List, [], ◌++◌, take, drop, Option, MatchOption}
+use Rattle.std.specs.Borrow.{Bor}
+use Rattle.std.specs.Fn.{Shared, FnReturnsAtPair}
+use Rattle.ne_vec.specs.Divisions.{IsRun, Breaks}
+
+-- the first n items of xs are its first run
+abbrev pub IsFirstRun : {A : Type 0} → (List A → A → Bool) → List A → ℕ → Type 0
+IsFirstRun goes_on xs n = IsRun goes_on (take n xs) × Breaks goes_on (take n xs) (drop n xs)
+
+-- The items that are left to be divided, and the closure that compares two of them.
+pub record Cutting (A F : Type 0) : Type 0 where
+  pub left : List A
+  pub closure : F
+
+module _ {A F : Type 0} (calls : Shared F (Bor A × (Bor A × Unit {0})) Bool) where
+  -- each call of f at references to x and y returns same x y
+  abbrev pub ActsAsAtPair : F → (A → A → Bool) → Type 0
+  ActsAsAtPair f same = (x y : A) (r : Bool) → FnReturnsAtPair calls f x y r → r ≡ same x y
+
+  -- One call of `next` takes a run from the front of the items that are left, or returns `None` if
+  -- none is left. What comes is not empty; and if the closure acts as a test of two items, then it
+  -- is a run and breaks where the rest begins. `place` is `by_first` or `by_previous`: it makes of
+  -- the test whether an item goes on a run.
+  abbrev pub CutsRun : ((A → A → Bool) → List A → A → Bool)
+      → Cutting A F → Option (List A) → Cutting A F → Type 0
+  CutsRun place s r t = (t.closure ≡ s.closure) × MatchOption r
+      ((s.left ≡ []) × (t.left ≡ []))
+      (λ run. (s.left ≡ run ++ t.left) × (run ≢ [])
+      × ((same : A → A → Bool) → ActsAsAtPair s.closure same
+      → IsRun (place same) run × Breaks (place same) run t.left))
