@@ -1,4 +1,5 @@
 pub mod Runs
+pub mod ScannedRuns
 pub mod CopiedRuns
 pub mod FlatRuns
 pub mod PeekedRuns
@@ -15,4 +16,5 @@ pub mod Best
 pub mod Readers
 pub mod Grouped
 pub mod Divided
+pub mod SliceDivisions
 pub mod Collects

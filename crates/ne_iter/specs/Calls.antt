@@ -2,9 +2,9 @@
 -- it as it may be at the next.
 use Rattle.std.specs.Prelude.{◌≡◌, List, [], ◌∷◌}
 use Rattle.std.specs.Iterator.{FoldTurn}
-use Rattle.std.specs.Fn.{Called, CalledAt, Mut}
+use Rattle.std.specs.Fn.{Called, CalledAt, CalledWithState, Mut}
 use Rattle.std.specs.List.{FoldsTo}
-use Rattle.std.specs.Borrow.{Bor}
+use Rattle.std.specs.Borrow.{Bor, MutBor}
 
 -- f, called on the items of xs, may answer ys, and then stands as g.
 abbrev pub Calls : {F A B : Type 0} → Mut F (A × Unit {0}) B → F → List A → List B → F → Type 0
@@ -28,3 +28,23 @@ AnswersEachAt calls y f xs g = FoldsTo (λ p x q. CalledAt calls p x y q) f xs g
 -- f, called on the total so far and the next item of xs, may take the total from init to r, and then stands as g.
 abbrev pub Folds : {F A B : Type 0} → Mut F (B × (A × Unit {0})) B → F → B → List A → B → F → Type 0
 Folds {F = F} {B = B} calls f init xs r g = FoldsTo {P = F × B} (FoldTurn calls) (f, init) xs (g, r)
+
+-- The same of a closure that is lent a state: f, lent the state s at the first call and at each
+-- later one as the call before left it, may return ys, and then stands as g and leaves the state t.
+abbrev pub CallsWithState : {F S A B : Type 0}
+    → Mut F (MutBor S × (A × Unit {0})) (B × (MutBor S × Unit {0}))
+    → F → S → List A → List B → F → S → Type 0
+CallsWithState calls f s [] [] g t = (f ≡ g) × (s ≡ t)
+CallsWithState calls f s [] (y ∷ ys) g t = ⊥
+CallsWithState calls f s (x ∷ xs) [] g t = ⊥
+CallsWithState {F} {S} calls f s (x ∷ xs) (y ∷ ys) g t =
+    (h : F) × (u : S) × CalledWithState calls f s x y h u × CallsWithState calls h u xs ys g t
+
+-- Each call of f, lent the state s, on x returns out s x, and leaves the state next s x and f as it
+-- was.
+abbrev pub ActsAsWithState : {F S A B : Type 0}
+    → Mut F (MutBor S × (A × Unit {0})) (B × (MutBor S × Unit {0}))
+    → F → (S → A → S) → (S → A → B) → Type 0
+ActsAsWithState {F} {S} {A} {B} calls f next out =
+    (s : S) (x : A) (y : B) (g : F) (t : S) → CalledWithState calls f s x y g t
+    → (g ≡ f) × (t ≡ next s x) × (y ≡ out s x)

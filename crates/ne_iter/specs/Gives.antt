@@ -4,10 +4,10 @@
 use Rattle.std.specs.Prelude.{◌≡◌, ◌≢◌, ℕ, ◌≤◌, Bool, true, false, ◌||◌, ◌&&◌, ltb, List, [], ◌∷◌, ◌++◌, length, zip, ⊤, Option, None, Some, MatchOption, Result, Ok, Err, is_ok, map, IsTrue, drop, filter, filter_map}
 use Rattle.std.specs.List.{AllZip, enumerate_from, list_all}
 use Rattle.std.specs.Fn.{Mut, CalledAt}
-use Rattle.std.specs.Borrow.{Bor}
+use Rattle.std.specs.Borrow.{Bor, MutBor}
 use Rattle.std.proofs.Common.{◌⊎◌}
 use Rattle.ne_vec.specs.Divisions.{joined}
-use Rattle.ne_iter.specs.Calls.{Calls, ShownEach, AnswersEachAt}
+use Rattle.ne_iter.specs.Calls.{Calls, CallsWithState, ShownEach, AnswersEachAt}
 use Rattle.ne_iter.specs.Keys.{items_of, DividesByKey}
 use Rattle.ne_iter.specs.Interspersed.{Interspersed}
 
@@ -89,6 +89,23 @@ module _ {U V A : Type 0} (reads : Bool → U → List A → Type 0) where
   FlatMapGives {W} {B} {F} inner flat calls source f result = (whole : Bool) (zs : List B) → flat whole result zs
       → (xs : List A) × (us : List W) × (yss : List (List B)) × (g : F)
       × reads whole source xs × Calls calls f xs us g × ReadsEach inner whole us yss × (zs ≡ joined yss)
+
+  -- `flatten`: the lists of the source's items, one after the other. `inner` is what an item reads,
+  -- which is a source itself.
+  abbrev pub FlattenGives : {B : Type 0} → (Bool → A → List B → Type 0)
+      → (Bool → V → List B → Type 0) → U → V → Type 0
+  FlattenGives {B} inner flat source result = (whole : Bool) (zs : List B) → flat whole result zs
+      → (us : List A) × (yss : List (List B))
+      × reads whole source us × ReadsEach inner whole us yss × (zs ≡ joined yss)
+
+  -- `scan`: the answers of f, called on the source's items in order. It is lent a state: init at
+  -- the first call, and at each later one as the call before left it.
+  abbrev pub ScanGives : {S B F : Type 0} → (Bool → V → List B → Type 0)
+      → Mut F (MutBor S × (A × Unit {0})) (B × (MutBor S × Unit {0})) → U → S → F → V → Type 0
+  ScanGives {S} {B} {F} scanned calls source init f result =
+      (whole : Bool) (ys : List B) → scanned whole result ys
+      → (xs : List A) × (g : F) × (last : S)
+      × reads whole source xs × CallsWithState calls f init xs ys g last
 
   -- `intersperse`: the items, each in `Ok`, with what came of cloning the separator between each two. What came so far is a front of
   -- that, and what came to the end is all of it; the source had then ended too, where no clone was refused.

@@ -3,6 +3,7 @@ pub mod SourceLaws
 pub mod Walks
 pub mod Calls
 pub mod Parts
+pub mod Scanned
 pub mod Interspersed
 pub mod Gives
 pub mod Peeks

@@ -14,6 +14,8 @@ use Rattle.ne_iter.specs.declared.iter.copies.Cloned.{Cloned}
 use Rattle.ne_iter.specs.declared.iter.copies.ClonedIter.{ClonedIter}
 use Rattle.ne_iter.specs.declared.iter.copies.Copied.{Copied}
 use Rattle.ne_iter.specs.declared.iter.flat.FlatMap.{FlatMap}
+use Rattle.ne_iter.specs.declared.iter.flat.Flatten.{Flatten}
+use Rattle.ne_iter.specs.declared.iter.scan.Scan.{Scan}
 use Rattle.ne_iter.specs.declared.iter.group_by.NEGroupBy.{NEGroupBy}
 use Rattle.ne_iter.specs.declared.iter.intersperse.Intersperse.{Intersperse}
 
@@ -73,6 +75,20 @@ source_of_flat_map s = s.iter
 
 abbrev pub closure_of_flat_map : {I U F : Type 0} → FlatMap I U F → F
 closure_of_flat_map s = s.f
+
+-- the source of a `Flatten`
+abbrev pub source_of_flatten : {I : Type 0} → Flatten I → I
+source_of_flatten s = s.iter
+
+-- the source of a `Scan`, the state that it begins with, and its closure
+abbrev pub source_of_scan : {I S F : Type 0} → Scan I S F → I
+source_of_scan s = s.iter
+
+abbrev pub init_of_scan : {I S F : Type 0} → Scan I S F → S
+init_of_scan s = s.init
+
+abbrev pub closure_of_scan : {I S F : Type 0} → Scan I S F → F
+closure_of_scan s = s.f
 
 -- the source and the closure of a `NEGroupBy`
 abbrev pub source_of_group_by : {I F : Type 0} → NEGroupBy I F → I

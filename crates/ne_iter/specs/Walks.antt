@@ -1,6 +1,8 @@
 -- The walks over what has an item answer an item first.
 use Rattle.std.proofs.Common.{arith, ap}
-use Rattle.std.specs.Prelude.{◌≡◌, ◌<◌, List, length}
+use Rattle.std.specs.Prelude.{◌≡◌, ◌<◌, Bool, List, length}
+use Rattle.std.specs.Borrow.{Bor}
+use Rattle.std.specs.Fn.{Shared}
 use Rattle.std.specs.Slice.Iter.{iter_steps, iter_mut_steps, iter_mut_rest}
 use Rattle.std.specs.Vec.Iter.{into_iter_steps}
 use Rattle.std.specs.Iterator.{YieldsFirst}
@@ -8,6 +10,7 @@ use Rattle.std.specs.declared.slice.Iter.{Iter}
 use Rattle.std.specs.declared.slice.IterMut.{IterMut}
 use Rattle.std.specs.declared.vec.IntoIter.{IntoIter}
 use Rattle.ne_vec.specs.Walks.{Walks, WalksOut}
+use Rattle.ne_vec.specs.SliceRuns.{Cutting, CutsRun}
 use Rattle.ne_iter.specs.Sources.{HasFirst}
 
 pub HasFirst-walk : {X : Type 0} (xs : List X) (it : Iter X) → Walks xs it → HasFirst iter_steps it
@@ -21,3 +24,9 @@ HasFirst-walk_out xs it made t ended = omega (arith, made.0, made.2, ended.0)
 
 pub HasFirst-chunks : {X : Type 0} (c it : List X) → (0 < length c) × (it ≡ c) → HasFirst (YieldsFirst (λ s. s)) it
 HasFirst-chunks c it made t ended = omega (arith, made.0, ap length made.1, ap length ended.0)
+
+pub HasFirst-cuts : {X F : Type 0} (calls : Shared F (Bor X × (Bor X × Unit {0})) Bool)
+    (place : (X → X → Bool) → List X → X → Bool) (c it : Cutting X F)
+    → (0 < length c.left) × (it ≡ c) → HasFirst (CutsRun calls place) it
+HasFirst-cuts calls place c it made t ended =
+    omega (arith, made.0, ap (λ q. length q.left) made.1, ap length ended.1.0)

@@ -12,16 +12,18 @@ mod intersperse;
 mod looked;
 mod non_empty;
 mod peek;
+mod scan;
 mod sources;
 
 pub use adapters::{Chain, Enumerate, Map, Once, Take, Zip};
 pub use copies::{Cloned, ClonedIter, Copied};
-pub use flat::FlatMap;
+pub use flat::{FlatMap, Flatten};
 pub use group_by::{GroupBy, NEGroupBy};
 pub use intersperse::{Intersperse, RawIntersperse};
 pub use looked::{IntoIteratorExt, LooksAhead, NonEmptyIterAdapter};
 pub use non_empty::NonEmptyIterator;
 pub use peek::Peekable;
+pub use scan::{Scan, ScanIter};
 pub use sources::{FromNonEmptyIterator, IntoNonEmptyIterator, Source};
 
 /// The source of one item.

@@ -3,9 +3,10 @@ ghost use Rattle.std.specs.Prelude.{◌≡◌, ◌≢◌, ◌<◌, true, Bool, L
 ghost use Rattle.std.specs.Global.{Global};
 ghost use Rattle.std.specs.Borrow.{Bor};
 ghost use Rattle.std.specs.Iterator.{ActsAs, ActsAsAt, Drains};
-ghost use Rattle.std.specs.List.{AllByRecursion, FoldsTo, list_all};
-ghost use Rattle.ne_vec.specs.Divisions.{IsDivision, by_first, joined};
-ghost use Rattle.ne_iter.specs.Calls.{Calls, ShownEach};
+ghost use Rattle.std.specs.List.{AllByRecursion, FoldsTo, list_all, scan};
+ghost use Rattle.ne_vec.specs.Divisions.{IsDivision, by_first, by_previous, joined};
+ghost use Rattle.ne_vec.specs.SliceRuns.{Cutting, ActsAsAtPair};
+ghost use Rattle.ne_iter.specs.Calls.{Calls, CallsWithState, ActsAsWithState, ShownEach};
 ghost use Rattle.ne_iter.specs.Keys.{items_of, DividesByKey};
 ghost use Rattle.ne_iter.specs.Reader.{IsOver, HasRead, GivesRun, AnswersOn};
 ghost use Rattle.ne_iter.specs.Reading.{Reading, Unread};
@@ -37,6 +38,15 @@ pub fn lists_stay_the_same<S: IntoNonEmptyIterator>()
 /// A closure that acts as a function answers the function's values, and stays as it is.
 pub fn calls_of_a_function<A, B, F: FnMut(A) -> B>(f: &F)
     ensures { (h : A → B) (xs : List A) (ys : List B) (g : F) → ActsAs F.FnMut f.now h → Calls F.FnMut f.now xs ys g → (ys ≡ map h xs) × (g ≡ f.now) }
+{}
+
+/// A closure that is lent a state, and acts as a function of the state and the item, gives what
+/// std's `scan` of lists gives of these functions, and stays as it is.
+pub fn scans_of_a_function<St, A, B, F: FnMut(&mut St, A) -> B>(f: &F)
+    ensures { (next : St → A → St) (out : St → A → B) (init last : St)
+        (xs : List A) (ys : List B) (g : F)
+        → ActsAsWithState F.FnMut f.now next out → CallsWithState F.FnMut f.now init xs ys g last
+        → (ys ≡ scan next out init xs) × (g ≡ f.now) }
 {}
 
 /// The items xs with separators: where no clone was refused, one less than twice as many; item i at place 2i, in `Ok`, what came of a
@@ -150,4 +160,20 @@ pub fn runs_by_a_function<T, K, F: FnMut(&T) -> K>(f: &F)
     laws::has_one_division::<(T, K)>();
     laws::has_one_division::<T>();
     laws::mapped_list_has_the_mapped_runs::<T, (T, K)>();
+}
+
+/// The runs of a slice are its one division under the test that the closure acts as: by the first
+/// item of a run for `runs_by`, and by the previous item for `adjacent_runs`.
+pub fn slice_runs_are_the_division<'a, T: 'a, F: Fn(&T, &T) -> bool>()
+    ensures by_first { (s : Cutting T F) (same : T → T → Bool)
+        → ActsAsAtPair F.Fn s.closure same
+        → (rs : List (List T)) × IsDivision (by_first same) s.left rs
+        × GivesList (⟦<slice::SliceRuns<'a, T, F> as Source>⟧.reads) s rs }
+    ensures by_previous { (s : Cutting T F) (same : T → T → Bool)
+        → ActsAsAtPair F.Fn s.closure same
+        → (rs : List (List T)) × IsDivision (by_previous same) s.left rs
+        × GivesList (⟦<slice::AdjacentRuns<'a, T, F> as Source>⟧.reads) s rs }
+{
+    laws::has_one_division::<T>();
+    laws::runs_taken_are_the_first_runs::<T, F>();
 }

@@ -48,3 +48,17 @@ impl<'a, T> NonEmptyIterator for slice::NEChunks<'a, T> {
 
     ghost not_empty = { λ s it made. HasFirst-chunks s it made };
 }
+
+impl<'a, T, F: Fn(&T, &T) -> bool> NonEmptyIterator for slice::SliceRuns<'a, T, F> {
+    ghost use Rattle.ne_vec.specs.Divisions.{by_first};
+    ghost use Rattle.ne_iter.specs.Walks.{HasFirst-cuts};
+
+    ghost not_empty = { λ s it made. HasFirst-cuts F.Fn by_first s it made };
+}
+
+impl<'a, T, F: Fn(&T, &T) -> bool> NonEmptyIterator for slice::AdjacentRuns<'a, T, F> {
+    ghost use Rattle.ne_vec.specs.Divisions.{by_previous};
+    ghost use Rattle.ne_iter.specs.Walks.{HasFirst-cuts};
+
+    ghost not_empty = { λ s it made. HasFirst-cuts F.Fn by_previous s it made };
+}

@@ -1,4 +1,5 @@
-//! The adapter whose closure answers a source for each item.
+//! The adapters that give the items of inner sources, one source after another: of a closure's
+//! answers, or of the items themselves.
 
 use super::{IntoNonEmptyIterator, NonEmptyIterator};
 use std::iter;
@@ -36,4 +37,42 @@ impl<U: IntoNonEmptyIterator, I: NonEmptyIterator, F: FnMut(I::Item) -> U> NonEm
     ghost use Rattle.ne_iter.specs.SourceLaws.{HasFirst-flatten, IsNonEmpty-into};
 
     ghost not_empty = { λ s it made. HasFirst-flatten (⟦<iter::Map<I::IntoIter, F> as Iterator>⟧.next_gives) U.into_iter_gives U.IntoIter.next_gives it made.2 made.4 (λ t ended. I.not_empty (source_of_flat_map s) (map_source (flatten_source it)) made.0 (map_source t) ended.0) (IsNonEmpty-into U.into_iter_gives U.IntoIter.next_gives U.into_nonempty_iter_gives U.IntoNEIter.into_iter_gives U.IntoNEIter.IntoIter.next_gives U.same_lists U.IntoNEIter.not_empty) };
+}
+
+/// The items of a source's items, which are sources: see [`NonEmptyIterator::flatten`].
+#[derive(Drop)]
+pub struct Flatten<I> {
+    pub(super) iter: I,
+}
+
+impl<U: IntoNonEmptyIterator, I: NonEmptyIterator<Item = U>> IntoIterator for Flatten<I> {
+    ghost use Rattle.std.specs.Prelude.{◌≡◌, None, false};
+    ghost use Rattle.std.specs.Iterator.Adapters.{flatten_source, flatten_front};
+    ghost use Rattle.std.specs.Iterator.Adapters.{flatten_back, flatten_done};
+    ghost use Rattle.ne_iter.specs.Parts.{source_of_flatten};
+
+    type Item = U::Item;
+
+    type IntoIter = iter::Flatten<I::IntoIter, U::IntoIter>;
+
+    ghost into_iter_gives = { λ s it. I.into_iter_gives (source_of_flatten s) (flatten_source it)
+        × (flatten_front it ≡ None) × (flatten_back it ≡ None) × (flatten_done it ≡ false) };
+
+    fn into_iter(self) -> iter::Flatten<I::IntoIter, U::IntoIter> {
+        self.iter.into_iter().flatten()
+    }
+}
+
+impl<U: IntoNonEmptyIterator, I: NonEmptyIterator<Item = U>> NonEmptyIterator for Flatten<I> {
+    ghost use Rattle.std.specs.Iterator.Adapters.{flatten_source};
+    ghost use Rattle.ne_iter.specs.Parts.{source_of_flatten};
+    ghost use Rattle.ne_iter.specs.SourceLaws.{HasFirst-flatten, IsNonEmpty-into};
+
+    ghost not_empty = { λ s it made.
+        HasFirst-flatten I.IntoIter.next_gives U.into_iter_gives U.IntoIter.next_gives it
+        made.1 made.3
+        (I.not_empty (source_of_flatten s) (flatten_source it) made.0)
+        (IsNonEmpty-into U.into_iter_gives U.IntoIter.next_gives U.into_nonempty_iter_gives
+        U.IntoNEIter.into_iter_gives U.IntoNEIter.IntoIter.next_gives
+        U.same_lists U.IntoNEIter.not_empty) };
 }

@@ -8,15 +8,15 @@ ghost use Rattle.std.specs.List.Sorted.{IsSortedByKeyClosure, IsStableByKeyClosu
 ghost use Rattle.ne_iter.specs.Sources.{IsNonEmpty, FirstAndRest};
 ghost use Rattle.ne_iter.specs.Calls.{ShownEach};
 ghost use Rattle.ne_iter.specs.Clones.{TriesClone};
-ghost use Rattle.ne_iter.specs.Parts.{source_of_map, closure_of_map, source_of_enumerate, source_of_take, count_of_take, first_of_chain, second_of_chain, first_of_zip, second_of_zip, source_of_cloned, source_of_copied, source_of_flat_map, closure_of_flat_map, source_of_group_by, closure_of_group_by, first_of_intersperse, rest_of_intersperse, separator_of_intersperse};
-ghost use Rattle.ne_iter.specs.Gives.{MapGives, EnumerateGives, TakeGives, ChainGives, ZipGives, FlatMapGives, GroupByGives, GroupByStops, CopiedGives, ClonedGives, FilterGives, FilterMapGives, SkipGives, SkipWhileGives, TakeWhileGives, IntersperseGives};
+ghost use Rattle.ne_iter.specs.Parts.{source_of_map, closure_of_map, source_of_enumerate, source_of_take, count_of_take, first_of_chain, second_of_chain, first_of_zip, second_of_zip, source_of_cloned, source_of_copied, source_of_flat_map, closure_of_flat_map, source_of_flatten, source_of_scan, init_of_scan, closure_of_scan, source_of_group_by, closure_of_group_by, first_of_intersperse, rest_of_intersperse, separator_of_intersperse};
+ghost use Rattle.ne_iter.specs.Gives.{MapGives, EnumerateGives, TakeGives, ChainGives, ZipGives, FlatMapGives, FlattenGives, ScanGives, GroupByGives, GroupByStops, CopiedGives, ClonedGives, FilterGives, FilterMapGives, SkipGives, SkipWhileGives, TakeWhileGives, IntersperseGives};
 ghost use Rattle.ne_iter.specs.Peeks.{peekable_first, peekable_rest, PeekableGives};
 ghost use Rattle.ne_iter.specs.Answers.{TellsAll, TellsAny, FindsFirst, GivesNth, FoldsAll, ReducesAll, IsFirstGreatest, IsFirstLeast, PicksGreatest, PicksLeast, CallableOnTwo, less_by};
 
 use super::sources::{FromNonEmptyIterator, IntoNonEmptyIterator, Source};
 use super::{
-    Chain, Cloned, Copied, Enumerate, FlatMap, GroupBy, Intersperse, Map, NEGroupBy, Peekable,
-    Take, Zip,
+    Chain, Cloned, Copied, Enumerate, FlatMap, Flatten, GroupBy, Intersperse, Map, NEGroupBy,
+    Peekable, Scan, ScanIter, Take, Zip,
 };
 use ne_vec::{NEVec, Singleton, vector};
 use std::alloc::{AllocError, Global};
@@ -217,6 +217,24 @@ pub trait NonEmptyIterator: IntoIterator {
             f,
             of: PhantomData,
         }
+    }
+
+    /// The items of the source's items, each of which is itself a source with at least one item,
+    /// one after another.
+    ///
+    /// It takes no memory of its own, and draws an inner source when the one before it has ended.
+    /// It is ours, after std's `flatten`: it stays non-empty.
+    ///
+    /// `[[1, 2], [3]]` flattened is 1, 2 and 3.
+    final fn flatten(self) -> Flatten<Self>
+    where
+        Self: Sized,
+        Self::Item: IntoNonEmptyIterator,
+        ensures holds { source_of_flatten result ≡ self }
+        ensures gives { FlattenGives (⟦<Self as Source>⟧.reads) (⟦<Self::Item as Source>⟧.reads)
+            (⟦<Flatten<Self> as Source>⟧.reads) self result }
+    {
+        Flatten { iter: self }
     }
 
     /// The total: `init`, to which `f` adds each item.
@@ -451,6 +469,39 @@ pub trait NonEmptyIterator: IntoIterator {
         ensures { GivesNth (⟦<Self as Source>⟧.reads) self n result }
     {
         self.into_iter().nth(n)
+    }
+
+    /// The answers of `f`, called once on each item in order. It is lent a state, `init` at the
+    /// first call, which it may write to, and which the next call finds as it was left.
+    ///
+    /// It takes no memory of its own. It is ours, after std's `scan`: the closure always returns
+    /// an item, so that no item is lost and the iterator ends only when its source does. In std
+    /// it returns an `Option`, and `None` ends the iterator.
+    ///
+    /// The running sums of 1, 2 and 3 are 1, 3 and 6.
+    final fn scan<St: Drop, B, F: FnMut(&mut St, Self::Item) -> B>(
+        self,
+        init: St,
+        f: F,
+    ) -> Scan<Self, St, F>
+    where
+        Self: Sized,
+        ensures holds { (source_of_scan result ≡ self) × (init_of_scan result ≡ init)
+            × (closure_of_scan result ≡ f) }
+        ensures ends { IsFiniteIterable Self.into_iter_gives Self.IntoIter.can_next
+            Self.IntoIter.remaining self
+            → F.IsAlwaysCallable f
+            → IsFiniteIterable (⟦<Scan<Self, St, F> as IntoIterator>⟧.into_iter_gives)
+            (⟦<ScanIter<Self::IntoIter, St, F> as Iterator>⟧.can_next)
+            (⟦<ScanIter<Self::IntoIter, St, F> as Iterator>⟧.remaining) result }
+        ensures gives { ScanGives (⟦<Self as Source>⟧.reads) (⟦<Scan<Self, St, F> as Source>⟧.reads)
+            F.FnMut self init f result }
+    {
+        Scan {
+            iter: self,
+            init,
+            f,
+        }
     }
 
     /// All items but the first `n`. There may be none, so this is std's iterator.

@@ -1,0 +1,23 @@
+use Rattle.std.proofs.Common.{subst, sym}
+use denote.Param.Always.{always_mut}
+use Rattle.ne_iter.specs.Calls.{CallsWithState}
+use Rattle.ne_iter.specs.Scanned.{scanned_from, state_of, callee_of}
+use Rattle.ne_iter.proofs.ScannedRuns.{DrainsIf-scan, CallableInScan-always}
+use Rattle.ne_iter.proofs.iter.non_empty.NonEmptyIterator.scan.Goals as goal
+
+pub returns-clause-gives : goal.returns-clause-gives
+returns-clause-gives g c whole ys h =
+    let calls = g.F.FnMut in
+    let p = DrainsIf-scan g.Self.IntoIter.Iterator.next_gives calls h.it ys h.given in
+    let init = c.args.init in
+    let by_init = subst (λ s. CallsWithState calls h.it.f s p.0 ys p.1 p.2) h.made.1 p.4 in
+    let by_f = subst (λ f. CallsWithState calls f init p.0 ys p.1 p.2) h.made.2 by_init in
+    (p.0, p.1, p.2, record { it = scanned_from h.it; made = h.made.0; given = p.3 }, by_f)
+
+pub returns-clause-ends : goal.returns-clause-ends
+returns-clause-ends g c runs always it made =
+    let source = runs (scanned_from it) made.0 in
+    let callable = CallableInScan-always g.Self.IntoIter.Iterator.next_gives g.F.FnMut
+    (scanned_from it) (callee_of it) (state_of it)
+    (subst (always_mut g.F.FnMut) (sym made.2) always) in
+    ((source.0, callable), source.1)

@@ -1,0 +1,33 @@
+-- What a call of `next` of a scanning iterator does.
+use Rattle.std.specs.Prelude.{◌≡◌, Option, None, Some, MatchOption}
+use Rattle.std.specs.Borrow.{MutBor}
+use Rattle.std.specs.Fn.{Mut, CalledWithState, TakesWithState}
+use Rattle.std.specs.Iterator.{CallableAtEachTurn}
+use Rattle.ne_iter.specs.declared.iter.scan.ScanIter.{ScanIter}
+
+-- the iterator that a `ScanIter` draws from, its state and its closure
+abbrev pub scanned_from : {I S F : Type 0} → ScanIter I S F → I
+scanned_from s = s.iter
+
+abbrev pub state_of : {I S F : Type 0} → ScanIter I S F → S
+state_of s = s.state
+
+abbrev pub callee_of : {I S F : Type 0} → ScanIter I S F → F
+callee_of s = s.f
+
+module _ {I S A B F : Type 0} (steps : I → Option A → I → Type 0)
+    (calls : Mut F (MutBor S × (A × Unit {0})) (B × (MutBor S × Unit {0}))) where
+  -- One call of `next`: `None` at the end of the source, or the closure's answer at the item that
+  -- came.
+  abbrev pub ScansNext : ScanIter I S F → Option B → ScanIter I S F → Type 0
+  ScansNext s r t = MatchOption r
+      (steps (scanned_from s) None (scanned_from t)
+      × (callee_of t ≡ callee_of s) × (state_of t ≡ state_of s))
+      (λ y. (x : A) × steps (scanned_from s) (Some x) (scanned_from t)
+      × CalledWithState calls (callee_of s) (state_of s) x y (callee_of t) (state_of t))
+
+  -- The closure may be called at each item that comes, whatever it made of the state before.
+  abbrev pub CallableInScan : I → F → S → Type 0
+  CallableInScan it f s = CallableAtEachTurn {P = F × S} steps
+      (λ p x q. (y : B) × CalledWithState calls p.0 p.1 x y q.0 q.1)
+      (λ p x. TakesWithState calls p.0 p.1 x) it (f, s)

@@ -1,0 +1,81 @@
+//! The adapter whose closure is lent a state.
+
+use super::NonEmptyIterator;
+
+/// The answers of a closure that is lent a state: see [`NonEmptyIterator::scan`].
+#[derive(Drop)]
+pub struct Scan<I, St, F> {
+    pub(super) iter: I,
+    pub(super) init: St,
+    pub(super) f: F,
+}
+
+impl<St: Drop, B, I: NonEmptyIterator, F: FnMut(&mut St, I::Item) -> B> IntoIterator
+    for Scan<I, St, F> {
+    ghost use Rattle.std.specs.Prelude.{◌≡◌};
+    ghost use Rattle.ne_iter.specs.Parts.{source_of_scan, init_of_scan, closure_of_scan};
+    ghost use Rattle.ne_iter.specs.Scanned.{scanned_from, state_of, callee_of};
+
+    type Item = B;
+
+    type IntoIter = ScanIter<I::IntoIter, St, F>;
+
+    ghost into_iter_gives = { λ s it. I.into_iter_gives (source_of_scan s) (scanned_from it)
+        × (state_of it ≡ init_of_scan s) × (callee_of it ≡ closure_of_scan s) };
+
+    fn into_iter(self) -> ScanIter<I::IntoIter, St, F> {
+        ScanIter {
+            iter: self.iter.into_iter(),
+            state: self.init,
+            f: self.f,
+        }
+    }
+}
+
+impl<St: Drop, B, I: NonEmptyIterator, F: FnMut(&mut St, I::Item) -> B> NonEmptyIterator
+    for Scan<I, St, F> {
+    ghost use Rattle.ne_iter.specs.Parts.{source_of_scan};
+    ghost use Rattle.ne_iter.specs.Scanned.{scanned_from};
+
+    ghost not_empty = { λ s it made t ended.
+        I.not_empty (source_of_scan s) (scanned_from it) made.0 (scanned_from t) ended.0 };
+}
+
+/// The iterator of a [`Scan`]: for each item of its source the answer of the closure, which is lent
+/// the state and may write to it. It ends when its source does.
+///
+/// The name is ours: std's iterator of this kind ends when the closure returns `None`.
+#[derive(Drop)]
+pub struct ScanIter<I, St, F> {
+    iter: I,
+    state: St,
+    f: F,
+}
+
+impl<St: Drop, B, I: Iterator, F: FnMut(&mut St, I::Item) -> B> Iterator for ScanIter<I, St, F> {
+    ghost use Rattle.ne_iter.specs.Scanned.{
+      scanned_from,
+      state_of,
+      callee_of,
+      ScansNext,
+      CallableInScan,
+    };
+
+    type Item = B;
+
+    ghost can_next = { λ s. I.can_next (scanned_from s)
+        × CallableInScan I.next_gives F.FnMut (scanned_from s) (callee_of s) (state_of s) };
+
+    ghost next_gives = { ScansNext I.next_gives F.FnMut };
+
+    ghost remaining = { λ s. I.remaining (scanned_from s) };
+
+    fn next(&mut self) -> Option<B> {
+        let item = self.iter.next()?;
+        Some((self.f)(&mut self.state, item))
+    }
+
+    fn size_hint(&self) -> (usize, Option<usize>) {
+        self.iter.size_hint()
+    }
+}
