@@ -1,0 +1,19 @@
+use Rattle.std.proofs.Common.{◌≤◌, ◌-◌, length, vec_len, ◌≡◌}
+use Rattle.ne_iter.specs.Reader.{HasRead, CanRead}
+use Rattle.ne_iter.specs.Reading.{Unread}
+use Rattle.ne_laws.proofs.reader.take_runs.Given as goal
+
+-- the reader began with the source that the loop's first reader had
+abbrev pub invariant-loop-reader : goal.invariant-loop-reader
+invariant-loop-reader g l =
+    g.I.IntoIterator.into_iter_gives l.fn.iter l.initial.reader.source
+    × HasRead g.I.IntoIter.Iterator.next_gives g.F.FnMut g.K.PartialEq.eq
+    l.initial.reader.source l.fn.key l.runs.items l.reader
+    × (vec_len l.runs ≡ length l.runs.items)
+    × (length l.runs.items ≤ l.k)
+    × (length l.runs.items ≡ 0 → l.reader.ahead ≡ Unread)
+    × CanRead g.I.IntoIter.Iterator.can_next g.I.IntoIter.Iterator.remaining
+    (goal.F-IsAlwaysCallable g) l.reader
+
+abbrev pub decreases-loop-reader : goal.decreases-loop-reader
+decreases-loop-reader g l = l.k - length l.runs.items

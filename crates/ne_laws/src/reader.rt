@@ -1,0 +1,54 @@
+//! The first runs of a source, and the reader as it stands after them.
+ghost use Rattle.std.specs.Prelude.{◌≡◌, ◌<◌, ◌≤◌, IfOk, length};
+ghost use Rattle.std.specs.Iterator.{IsFiniteIterable};
+ghost use Rattle.ne_iter.specs.Reader.{HasRead, IsOver};
+ghost use Rattle.ne_iter.specs.Reading.{Unread};
+
+use ne_iter::laws::readers_stand_at_any_moment;
+use nonempty_collections::iter::GroupBy;
+use nonempty_collections::{NEVec, NonEmptyIterator};
+use std::alloc::{AllocError, Global};
+
+/// The first `k` runs of `iter` by the keys that `key` returns, and the reader as it stands then,
+/// which gives the runs that follow. If the source has fewer runs, these are all of them, and the
+/// reader returns `None` from then on.
+///
+/// The runs are those of [`group_by`](NonEmptyIterator::group_by): an item goes on a run while its
+/// key equals that of the run's first item. `key` is called once on each item that is drawn, in
+/// order. At most one item is drawn beyond the runs, which the reader holds; if `k` is 0 nothing is
+/// drawn, and `key` is not called.
+///
+/// Returns `AllocError` if there is no memory for a run or for the list of the runs. All that was
+/// drawn is then dropped, and the source and `key` with it.
+///
+/// Of 5, 5, 6 and 6 by the item itself, with `k` 1, it gives the run `[5, 5]`; `key` was called
+/// three times, one 6 is held, and the other was not drawn.
+pub fn take_runs<I: NonEmptyIterator, K: PartialEq + Drop, F: FnMut(&I::Item) -> K + Drop>(
+    alloc: Global,
+    iter: I,
+    key: F,
+    k: usize,
+) -> Result<(Vec<NEVec<I::Item>>, GroupBy<I::IntoIter, K, I::Item, F>), AllocError>
+where
+    I::Item: Drop,
+    requires runs { IsFiniteIterable I.into_iter_gives I.IntoIter.can_next
+        I.IntoIter.remaining iter }
+    requires callable { F.IsAlwaysCallable key }
+    // The reader began with what the source becomes, and with this closure, and gave these runs.
+    ensures reads { IfOk result (λ taken. (it : I.IntoIter) × I.into_iter_gives iter it
+        × HasRead I.IntoIter.next_gives F.FnMut K.eq it key taken.0.items taken.1) }
+    ensures count { IfOk result (λ taken. length taken.0.items ≤ k) }
+    ensures fewer { IfOk result (λ taken. length taken.0.items < k → IsOver taken.1) }
+    ensures unread { IfOk result (λ taken. k ≡ 0 → taken.1.ahead ≡ Unread) }
+{
+    readers_stand_at_any_moment::<I::IntoIter, K, F>();
+    let mut reader = iter.group_by(alloc, key).into_iter();
+    let mut runs = Vec::new(alloc);
+    while runs.len() < k {
+        let Some(run) = reader.next() else {
+            return Ok((runs, reader));
+        };
+        runs.push(run?)?;
+    }
+    Ok((runs, reader))
+}
