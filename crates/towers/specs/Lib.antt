@@ -3,3 +3,4 @@ pub mod Own
 pub mod OwnLaws
 pub mod Wide
 pub mod Runs
+pub mod Nested

@@ -1,13 +1,15 @@
-//! Towers with `group_by` in them: over another adapter, and under others.
-ghost use Rattle.std.specs.Prelude.{◌≤◌, ltb, length, IfOk};
+//! Towers with `group_by` in them, over another adapter and under others; and over borrowed runs.
+ghost use Rattle.std.specs.Prelude.{◌≡◌, ◌≤◌, Bool, List, ltb, length, map, IfOk};
 ghost use Rattle.std.specs.Iterator.{IsFiniteIterable, CallableOnAll};
 ghost use Rattle.std.specs.Int.NonZero.{non_zero_usize_get};
+ghost use Rattle.ne_vec.specs.Divisions.{IsDivision, by_previous};
+ghost use Rattle.ne_vec.specs.SliceRuns.{ActsAsAtPair};
 ghost use Rattle.ne_iter.specs.Gives.{HasRuns};
 ghost use Rattle.towers.specs.Runs.{AreRunsOfAnswers};
 
-use ne_iter::laws::results_make_a_vector;
-use nonempty_collections::NEVec;
+use ne_iter::laws::{calls_of_a_function, results_make_a_vector, slice_runs_are_the_division};
 use nonempty_collections::iter::{NonEmptyIterator, Source};
+use nonempty_collections::{NESlice, NEVec};
 use std::alloc::{AllocError, Global};
 use std::num::NonZeroUsize;
 
@@ -46,4 +48,21 @@ where
 {
     results_make_a_vector::<NEVec<S::Item>, AllocError>();
     source.group_by(alloc, key).take(n).collect(alloc)?
+}
+
+/// The lengths of the runs of `items`, each item compared with the one before it.
+pub fn run_lengths<T, F: Fn(&T, &T) -> bool + Drop>(
+    alloc: Global,
+    items: &NESlice<'_, T>,
+    same: F,
+) -> Result<NEVec<usize>, AllocError>
+    requires { F.IsAlwaysCallable same }
+    ensures { IfOk result (λ v. (test : T → T → Bool) → ActsAsAtPair F.Fn same test
+        → (rs : List (List T)) × IsDivision (by_previous test) items.now rs
+        × (v ≡ map length rs)) }
+{
+    let length = |run: NESlice<'_, T>| run.len().get();
+    slice_runs_are_the_division::<T, F>();
+    calls_of_a_function(&length);
+    items.adjacent_runs(same).map(length).collect(alloc)
 }

@@ -1,0 +1,22 @@
+use Rattle.std.proofs.Common.{subst}
+use Rattle.std.proofs.lemmas.Result.{IfOk-weaker}
+use Rattle.ne_iter.specs.Calls.{CallsWithState}
+use Rattle.towers.proofs.nested.scan_of_all.Goals as goal
+
+-- From what was collected back to the items of the inner sources.
+pub returns : goal.returns
+returns g c = IfOk-weaker c.collect.result _ _ (λ v h.
+    let scanned = c.scan.ensures.gives _ h.0 h.1 in
+    let flat = c.flatten.ensures.gives _ scanned.0 scanned.3 in
+    let f = c.args.f in
+    let init = c.args.init in (
+      flat.0,
+      flat.1,
+      h.0,
+      scanned.1,
+      scanned.2,
+      flat.2,
+      flat.3,
+      subst (λ l. CallsWithState g.F.FnMut f init l h.0 scanned.1 scanned.2) flat.4 scanned.4,
+      h.2,
+    )) c.collect.ensures

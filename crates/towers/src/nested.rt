@@ -1,0 +1,47 @@
+//! Towers over sources of sources, and over a state.
+ghost use Rattle.std.specs.Prelude.{◌≡◌, ◌^◌, ◌<◌, ◌+◌, ◌%◌, IfOk};
+ghost use Rattle.std.specs.Iterator.{IsFinite, IsFiniteIterable, size};
+ghost use Rattle.std.specs.List.{scan};
+ghost use Rattle.towers.specs.Nested.{IsScanOfAll};
+
+use ne_iter::laws::{scans_of_a_function, vectors_give_their_items};
+use nonempty_collections::iter::{FromNonEmptyIterator, NonEmptyIterator, Source};
+use nonempty_collections::{IntoNonEmptyIterator, NEVec};
+use std::alloc::{AllocError, Global};
+
+/// The answers of `f`, which is lent a state, on the items of the items of `source`, collected.
+pub fn scan_of_all<
+    St: Drop,
+    A: Drop,
+    D: Drop,
+    U: IntoNonEmptyIterator<Item = A>,
+    S: NonEmptyIterator<Item = U>,
+    F: FnMut(&mut St, A) -> D,
+    B: FromNonEmptyIterator<D>,
+>(alloc: Global, source: S, init: St, f: F) -> Result<B, AllocError>
+    requires runs { IsFiniteIterable S.into_iter_gives S.IntoIter.can_next
+        S.IntoIter.remaining source }
+    requires inner_runs { (inner : U) (it : U.IntoIter) → U.into_iter_gives inner it
+        → U.IntoIter.can_next it × IsFinite (U.IntoIter.remaining it)
+        × (size (U.IntoIter.remaining it) < 2 ^ 64) }
+    requires callable { F.IsAlwaysCallable f }
+    ensures { IfOk result (IsScanOfAll (⟦<S as Source>⟧.reads) (⟦<U as Source>⟧.reads)
+        F.FnMut B.is_complete B.collected source init f) }
+{
+    source.flatten().scan(init, f).collect(alloc)
+}
+
+/// The totals of the first item, of the first two, and so on, each modulo 2^32: their list is
+/// written out.
+pub fn running_totals(alloc: Global, items: NEVec<u32>) -> Result<NEVec<u32>, AllocError>
+    ensures { IfOk result (λ v.
+        v ≡ scan (λ total x. (total + x) % 2 ^ 32) (λ total x. (total + x) % 2 ^ 32) 0 items) }
+{
+    let add = |total: &mut u32, x: u32| {
+        *total = total.wrapping_add(x);
+        *total
+    };
+    vectors_give_their_items::<u32>();
+    scans_of_a_function(&add);
+    items.into_nonempty_iter().scan(0, add).collect(alloc)
+}
