@@ -1,5 +1,5 @@
 //! Which runs are taken, how far the source is drawn and the key asked for that, and what the
-//! reader gives and drops then.
+//! reader gives then.
 
 use crate::reader::take_runs;
 use nonempty_collections::{IntoNonEmptyIterator, NEVec, NonEmptyIterator};
@@ -101,45 +101,4 @@ fn large(rt: HostRuntime) -> Result<(), Fail> {
         (5000, 5009),
         "another run comes then",
     )
-}
-
-// An item that adds its weight to a sum when it is dropped.
-struct Weighed<'a> {
-    value: u32,
-    weight: u32,
-    dropped: &'a Cell<u32>,
-}
-
-impl<'a> Drop for Weighed<'a> {
-    fn drop(self) {
-        let Weighed {
-            value: _,
-            weight,
-            dropped,
-        } = self;
-        dropped.set(dropped.get().wrapping_add(weight));
-    }
-}
-
-// 5, 5, 6 and 6, each with a digit of its own in the sum of what was dropped: one run is taken, the
-// first 6 is held, and the other stands in the source. Each of them is dropped once.
-#[test]
-fn dropped_once(rt: HostRuntime) -> Result<(), Fail> {
-    let dropped = Cell::new(0u32);
-    let of = |value: u32, weight: u32| Weighed {
-        value,
-        weight,
-        dropped: &dropped,
-    };
-    let items = [of(5, 1), of(5, 10), of(6, 100), of(6, 1000)].into_nonempty_iter();
-    let (runs, reader) = take_runs(rt.alloc(), items, |item| item.value, 1)?;
-    is(dropped.get(), 0, "dropped too early")?;
-    drop(reader);
-    is(
-        dropped.get(),
-        1100,
-        "the held item or the one in the source, not once",
-    )?;
-    drop(runs);
-    is(dropped.get(), 1111, "the items of the run, not once")
 }

@@ -1,10 +1,13 @@
-//! The iterator of `group_by`, whose runs take memory.
+//! Readers of runs, whose runs take memory when they are asked for.
 
 use super::tell;
+use ne_laws::reader::take_runs;
 use nonempty_collections::{IntoNonEmptyIterator, NonEmptyIterator};
+use std::cell::Cell;
 use std::test::Fail;
 
-// The first run is made of its first item and grows for its fifth, and the second one is made of its item. After an `Err` comes `None`.
+// The first run is made of its first item and grows for its fifth, and the second one is made of
+// its item. After an `Err` comes `None`.
 #[test]
 fn group_by(rt: HostRuntime) -> Result<(), Fail> {
     let items = [1u32, 1, 1, 1, 1, 2].into_nonempty_iter();
@@ -20,5 +23,70 @@ fn group_by(rt: HostRuntime) -> Result<(), Fail> {
     };
     assert_eq!(rt; (first.len().get(), second.len().get()), (5, 1));
     assert_eq!(rt; reader.next().is_none(), true);
+    tell(&rt, "made", call)
+}
+
+// A finished run is given before memory is asked for the next one: where that is refused, the first
+// run came all the same, then an `Err`, and then `None`.
+#[test]
+fn finished_run(rt: HostRuntime) -> Result<(), Fail> {
+    let call = "GroupBy::next after a finished run";
+    let mut reader = [5u32, 6]
+        .into_nonempty_iter()
+        .group_by(rt.alloc(), |x| *x)
+        .into_iter();
+    let Some(Ok(first)) = reader.next() else {
+        return tell(&rt, "not reached", call);
+    };
+    assert_eq!(rt; (first.len().get(), *first.first()), (1, 5));
+    let Some(Ok(second)) = reader.next() else {
+        assert_eq!(rt; reader.next().is_none(), true);
+        return tell(&rt, "refused", call);
+    };
+    assert_eq!(rt; (second.len().get(), *second.first()), (1, 6));
+    assert_eq!(rt; reader.next().is_none(), true);
+    tell(&rt, "made", call)
+}
+
+// An item that adds its weight to a sum when it is dropped.
+struct Weighed<'a> {
+    value: u32,
+    weight: u32,
+    dropped: &'a Cell<u32>,
+}
+
+impl<'a> Drop for Weighed<'a> {
+    fn drop(self) {
+        let Weighed {
+            value: _,
+            weight,
+            dropped,
+        } = self;
+        dropped.set(dropped.get().wrapping_add(weight));
+    }
+}
+
+// 5, 5, 6 and 6, each with a digit of its own in the sum of what was dropped. One run is taken; it
+// is made of its first item, and the list of the runs grows for it. The first 6 is held then, and
+// the other stands in the source. Whatever was refused, each item is dropped once.
+#[test]
+fn taken(rt: HostRuntime) -> Result<(), Fail> {
+    let call = "take_runs";
+    let dropped = Cell::new(0u32);
+    let of = |value: u32, weight: u32| Weighed {
+        value,
+        weight,
+        dropped: &dropped,
+    };
+    let items = [of(5, 1), of(5, 10), of(6, 100), of(6, 1000)].into_nonempty_iter();
+    let Ok((runs, reader)) = take_runs(rt.alloc(), items, |item| item.value, 1) else {
+        assert_eq!(rt; dropped.get(), 1111);
+        return tell(&rt, "refused", call);
+    };
+    assert_eq!(rt; (runs.len(), dropped.get()), (1, 0));
+    drop(reader);
+    assert_eq!(rt; dropped.get(), 1100);
+    drop(runs);
+    assert_eq!(rt; dropped.get(), 1111);
     tell(&rt, "made", call)
 }
