@@ -73,6 +73,16 @@ fn rising(n: NonZeroUsize, mask: u64) -> NEVec<u64> {
 }
 
 #[inline(never)]
+fn nested(n: NonZeroUsize) -> Vec<Vec<u64>> {
+    let first = Vec::from(scrambled(NonZeroUsize::MIN.saturating_add(15)));
+    let mut lists = vec![first.clone()];
+    for _ in 1..n.get() {
+        lists.push(first.clone());
+    }
+    lists
+}
+
+#[inline(never)]
 fn paired(n: NonZeroUsize) -> NEVec<(u64, u64)> {
     let keys = n.get() as u64 / 2 + 1;
     let mut state = 1u64;
@@ -92,6 +102,7 @@ fn checksum(name: &str, n: NonZeroUsize) -> Option<u64> {
             let (key, value) = *paired(n).last();
             mixed(key, value)
         }
+        "nested" => nested(n).len() as u64,
         "push_pop" => push_pop(n),
         "sort" => sort(n),
         "dedup" => dedup(n),
@@ -103,6 +114,10 @@ fn checksum(name: &str, n: NonZeroUsize) -> Option<u64> {
         "group_short" => group(n, 3),
         "group_long" => group(n, 1023),
         "intersperse" => intersperse(n),
+        "runs_by" => runs_by(n),
+        "adjacent_runs" => adjacent_runs(n),
+        "flatten" => flatten(n),
+        "scan" => scan(n),
         "hash_map" => hash_map(n),
         "tree_map" => tree_map(n),
         _ => return None,
@@ -213,6 +228,59 @@ fn intersperse(n: NonZeroUsize) -> u64 {
     }
     checksum
 }
+
+// The Rust crate has none of the next four: these are plain Rust, over std's slices and iterators.
+
+fn runs_by(n: NonZeroUsize) -> u64 {
+    let items = rising(n, 3);
+    let mut checksum = 0u64;
+    let mut rest: &[u64] = items.as_ref();
+    while let [first, others @ ..] = rest {
+        let mut length = 1;
+        for x in others {
+            if first != x {
+                break;
+            }
+            length += 1;
+        }
+        checksum = mixed(mixed(checksum, *first), length as u64);
+        rest = &rest[length..];
+    }
+    checksum
+}
+
+fn adjacent_runs(n: NonZeroUsize) -> u64 {
+    let items = rising(n, 3);
+    let items: &[u64] = items.as_ref();
+    let mut checksum = 0u64;
+    for run in items.chunk_by(|x, y| x == y) {
+        checksum = mixed(mixed(checksum, run[0]), run.len() as u64);
+    }
+    checksum
+}
+
+fn flatten(n: NonZeroUsize) -> u64 {
+    let lists = nested(n);
+    let mut checksum = 0u64;
+    for x in lists.iter().flatten() {
+        checksum = mixed(checksum, *x);
+    }
+    checksum
+}
+
+fn scan(n: NonZeroUsize) -> u64 {
+    let items = Vec::from(scrambled(n)).into_iter();
+    let totals = items.scan(0u64, |total, x| {
+        *total = total.wrapping_add(x);
+        Some(*total)
+    });
+    let mut checksum = 0u64;
+    for total in totals {
+        checksum = mixed(checksum, total);
+    }
+    checksum
+}
+
 
 fn hash_map(n: NonZeroUsize) -> u64 {
     let items = paired(n).into_nonempty_iter();

@@ -42,6 +42,17 @@ pub fn rising(alloc: Global, n: NonZeroUsize, mask: u64) -> Result<NEVec<u64>, A
     Ok(items)
 }
 
+/// `n` lists of 16 scrambled numbers each.
+pub fn nested(alloc: Global, n: NonZeroUsize) -> Result<NEVec<NEVec<u64>>, AllocError> {
+    let sixteen = NonZeroUsize::MIN.saturating_add(15);
+    let first = scrambled(alloc, sixteen)?;
+    let mut lists = NEVec::new(alloc, first.clone()?)?;
+    for _ in 1..n.get() {
+        lists.push(first.clone()?)?;
+    }
+    Ok(lists)
+}
+
 /// `n` pairs of a key and a number, with about n / 2 keys.
 pub fn paired(alloc: Global, n: NonZeroUsize) -> Result<NEVec<(u64, u64)>, AllocError> {
     let keys = n.get() as u64 / 2 + 1;

@@ -1,6 +1,6 @@
 //! The workloads, each over `n` items.
 
-use crate::input::{mixed, next, paired, rising, scrambled};
+use crate::input::{mixed, nested, next, paired, rising, scrambled};
 use nonempty_collections::{IntoNonEmptyIterator, NEVec, NonEmptyIterator};
 use std::alloc::{AllocError, Global};
 use std::collections::{BTreeMap, HashMap};
@@ -15,6 +15,7 @@ pub fn checksum(alloc: Global, name: &str, n: NonZeroUsize) -> Result<Option<u64
             let (key, value) = *paired(alloc, n)?.last();
             mixed(key, value)
         }
+        "nested" => nested(alloc, n)?.len().get() as u64,
         "push_pop" => push_pop(alloc, n)?,
         "sort" => sort(alloc, n)?,
         "dedup" => dedup(alloc, n)?,
@@ -26,6 +27,10 @@ pub fn checksum(alloc: Global, name: &str, n: NonZeroUsize) -> Result<Option<u64
         "group_short" => group(alloc, n, 3)?,
         "group_long" => group(alloc, n, 1023)?,
         "intersperse" => intersperse(alloc, n)?,
+        "runs_by" => runs_by(alloc, n)?,
+        "adjacent_runs" => adjacent_runs(alloc, n)?,
+        "flatten" => flatten(alloc, n)?,
+        "scan" => scan(alloc, n)?,
         "hash_map" => hash_map(alloc, n)?,
         "tree_map" => tree_map(alloc, n)?,
         _ => return Ok(None),
@@ -136,6 +141,46 @@ fn intersperse(alloc: Global, n: NonZeroUsize) -> Result<u64, AllocError> {
     let mut checksum = 0u64;
     for x in items.intersperse(7) {
         checksum = mixed(checksum, x?);
+    }
+    Ok(checksum)
+}
+
+fn runs_by(alloc: Global, n: NonZeroUsize) -> Result<u64, AllocError> {
+    let items = rising(alloc, n, 3)?;
+    let mut checksum = 0u64;
+    for run in items.as_nonempty_slice().runs_by(|x, y| x == y) {
+        checksum = mixed(mixed(checksum, *run.first()), run.len().get() as u64);
+    }
+    Ok(checksum)
+}
+
+fn adjacent_runs(alloc: Global, n: NonZeroUsize) -> Result<u64, AllocError> {
+    let items = rising(alloc, n, 3)?;
+    let mut checksum = 0u64;
+    for run in items.as_nonempty_slice().adjacent_runs(|x, y| x == y) {
+        checksum = mixed(mixed(checksum, *run.first()), run.len().get() as u64);
+    }
+    Ok(checksum)
+}
+
+fn flatten(alloc: Global, n: NonZeroUsize) -> Result<u64, AllocError> {
+    let lists = nested(alloc, n)?;
+    let mut checksum = 0u64;
+    for x in lists.nonempty_iter().flatten() {
+        checksum = mixed(checksum, *x);
+    }
+    Ok(checksum)
+}
+
+fn scan(alloc: Global, n: NonZeroUsize) -> Result<u64, AllocError> {
+    let items = scrambled(alloc, n)?.into_nonempty_iter();
+    let totals = items.scan(0u64, |total, x| {
+        *total = total.wrapping_add(x);
+        *total
+    });
+    let mut checksum = 0u64;
+    for total in totals {
+        checksum = mixed(checksum, total);
     }
     Ok(checksum)
 }

@@ -1,5 +1,5 @@
 //! Callers of the vector and the slice.
-ghost use Rattle.std.specs.Prelude.{◌≡◌, ◌+◌, ◌-◌, ◌/◌, ◌<◌, ◌≤◌, [], ◌∷◌, ◌++◌, length, map, nat_lt, slice_set, slice_get, IfOk, IfSome, Some, MatchResult, IsSorted};
+ghost use Rattle.std.specs.Prelude.{◌≡◌, ◌+◌, ◌-◌, ◌/◌, ◌<◌, ◌≤◌, [], ◌∷◌, ◌++◌, length, map, nat_lt, slice_set, slice_get, IfOk, IfSome, Some, MatchResult, IsSorted, List};
 ghost use Rattle.std.specs.List.{filter};
 
 use ne_vec::{NESlice, NEVec, Singleton, nev};
@@ -201,4 +201,26 @@ pub(crate) fn parts(xs: &[u8], size: NonZeroUsize) -> usize {
 
 pub(crate) fn same<T: Ord>(a: &NEVec<T>, b: &NEVec<T>) -> bool {
     a == b || a < b
+}
+
+// The first run, with which the slice begins.
+pub(crate) fn first_run<'a, T, F: Fn(&T, &T) -> bool + Drop>(
+    items: &'a NESlice<'a, T>,
+    same: F,
+) -> NESlice<'a, T>
+    requires { F.IsAlwaysCallable same }
+    ensures { (rest : List T) × (items.now ≡ result ++ rest) }
+{
+    items.runs_by(same).into_iter().next().unwrap()
+}
+
+// The same, each item compared with the one before it.
+pub(crate) fn first_adjacent_run<'a, T, F: Fn(&T, &T) -> bool + Drop>(
+    items: &'a NESlice<'a, T>,
+    same: F,
+) -> NESlice<'a, T>
+    requires { F.IsAlwaysCallable same }
+    ensures { (rest : List T) × (items.now ≡ result ++ rest) }
+{
+    items.adjacent_runs(same).into_iter().next().unwrap()
 }

@@ -1,6 +1,7 @@
 //! Each call once with ample memory, worked rows, and printed texts.
 
 mod drawing;
+mod runs;
 mod slices;
 mod vectors;
 

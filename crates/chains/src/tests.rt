@@ -12,6 +12,7 @@ mod draws;
 mod extremes;
 mod intersperse;
 mod looks;
+mod nested;
 mod own;
 mod parts;
 mod runs;
