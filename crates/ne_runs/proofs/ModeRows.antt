@@ -2,10 +2,10 @@
 use Rattle.std.proofs.Common.{arith, sym, ap₂, ◌∙◌}
 use Rattle.std.specs.Prelude.{◌≡◌, ℕ, ◌<◌, Bool, nat_eq, List, [], ◌∷◌, length, sum, refl}
 use Rattle.std.specs.Bool.{beq}
-use Rattle.ne_vec.specs.Divisions.{IsDivision, by_first}
-use Rattle.ne_runs.specs.Modes.{AreRows, ends_of, is_even}
+use Rattle.ne_vec.specs.Divisions.{IsDivision, by_first, by_previous}
+use Rattle.ne_runs.specs.Modes.{AreRows, ends_of, is_even, is_near}
 use Rattle.ne_runs.specs.declared.mode.Mode.{Mode}
-use Rattle.ne_runs.specs.declared.mode.Mode.TheVariants.{Ends, Stats, Equal, Parity}
+use Rattle.ne_runs.specs.declared.mode.Mode.TheVariants.{Ends, Stats, Equal, Parity, Near, Chain}
 use Rattle.ne_runs.proofs.Stats.{least_there, greatest_there, only_least, only_greatest}
 
 module _ (exists : (goes_on : List ℕ → ℕ → Bool) (xs : List ℕ) → (rs : List (List ℕ)) × IsDivision goes_on xs rs)
@@ -14,6 +14,8 @@ module _ (exists : (goes_on : List ℕ → ℕ → Bool) (xs : List ℕ) → (rs
   has_rows Ends numbers some = (ends_of numbers ∷ [], refl)
   has_rows Equal numbers some = exists (by_first nat_eq) numbers
   has_rows Parity numbers some = exists (by_first (λ m n. beq (is_even m) (is_even n))) numbers
+  has_rows Near numbers some = exists (by_first is_near) numbers
+  has_rows Chain numbers some = exists (by_previous is_near) numbers
   has_rows Stats [] some = absurd (omega (arith, some))
   has_rows Stats (n ∷ numbers) some =
       let least = least_there n numbers in
@@ -24,6 +26,8 @@ module _ (exists : (goes_on : List ℕ → ℕ → Bool) (xs : List ℕ) → (rs
   only_rows Ends numbers rows others a b = a ∙ sym b
   only_rows Equal numbers rows others a b = unique (by_first nat_eq) numbers rows others a b
   only_rows Parity numbers rows others a b = unique (by_first (λ m n. beq (is_even m) (is_even n))) numbers rows others a b
+  only_rows Near numbers rows others a b = unique (by_first is_near) numbers rows others a b
+  only_rows Chain numbers rows others a b = unique (by_previous is_near) numbers rows others a b
   only_rows Stats numbers rows others a b =
       a.4
       ∙ ap₂ (λ least greatest. (least ∷ greatest ∷ sum numbers ∷ []) ∷ []) (only_least numbers a.0 b.0 a.2 b.2) (only_greatest numbers a.1 b.1 a.3 b.3)

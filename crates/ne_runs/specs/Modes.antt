@@ -1,12 +1,13 @@
 -- The modes: the word that names each, and what it writes of a list of numbers. A space is 32.
-use Rattle.std.specs.Prelude.{◌≡◌, ◌==◌, ℕ, ◌≤◌, ◌-◌, ◌%◌, Bool, nat_eq, List, [], ◌∷◌, ◌++◌, if◌then◌else◌, length, map, slice_index, codes, All, Contains, sum, Option, None, Some}
+use Rattle.std.specs.Prelude.{◌≡◌, ◌==◌, ℕ, ◌≤◌, ◌-◌, ◌%◌, Bool, nat_eq, nat_le, List, [], ◌∷◌, ◌++◌, if◌then◌else◌, length, map, slice_index, codes, All, Contains, sum, Option, None, Some}
 use Rattle.std.specs.Bool.{beq}
 use Rattle.std.specs.List.{flat_map, join_with_byte}
 use Rattle.std.specs.Fmt.{decimal}
+use Rattle.std.specs.Int.{abs_diff}
 use Rattle.std.specs.Str.{bytes_eq}
-use Rattle.ne_vec.specs.Divisions.{IsDivision, by_first}
+use Rattle.ne_vec.specs.Divisions.{IsDivision, by_first, by_previous}
 use Rattle.ne_runs.specs.declared.mode.Mode.{Mode}
-use Rattle.ne_runs.specs.declared.mode.Mode.TheVariants.{Ends, Stats, Equal, Parity}
+use Rattle.ne_runs.specs.declared.mode.Mode.TheVariants.{Ends, Stats, Equal, Parity, Near, Chain}
 
 -- the word that names a mode
 abbrev pub word_of : Mode → List ℕ
@@ -14,6 +15,8 @@ word_of Ends = codes "ends"
 word_of Stats = codes "stats"
 word_of Equal = codes "equal"
 word_of Parity = codes "parity"
+word_of Near = codes "near"
+word_of Chain = codes "chain"
 
 -- the mode that a word names
 abbrev pub mode_of : List ℕ → Option Mode
@@ -22,6 +25,8 @@ mode_of word =
     else if bytes_eq word (word_of Stats) then Some Stats
     else if bytes_eq word (word_of Equal) then Some Equal
     else if bytes_eq word (word_of Parity) then Some Parity
+    else if bytes_eq word (word_of Near) then Some Near
+    else if bytes_eq word (word_of Chain) then Some Chain
     else None
 
 -- how many numbers there are, the first and the last
@@ -39,6 +44,10 @@ IsGreatest numbers greatest = Contains numbers greatest × All (λ n. n ≤ grea
 abbrev pub is_even : ℕ → Bool
 is_even n = n % 2 == 0
 
+-- whether two numbers differ by at most 1
+abbrev pub is_near : ℕ → ℕ → Bool
+is_near m n = nat_le (abs_diff m n) 1
+
 -- the rows that a mode makes of numbers, of which there is at least one
 abbrev pub AreRows : Mode → List ℕ → List (List ℕ) → Type 0
 AreRows Ends numbers rows = rows ≡ ends_of numbers ∷ []
@@ -46,10 +55,17 @@ AreRows Stats numbers rows =
     (least : ℕ) × (greatest : ℕ) × IsLeast numbers least × IsGreatest numbers greatest × (rows ≡ (least ∷ greatest ∷ sum numbers ∷ []) ∷ [])
 AreRows Equal numbers rows = IsDivision (by_first nat_eq) numbers rows
 AreRows Parity numbers rows = IsDivision (by_first (λ m n. beq (is_even m) (is_even n))) numbers rows
+AreRows Near numbers rows = IsDivision (by_first is_near) numbers rows
+AreRows Chain numbers rows = IsDivision (by_previous is_near) numbers rows
 
 -- a row as a line of text: in decimal, with one space between
 abbrev pub row_text : List ℕ → List ℕ
 row_text row = join_with_byte 32 (map decimal row) ++ 10 ∷ []
+
+-- the text is a line for each run of the numbers, as `goes_on` says which number goes on a run
+abbrev pub HasRowOfEachRun : (List ℕ → ℕ → Bool) → List ℕ → List ℕ → Type 0
+HasRowOfEachRun goes_on numbers text =
+    (rows : List (List ℕ)) × IsDivision goes_on numbers rows × (text ≡ flat_map row_text rows)
 
 -- the text that a mode writes of numbers: its rows, a line each
 pub record IsText (mode : Mode) (numbers text : List ℕ) : Type 0 where

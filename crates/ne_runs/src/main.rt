@@ -1,10 +1,10 @@
 //! Reads numbers, one a line, and writes what a mode makes of them.
 //!
-//! `ne_runs MODE` reads standard input and writes standard output. What goes wrong is told on standard error, and by the exit status.
+//! `ne_runs MODE` reads standard input and writes standard output. What goes wrong is told on
+//! standard error, and by the exit status.
 #![tactic(auto)]
 
-ghost use Rattle.std.specs.Prelude.{◌≡◌, ◌⊎◌, ◌↔◌};
-ghost use Rattle.std.specs.IoError.{error_kind};
+ghost use Rattle.std.specs.Prelude.{◌≡◌, ◌⊎◌, IfErr};
 
 mod device;
 mod fault;
@@ -16,10 +16,11 @@ mod tests;
 
 use device::StdIo;
 use fault::Fault;
+use mode::LONGEST_WORD;
 use report::{one_word, run};
-use std::io::ErrorKind;
+use std::env::{Env, FillError};
 use std::process::ExitCode;
-use std::{env, io};
+use std::str;
 
 fn main(rt: HostRuntime) -> ExitCode {
     match start(&rt) {
@@ -45,19 +46,22 @@ fn start(rt: &HostRuntime) -> Result<(), Fault> {
     )
 }
 
-// The words after the program's name.
-fn arguments(rt: &HostRuntime) -> Result<Vec<String>, Fault> {
-    let words = env::args(rt).map_err(|error| fault_of_words(&error))?;
-    Ok(words.skip(1).collect(rt.alloc())?)
-}
-
-// Why the words cannot be had: there is no memory for them, or one of them is not UTF-8.
-fn fault_of_words(error: &io::Error) -> Fault
-    ensures memory { (result ≡ Fault.Memory) ↔ (error_kind error.now ≡ ErrorKind.OutOfMemory) }
-    ensures usage { (result ≡ Fault.Usage) ⊎ (result ≡ Fault.Memory) }
+// The words after the program's name, which is not looked at, since a path may be any bytes. A word
+// that is not UTF-8, or longer than that of any mode, is `Usage`.
+fn arguments(rt: &HostRuntime) -> Result<Vec<String>, Fault>
+    ensures { IfErr result (λ fault. (fault ≡ Fault.Usage) ⊎ (fault ≡ Fault.Memory)) }
 {
-    match error.kind() {
-        ErrorKind::OutOfMemory => Fault::Memory,
-        _ => Fault::Usage,
+    let mut words = Vec::new(rt.alloc());
+    let mut bytes = [0u8; LONGEST_WORD];
+    for place in 1..usize::MAX {
+        match rt.arg(place, &mut bytes) {
+            Ok(length) => {
+                let word = str::from_utf8(&bytes[..length]).map_err(|_| Fault::Usage)?;
+                words.push(String::from_str(rt.alloc(), word)?)?;
+            }
+            Err(FillError::TooLong) => return Err(Fault::Usage),
+            Err(FillError::NotPresent) => break,
+        }
     }
+    Ok(words)
 }

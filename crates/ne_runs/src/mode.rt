@@ -1,18 +1,22 @@
 //! [`Mode`], what a run makes of its numbers: the word that names each mode, and its text.
 //!
 //! The laws of the library that are called here do nothing. What they ensure is cited by the proofs.
-ghost use Rattle.std.specs.Prelude.{◌≡◌, ◌^◌, ◌<◌, ◌∷◌, ◌++◌, OnOk, IfOk, Ok, Some, string_bytes, List, ℕ, length, map, sum, true};
-ghost use Rattle.std.specs.Iterator.{ActsAsAt, IsFiniteIterable};
+ghost use Rattle.std.specs.Prelude.{◌≡◌, ◌^◌, ◌<◌, ◌≤◌, ◌∷◌, ◌++◌, OnOk, IfOk, Some, string_bytes};
+ghost use Rattle.std.specs.Prelude.{List, ℕ, Bool, length, sum, true};
+ghost use Rattle.std.specs.Iterator.{IsFiniteIterable};
 ghost use Rattle.std.specs.List.{flat_map};
-ghost use Rattle.ne_vec.specs.Divisions.{IsDivision, by_first};
-ghost use Rattle.ne_runs.specs.Modes.{mode_of, word_of, row_text, AreRows, IsText, IsLeast, IsGreatest};
+ghost use Rattle.ne_vec.specs.Divisions.{by_first, by_previous};
+ghost use Rattle.ne_vec.specs.SliceRuns.{ActsAsAtPair};
+ghost use Rattle.ne_runs.specs.Modes.{mode_of, word_of, row_text, AreRows, HasRowOfEachRun, IsText};
+ghost use Rattle.ne_runs.specs.Modes.{IsLeast, IsGreatest};
 ghost use Rattle.ne_runs.specs.declared.mode.Mode.{Mode};
 
-use ne_iter::laws::{calls_of_a_function, runs_by_a_function, vectors_give_their_items};
+use ne_iter::laws::{calls_of_a_function, slice_runs_are_the_division, vectors_give_their_items};
 use ne_vec::laws::has_one_division;
 use nonempty_collections::iter::Source;
-use nonempty_collections::{NEVec, NonEmptyIterator};
+use nonempty_collections::{NESlice, NEVec, NonEmptyIterator};
 use std::alloc::{AllocError, Global};
+use std::convert::AsSlice;
 
 /// What a run makes of its numbers.
 #[derive(Clone, Copy, Debug, PartialEq, Eq)]
@@ -25,18 +29,29 @@ pub enum Mode {
     Equal,
     /// The runs of numbers that are all even or all odd, a line each.
     Parity,
+    /// The runs of numbers that differ from their run's first by at most 1, a line each.
+    Near,
+    /// The runs of numbers that differ from the one before by at most 1, a line each.
+    Chain,
 }
 
-/// Each mode has a word that names it, and no other word does.
+/// How many bytes the longest word of a mode has.
+pub const LONGEST_WORD: usize = 6;
+
+/// Each mode has a word that names it, of at most [`LONGEST_WORD`] bytes, and no other word does.
 pub fn modes_have_words()
     ensures named { (mode : Mode) → mode_of (word_of mode) ≡ Some mode }
-    ensures only { (word : List ℕ) (mode : Mode) → mode_of word ≡ Some mode → word ≡ word_of mode }
+    ensures only { (word : List ℕ) (mode : Mode) → mode_of word ≡ Some mode
+        → word ≡ word_of mode }
+    ensures short { (mode : Mode) → length (word_of mode) ≤ LONGEST_WORD }
 {}
 
 /// Each mode makes rows of numbers, of which there is at least one, and no other rows.
 pub fn rows_are_one()
-    ensures there { (mode : Mode) (numbers : List ℕ) → 0 < length numbers → (rows : List (List ℕ)) × AreRows mode numbers rows }
-    ensures only { (mode : Mode) (numbers : List ℕ) (rows others : List (List ℕ)) → AreRows mode numbers rows → AreRows mode numbers others → rows ≡ others }
+    ensures there { (mode : Mode) (numbers : List ℕ) → 0 < length numbers
+        → (rows : List (List ℕ)) × AreRows mode numbers rows }
+    ensures only { (mode : Mode) (numbers : List ℕ) (rows others : List (List ℕ))
+        → AreRows mode numbers rows → AreRows mode numbers others → rows ≡ others }
 {
     has_one_division::<u32>();
 }
@@ -51,6 +66,8 @@ impl Mode {
             "stats" => Some(Mode::Stats),
             "equal" => Some(Mode::Equal),
             "parity" => Some(Mode::Parity),
+            "near" => Some(Mode::Near),
+            "chain" => Some(Mode::Chain),
             _ => None,
         }
     }
@@ -67,6 +84,8 @@ impl Mode {
             Mode::Stats => stats_text(alloc, numbers),
             Mode::Equal => equal_text(alloc, numbers),
             Mode::Parity => parity_text(alloc, numbers),
+            Mode::Near => near_text(alloc, numbers),
+            Mode::Chain => chain_text(alloc, numbers),
         }
     }
 }
@@ -99,43 +118,73 @@ fn stats_text(alloc: Global, numbers: &NEVec<u32>) -> Result<String, AllocError>
 fn equal_text(alloc: Global, numbers: &NEVec<u32>) -> Result<String, AllocError>
     ensures { IfOk result (λ text. IsText Mode.Equal numbers.now (string_bytes text)) }
 {
-    text_by(alloc, numbers, |number| *number)
+    text_by_first(alloc, numbers, |a, b| *a == *b)
 }
 
 // The runs of numbers that are all even or all odd.
 fn parity_text(alloc: Global, numbers: &NEVec<u32>) -> Result<String, AllocError>
     ensures { IfOk result (λ text. IsText Mode.Parity numbers.now (string_bytes text)) }
 {
-    text_by(alloc, numbers, |number| *number % 2 == 0)
+    text_by_first(alloc, numbers, |a, b| (*a % 2 == 0) == (*b % 2 == 0))
 }
 
-// The runs of numbers with the same key, each as a row.
-fn text_by<K: PartialEq + Drop, F: FnMut(&u32) -> K + Drop>(
+// The runs of numbers that differ from their run's first by at most 1.
+fn near_text(alloc: Global, numbers: &NEVec<u32>) -> Result<String, AllocError>
+    ensures { IfOk result (λ text. IsText Mode.Near numbers.now (string_bytes text)) }
+{
+    text_by_first(alloc, numbers, |a, b| a.abs_diff(*b) <= 1)
+}
+
+// The runs of numbers that differ from the one before by at most 1.
+fn chain_text(alloc: Global, numbers: &NEVec<u32>) -> Result<String, AllocError>
+    ensures { IfOk result (λ text. IsText Mode.Chain numbers.now (string_bytes text)) }
+{
+    text_by_previous(alloc, numbers, |a, b| a.abs_diff(*b) <= 1)
+}
+
+// The runs of numbers that are the same as their run's first, a line each.
+fn text_by_first<F: Fn(&u32, &u32) -> bool>(
     alloc: Global,
     numbers: &NEVec<u32>,
-    key: F,
+    same: F,
 ) -> Result<String, AllocError>
-    requires { F.IsAlwaysCallable key }
-    ensures { IfOk result (λ text. (h : ℕ → K) → ActsAsAt F.FnMut key h
-        → (runs : List (List ℕ)) × IsDivision (by_first (λ m n. K.eq (h m) (h n))) numbers.now runs × (string_bytes text ≡ flat_map row_text runs)) }
+    requires { F.IsAlwaysCallable same }
+    ensures { IfOk result (λ text. (h : ℕ → ℕ → Bool) → ActsAsAtPair F.Fn same h
+        → HasRowOfEachRun (by_first h) numbers.now (string_bytes text)) }
 {
-    vectors_give_their_items::<u32>();
-    runs_by_a_function::<u32, K, F>(&key);
-    let walk = numbers.nonempty_iter().copied();
-    text_of_runs(alloc, walk.group_by(alloc, key))
+    slice_runs_are_the_division::<u32, F>();
+    let items = numbers.as_nonempty_slice();
+    text_of_runs(alloc, items.runs_by(same))
 }
 
-// Each run as a row. It is dropped before the next one is drawn.
-fn text_of_runs<R: NonEmptyIterator<Item = Result<NEVec<u32>, AllocError>>>(
+// The runs of numbers that are the same as the one before, a line each.
+fn text_by_previous<F: Fn(&u32, &u32) -> bool>(
+    alloc: Global,
+    numbers: &NEVec<u32>,
+    same: F,
+) -> Result<String, AllocError>
+    requires { F.IsAlwaysCallable same }
+    ensures { IfOk result (λ text. (h : ℕ → ℕ → Bool) → ActsAsAtPair F.Fn same h
+        → HasRowOfEachRun (by_previous h) numbers.now (string_bytes text)) }
+{
+    slice_runs_are_the_division::<u32, F>();
+    let items = numbers.as_nonempty_slice();
+    text_of_runs(alloc, items.adjacent_runs(same))
+}
+
+// Each run as a row.
+fn text_of_runs<'a, R: NonEmptyIterator<Item = NESlice<'a, u32>>>(
     alloc: Global,
     runs: R,
 ) -> Result<String, AllocError>
     requires { IsFiniteIterable R.into_iter_gives R.IntoIter.can_next R.IntoIter.remaining runs }
-    ensures { IfOk result (λ text. (rows : List (List ℕ)) × ⟦<R as Source>⟧.reads true runs (map Ok rows) × (string_bytes text ≡ flat_map row_text rows)) }
+    ensures { IfOk result (λ text. (rows : List (List ℕ))
+        × ⟦<R as Source>⟧.reads true runs rows
+        × (string_bytes text ≡ flat_map row_text rows)) }
 {
     let mut text = String::new(alloc);
     for run in runs {
-        push_run(&mut text, &run?)?;
+        push_run(&mut text, &run)?;
     }
     Ok(text)
 }
@@ -178,11 +227,12 @@ fn push_row(text: &mut String, first: u64, rest: &[u64]) -> Result<(), AllocErro
     text.push('\n')
 }
 
-// The same of a run.
-fn push_run(text: &mut String, run: &NEVec<u32>) -> Result<(), AllocError>
+// Adds a run to a text, as a row.
+fn push_run(text: &mut String, run: &NESlice<'_, u32>) -> Result<(), AllocError>
     ensures { OnOk result (string_bytes text.new ≡ string_bytes text.old ++ row_text run.now) }
 {
-    let (first, rest) = run.split_first();
+    let first = run.first();
+    let rest = &run.as_slice()[1..];
     write!(text, "{first}")?;
     for number in rest {
         write!(text, " {number}")?;

@@ -97,10 +97,36 @@ fn rows_of_runs(rt: HostRuntime) -> Result<(), Fail> {
 }
 
 #[test]
+fn rows_of_near_runs(rt: HostRuntime) -> Result<(), Fail> {
+    let rows: [(&[u8], Result<(), Fault>, &[u8]); 8] = [
+        (b"1\n2\n3\n", Ok(()), b"1 2\n3\n"),
+        (b"1\n2\n3\n4\n5\n", Ok(()), b"1 2\n3 4\n5\n"),
+        (b"3\n2\n1\n", Ok(()), b"3 2\n1\n"),
+        (b"5\n4\n6\n4\n", Ok(()), b"5 4 6 4\n"),
+        (b"0\n999999999\n", Ok(()), b"0\n999999999\n"),
+        (b"7", Ok(()), b"7\n"),
+        (b"1\n2\nx\n", Err(Fault::BadLine(3)), b""),
+        (b"", Err(Fault::Empty), b""),
+    ];
+    check_rows(&rt, rt.alloc(), "near", &rows)?;
+    let rows: [(&[u8], Result<(), Fault>, &[u8]); 8] = [
+        (b"1\n2\n3\n", Ok(()), b"1 2 3\n"),
+        (b"1\n2\n3\n4\n5\n", Ok(()), b"1 2 3 4 5\n"),
+        (b"3\n2\n1\n", Ok(()), b"3 2 1\n"),
+        (b"5\n4\n6\n4\n", Ok(()), b"5 4\n6\n4\n"),
+        (b"0\n999999999\n", Ok(()), b"0\n999999999\n"),
+        (b"7", Ok(()), b"7\n"),
+        (b"1\n2\nx\n", Err(Fault::BadLine(3)), b""),
+        (b"", Err(Fault::Empty), b""),
+    ];
+    check_rows(&rt, rt.alloc(), "chain", &rows)
+}
+
+#[test]
 fn words_that_name_no_mode(rt: HostRuntime) -> Result<(), Fail> {
     for word in [
         "runs", "end", "endss", "stat", "statss", "", "ENDS", "Stats", "ends ", "stats\n", "Equal",
-        "equals", "parit",
+        "equals", "parit", "nears", "Chain", "distinct",
     ] {
         let mut reader = reader_of(b"1\n", 1);
         let mut writer = empty_tape(rt.alloc(), 1);
@@ -185,6 +211,17 @@ fn each_read_failed(rt: HostRuntime) -> Result<(), Fail> {
             assert_eq!(rt; writer.calls, 0);
         }
     }
+    Ok(())
+}
+
+#[test]
+fn read_failed_after_a_line(rt: HostRuntime) -> Result<(), Fail> {
+    let mut reader = reader_of(b"1\n", usize::MAX);
+    reader.fails_at = 1;
+    let mut writer = empty_tape(rt.alloc(), usize::MAX);
+    let answered = run(rt.alloc(), "equal", &mut reader, &mut writer);
+    assert_eq!(rt; answered, Err(Fault::Read));
+    assert_eq!(rt; (reader.turns, writer.calls), (2, 0));
     Ok(())
 }
 
