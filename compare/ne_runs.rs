@@ -42,6 +42,8 @@ enum Mode {
     Stats,
     Equal,
     Parity,
+    Near,
+    Chain,
 }
 
 impl Mode {
@@ -53,6 +55,8 @@ impl Mode {
             "stats" => Mode::Stats,
             "equal" => Mode::Equal,
             "parity" => Mode::Parity,
+            "near" => Mode::Near,
+            "chain" => Mode::Chain,
             _ => return None,
         };
         words.next().is_none().then_some(mode)
@@ -69,7 +73,24 @@ impl Mode {
             }
             Mode::Equal => rows(numbers.chunk_by(|m, n| m == n)),
             Mode::Parity => rows(numbers.chunk_by(|m, n| m % 2 == n % 2)),
+            Mode::Near => rows(NearRuns(numbers)),
+            Mode::Chain => rows(numbers.chunk_by(|m, n| m.abs_diff(*n) <= 1)),
         })
+    }
+}
+
+// The runs of numbers that differ from their run's first by at most 1.
+struct NearRuns<'a>(&'a [u32]);
+
+impl<'a> Iterator for NearRuns<'a> {
+    type Item = &'a [u32];
+
+    fn next(&mut self) -> Option<&'a [u32]> {
+        let first = self.0.first()?;
+        let end = self.0.iter().position(|number| number.abs_diff(*first) > 1);
+        let (run, rest) = self.0.split_at(end.unwrap_or(self.0.len()));
+        self.0 = rest;
+        Some(run)
     }
 }
 

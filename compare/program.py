@@ -40,11 +40,12 @@ def stats(numbers):
     return [[min(numbers), max(numbers), sum(numbers)]]
 
 
-def runs(numbers, key):
-    """Each number goes on a run while its key is that of the run's first number."""
+def runs(numbers, same, place=0):
+    """Each number goes on a run while it is the same as the run's first number, or, if the place is
+    -1, as its last."""
     rows = []
     for number in numbers:
-        if rows and key(rows[-1][0]) == key(number):
+        if rows and same(rows[-1][place], number):
             rows[-1].append(number)
         else:
             rows.append([number])
@@ -52,14 +53,33 @@ def runs(numbers, key):
 
 
 def equal(numbers):
-    return runs(numbers, lambda number: number)
+    return runs(numbers, lambda m, n: m == n)
 
 
 def parity(numbers):
-    return runs(numbers, lambda number: number % 2 == 0)
+    return runs(numbers, lambda m, n: m % 2 == n % 2)
 
 
-MODES = {"ends": ends, "stats": stats, "equal": equal, "parity": parity}
+def is_near(m, n):
+    return abs(m - n) <= 1
+
+
+def near(numbers):
+    return runs(numbers, is_near)
+
+
+def chain(numbers):
+    return runs(numbers, is_near, -1)
+
+
+MODES = {
+    "ends": ends,
+    "stats": stats,
+    "equal": equal,
+    "parity": parity,
+    "near": near,
+    "chain": chain,
+}
 
 
 def number(line):
