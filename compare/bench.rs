@@ -269,9 +269,9 @@ fn flatten(n: NonZeroUsize) -> u64 {
 }
 
 fn scan(n: NonZeroUsize) -> u64 {
-    let items = Vec::from(scrambled(n)).into_iter();
-    let totals = items.scan(0u64, |total, x| {
-        *total = total.wrapping_add(x);
+    let items = scrambled(n);
+    let totals = items.iter().scan(0u64, |total, x| {
+        *total = total.wrapping_add(*x);
         Some(*total)
     });
     let mut checksum = 0u64;

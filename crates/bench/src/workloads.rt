@@ -173,9 +173,9 @@ fn flatten(alloc: Global, n: NonZeroUsize) -> Result<u64, AllocError> {
 }
 
 fn scan(alloc: Global, n: NonZeroUsize) -> Result<u64, AllocError> {
-    let items = scrambled(alloc, n)?.into_nonempty_iter();
-    let totals = items.scan(0u64, |total, x| {
-        *total = total.wrapping_add(x);
+    let items = scrambled(alloc, n)?;
+    let totals = items.nonempty_iter().scan(0u64, |total, x| {
+        *total = total.wrapping_add(*x);
         *total
     });
     let mut checksum = 0u64;
