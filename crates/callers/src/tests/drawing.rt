@@ -1,6 +1,6 @@
 //! `shuffle` and `choose`, beside what `rand` gives of the same list and source.
 
-use ne_vec::nev;
+use super::{is, list};
 use rand::SeedableRng;
 use rand::rngs::{SmallRng, StdRng};
 use rand::seq::{IndexedRandom, SliceRandom};
@@ -12,18 +12,18 @@ fn as_rand_draws(rt: HostRuntime) -> Result<(), Fail> {
     for state in 0..20 {
         let mut ours = StdRng::seed_from_u64(state);
         let mut theirs = StdRng::seed_from_u64(state);
-        let mut vector = nev![rt.alloc(); 1, 2, 3, 4]?;
-        let mut list = vec![in rt.alloc(); 1, 2, 3, 4]?;
+        let mut vector = list(rt.alloc(), &[1, 2, 3, 4])?;
+        let mut plain = vec![in rt.alloc(); 1, 2, 3, 4]?;
         vector.shuffle(&mut ours);
-        list.shuffle(&mut theirs);
-        assert_eq!(rt; vector.as_ref(), &list);
-        assert_eq!(rt;
+        plain.shuffle(&mut theirs);
+        is(vector.as_ref(), &plain)?;
+        is(
             vector.choose(&mut ours),
-            list.as_slice().choose(&mut theirs)
-        );
-        assert_eq!(rt; ours.next_u64(), theirs.next_u64());
+            plain.as_slice().choose(&mut theirs),
+        )?;
+        is(ours.next_u64(), theirs.next_u64())?;
     }
     let mut small = SmallRng::seed_from_u64(7);
-    assert_eq!(rt; nev![rt.alloc(); 7]?.choose(&mut small), Some(&7));
+    is(list(rt.alloc(), &[7])?.choose(&mut small), Some(&7))?;
     Ok(())
 }

@@ -1,75 +1,51 @@
 //! The calls of `NESlice`, and chunks.
 
-use super::{of, part};
+use super::{is, list, of, part, same};
+use ne_vec::NESlice;
 use ne_vec::slice::Iter;
-use ne_vec::{NESlice, nev};
 use std::alloc::Global;
 use std::cmp::Ordering;
 use std::collections::HashSet;
 use std::convert::AsSlice;
+use std::slice;
 use std::test::Fail;
 
 #[test]
 fn calls(rt: HostRuntime) -> Result<(), Fail> {
     let none: [u8; 0] = [];
-    assert_eq!(rt; NESlice::try_from_slice(&none).is_none(), true);
+    is(NESlice::try_from_slice(&none).is_none(), true)?;
     let items = [1, 2, 3];
     let three = part(&items)?;
-    assert_eq!(rt;
-        (
-            *three.first(),
-            *three.last(),
-            three.len().get(),
-            three.is_empty()
-        ),
-        (1, 3, 3, false)
-    );
-    assert_eq!(rt; three[1], 2);
-    assert_eq!(rt; three.as_slice(), items.as_slice());
+    is((*three.first(), *three.last()), (1, 3))?;
+    is((three.len().get(), three.is_empty()), (3, false))?;
+    is(three[1], 2)?;
+    same(three.as_slice(), &items)?;
     let again = three.clone()?;
-    assert_eq!(rt;
-        (again == three, again.cmp(&three)),
-        (true, Ordering::Equal)
-    );
-    assert_eq!(rt; three.partial_cmp(&part(&[1, 3])?), Some(Ordering::Less));
+    is(again == three, true)?;
+    is(again.cmp(&three), Ordering::Equal)?;
+    is(three.partial_cmp(&part(&[1, 3])?), Some(Ordering::Less))?;
     let mut seen: HashSet<NESlice<'_, u8>> = HashSet::new(rt.alloc());
-    assert_eq!(rt; seen.insert(part(&[1, 2])?)?, true);
-    assert_eq!(rt; seen.insert(part(&[1, 2])?)?, false);
+    is(seen.insert(part(&[1, 2])?)?, true)?;
+    is(seen.insert(part(&[1, 2])?)?, false)?;
     Ok(())
+}
+
+// Fails if the items of the slice's iterator are others.
+fn gives(alloc: Global, iter: slice::Iter<'_, i32>, wanted: &[i32]) -> Result<(), Fail> {
+    let items: Vec<i32> = iter.copied().collect(alloc)?;
+    same(items.as_slice(), wanted)
 }
 
 #[test]
 fn walks(rt: HostRuntime) -> Result<(), Fail> {
+    let alloc = rt.alloc();
     let items = [1, 2, 3];
     let three = part(&items)?;
-    let wanted = vec![in rt.alloc(); 1, 2, 3]?;
-    assert_eq!(rt;
-        three.iter().copied().collect::<Vec<_>>(rt.alloc())?,
-        wanted
-    );
-    assert_eq!(rt;
-        three
-            .nonempty_iter()
-            .into_iter()
-            .copied()
-            .collect::<Vec<_>>(rt.alloc())?,
-        wanted
-    );
-    assert_eq!(rt;
-        (&three).into_iter().copied().collect::<Vec<_>>(rt.alloc())?,
-        wanted
-    );
-    assert_eq!(rt;
-        Iter::from(three.clone()?)
-            .into_iter()
-            .copied()
-            .collect::<Vec<_>>(rt.alloc())?,
-        wanted
-    );
-    assert_eq!(rt;
-        three.into_iter().copied().collect::<Vec<_>>(rt.alloc())?,
-        wanted
-    );
+    gives(alloc, three.iter(), &[1, 2, 3])?;
+    gives(alloc, three.nonempty_iter().into_iter(), &[1, 2, 3])?;
+    gives(alloc, (&three).into_iter(), &[1, 2, 3])?;
+    gives(alloc, Iter::from(three.clone()?).into_iter(), &[1, 2, 3])?;
+    gives(alloc, three.into_iter(), &[1, 2, 3])?;
     Ok(())
 }
 
@@ -86,7 +62,7 @@ fn chunks_of_seven(alloc: Global, size: usize) -> Result<(Vec<u8>, usize), Fail>
     Ok((shown, count))
 }
 
-// Behind each chunk stands a 0.
+// Behind each chunk stands a 0. The size is on both sides, so that a failure names it.
 #[test]
 fn chunks(rt: HostRuntime) -> Result<(), Fail> {
     for (size, wanted, chunks) in [
@@ -96,23 +72,21 @@ fn chunks(rt: HostRuntime) -> Result<(), Fail> {
         (usize::MAX, [1, 2, 3, 4, 5, 6, 7, 0].as_slice(), 1),
     ] {
         let (shown, count) = chunks_of_seven(rt.alloc(), size)?;
-        assert_eq!(rt; (shown.as_slice(), count), (wanted, chunks), "{size}");
+        is((size, shown.as_slice(), count), (size, wanted, chunks))?;
     }
     Ok(())
 }
 
 #[test]
 fn chunks_of_a_vector(rt: HostRuntime) -> Result<(), Fail> {
-    let five = nev![rt.alloc(); 1, 2, 3, 4, 5]?;
+    let five = list(rt.alloc(), &[1, 2, 3, 4, 5])?;
     let mut chunks = five.nonempty_chunks(of(2)?).into_iter();
-    assert_eq!(rt; chunks.size_hint(), (3, Some(3)));
+    is(chunks.size_hint(), (3, Some(3)))?;
     for wanted in [[1, 2].as_slice(), [3, 4].as_slice(), [5].as_slice()] {
         let chunk = chunks.next().ok_or("no chunk left")?;
-        assert_eq!(rt; chunk.as_slice(), wanted);
+        same(chunk.as_slice(), wanted)?;
     }
-    assert_eq!(rt;
-        (chunks.next().is_none(), chunks.size_hint()),
-        (true, (0, Some(0)))
-    );
+    is(chunks.next().is_none(), true)?;
+    is(chunks.size_hint(), (0, Some(0)))?;
     Ok(())
 }

@@ -1,55 +1,37 @@
 //! The calls of `NEVec`.
-ghost use Rattle.std.specs.Prelude.{◌≡◌, IfOk, length};
 
-use super::{of, part};
+use super::{is, list, of, part, same};
 use ne_vec::{Error, NEVec, Singleton, nev, vector};
-use std::alloc::Global;
 use std::cmp::Ordering;
 use std::collections::HashSet;
 use std::convert::AsSlice;
 use std::test::Fail;
 
-// The vector of these items.
-fn list<T: Clone + Drop>(alloc: Global, items: &[T]) -> Result<NEVec<T>, Fail>
-    ensures { IfOk result (λ v. length v ≡ length items.now) }
-{
-    Ok(NEVec::try_from_slice(alloc, items)?.ok_or("no items")?)
-}
-
 #[test]
 fn made_of_items(rt: HostRuntime) -> Result<(), Fail> {
     let alloc = rt.alloc();
-    assert_eq!(rt; NEVec::new(alloc, 7)?.as_slice(), [7].as_slice());
-    assert_eq!(rt;
-        NEVec::from_elem(alloc, 1, of(3)?)?.as_slice(),
-        [1, 1, 1].as_slice()
-    );
-    assert_eq!(rt;
-        NEVec::with_capacity(alloc, of(5)?, 1)?.as_slice(),
-        [1].as_slice()
-    );
+    same(NEVec::new(alloc, 7)?.as_slice(), &[7])?;
+    same(NEVec::from_elem(alloc, 1, of(3)?)?.as_slice(), &[1, 1, 1])?;
+    same(NEVec::with_capacity(alloc, of(5)?, 1)?.as_slice(), &[1])?;
     Ok(())
 }
 
 #[test]
 fn made_of_parts(rt: HostRuntime) -> Result<(), Fail> {
     let tail = vec![in rt.alloc(); 2, 3, 4, 5]?;
-    assert_eq!(rt;
-        NEVec::from_parts(1, tail)?.as_slice(),
-        [1, 2, 3, 4, 5].as_slice()
-    );
+    same(NEVec::from_parts(1, tail)?.as_slice(), &[1, 2, 3, 4, 5])?;
     let mut two: NEVec<u8> = Singleton::singleton(rt.alloc(), 1)?;
     two.extend_one(2)?;
-    assert_eq!(rt; two.as_slice(), [1, 2].as_slice());
+    same(two.as_slice(), &[1, 2])?;
     Ok(())
 }
 
 #[test]
 fn made_by_macro(rt: HostRuntime) -> Result<(), Fail> {
     let alloc = rt.alloc();
-    assert_eq!(rt; nev![alloc; 7]?.as_slice(), [7].as_slice());
-    assert_eq!(rt; nev![alloc; 1, 2, 3,]?.as_slice(), [1, 2, 3].as_slice());
-    assert_eq!(rt; nev![alloc; 1; 3]?.as_slice(), [1, 1, 1].as_slice());
+    same(nev![alloc; 7]?.as_slice(), &[7])?;
+    same(nev![alloc; 1, 2, 3,]?.as_slice(), &[1, 2, 3])?;
+    same(nev![alloc; 1; 3]?.as_slice(), &[1, 1, 1])?;
     Ok(())
 }
 
@@ -60,11 +42,11 @@ fn items_of_a_macro_in_order(rt: HostRuntime) -> Result<(), Fail> {
         count += 1;
         count
     };
-    assert_eq!(rt;
+    same(
         nev![rt.alloc(); next(), next(), next()]?.as_slice(),
-        [1, 2, 3].as_slice()
-    );
-    assert_eq!(rt; nev![rt.alloc(); next(); 2]?.as_slice(), [4, 4].as_slice());
+        &[1, 2, 3],
+    )?;
+    same(nev![rt.alloc(); next(); 2]?.as_slice(), &[4, 4])?;
     Ok(())
 }
 
@@ -72,9 +54,9 @@ fn items_of_a_macro_in_order(rt: HostRuntime) -> Result<(), Fail> {
 fn made_of_collections(rt: HostRuntime) -> Result<(), Fail> {
     let alloc = rt.alloc();
     let none: [u8; 0] = [];
-    assert_eq!(rt; NEVec::try_from_slice(alloc, &none)?.is_none(), true);
-    assert_eq!(rt; list(alloc, &[1, 2])?.as_slice(), [1, 2].as_slice());
-    assert_eq!(rt; NEVec::try_from_vec(Vec::<u8>::new(alloc)).is_none(), true);
+    is(NEVec::try_from_slice(alloc, &none)?.is_none(), true)?;
+    same(list(alloc, &[1, 2])?.as_slice(), &[1, 2])?;
+    is(NEVec::try_from_vec(Vec::<u8>::new(alloc)).is_none(), true)?;
     Ok(())
 }
 
@@ -82,14 +64,14 @@ fn made_of_collections(rt: HostRuntime) -> Result<(), Fail> {
 fn converted(rt: HostRuntime) -> Result<(), Fail> {
     let alloc = rt.alloc();
     let refused: Result<NEVec<u8>, Error> = NEVec::try_from(Vec::new(alloc));
-    assert_eq!(rt;
+    is(
         matches!(refused.err().ok_or("made of nothing")?, Error::Empty),
-        true
-    );
+        true,
+    )?;
     let taken: Result<NEVec<u8>, Error> = NEVec::try_from(vec![in alloc; 1, 2]?);
-    assert_eq!(rt; taken.ok().ok_or("refused")?.as_slice(), [1, 2].as_slice());
+    same(taken.ok().ok_or("refused")?.as_slice(), &[1, 2])?;
     let there = NEVec::try_from_vec(vec![in alloc; 1, 2]?).ok_or("no items")?;
-    assert_eq!(rt; Vec::from(there).as_slice(), [1, 2].as_slice());
+    same(Vec::from(there).as_slice(), &[1, 2])?;
     Ok(())
 }
 
@@ -97,31 +79,31 @@ fn converted(rt: HostRuntime) -> Result<(), Fail> {
 fn one_item(rt: HostRuntime) -> Result<(), Fail> {
     let mut one = NEVec::new(rt.alloc(), 1)?;
     let (first, middle, last) = one.split();
-    assert_eq!(rt; (*first, middle.len(), *last), (1, 0, 1));
+    is((*first, middle.len(), *last), (1, 0, 1))?;
     let (first, rest) = one.split_first();
-    assert_eq!(rt; (*first, rest.len()), (1, 0));
-    assert_eq!(rt;
+    is((*first, rest.len()), (1, 0))?;
+    is(
         (one.pop(), one.remove(7), one.swap_remove(7)),
-        (None, None, None)
-    );
-    assert_eq!(rt; one.as_slice(), [1].as_slice());
-    assert_eq!(rt; (one.is_empty(), one.len().get()), (false, 1));
-    assert_eq!(rt; (*one.first(), *one.last()), (1, 1));
+        (None, None, None),
+    )?;
+    same(one.as_slice(), &[1])?;
+    is((one.is_empty(), one.len().get()), (false, 1))?;
+    is((*one.first(), *one.last()), (1, 1))?;
     Ok(())
 }
 
 #[test]
 fn items_out(rt: HostRuntime) -> Result<(), Fail> {
     let mut four = list(rt.alloc(), &[1, 2, 3, 4])?;
-    assert_eq!(rt; four.swap_remove(1), Some(2));
-    assert_eq!(rt; four.as_slice(), [1, 4, 3].as_slice());
-    assert_eq!(rt; four.swap_remove(2), Some(3));
-    assert_eq!(rt; four.as_slice(), [1, 4].as_slice());
-    assert_eq!(rt; four.remove(0), Some(1));
-    assert_eq!(rt; four.pop(), None);
+    is(four.swap_remove(1), Some(2))?;
+    same(four.as_slice(), &[1, 4, 3])?;
+    is(four.swap_remove(2), Some(3))?;
+    same(four.as_slice(), &[1, 4])?;
+    is(four.remove(0), Some(1))?;
+    is(four.pop(), None)?;
     four.push(5)?;
-    assert_eq!(rt; four.pop(), Some(5));
-    assert_eq!(rt; four.as_slice(), [4].as_slice());
+    is(four.pop(), Some(5))?;
+    same(four.as_slice(), &[4])?;
     Ok(())
 }
 
@@ -131,7 +113,7 @@ fn inserted(rt: HostRuntime) -> Result<(), Fail> {
     three.insert(1, 4)?;
     three.insert(4, 5)?;
     three.insert(0, 42)?;
-    assert_eq!(rt; three.as_slice(), [42, 1, 4, 2, 3, 5].as_slice());
+    same(three.as_slice(), &[42, 1, 4, 2, 3, 5])?;
     Ok(())
 }
 
@@ -140,9 +122,10 @@ fn appended(rt: HostRuntime) -> Result<(), Fail> {
     let mut one = NEVec::new(rt.alloc(), 1)?;
     let mut more = vec![in rt.alloc(); 2, 3]?;
     one.append(&mut more)?;
-    assert_eq!(rt; (one.as_slice(), more.len()), ([1, 2, 3].as_slice(), 0));
+    same(one.as_slice(), &[1, 2, 3])?;
+    is(more.len(), 0)?;
     one.extend([4, 5, 6])?;
-    assert_eq!(rt; one.as_slice(), [1, 2, 3, 4, 5, 6].as_slice());
+    same(one.as_slice(), &[1, 2, 3, 4, 5, 6])?;
     Ok(())
 }
 
@@ -150,10 +133,10 @@ fn appended(rt: HostRuntime) -> Result<(), Fail> {
 fn cut_and_turned(rt: HostRuntime) -> Result<(), Fail> {
     let mut three = list(rt.alloc(), &[1, 2, 3])?;
     three.truncate(of(2)?);
-    assert_eq!(rt; three.as_slice(), [1, 2].as_slice());
+    same(three.as_slice(), &[1, 2])?;
     three.truncate(of(9)?);
     three.reverse();
-    assert_eq!(rt; three.as_slice(), [2, 1].as_slice());
+    same(three.as_slice(), &[2, 1])?;
     Ok(())
 }
 
@@ -161,9 +144,9 @@ fn cut_and_turned(rt: HostRuntime) -> Result<(), Fail> {
 fn none_kept(rt: HostRuntime) -> Result<(), Fail> {
     let alloc = rt.alloc();
     let empty = list(alloc, &[0, 1, 2, 3])?.retain(|_| false).err();
-    assert_eq!(rt; empty.ok_or("some kept")?.len(), 0);
+    is(empty.ok_or("some kept")?.len(), 0)?;
     let empty = list(alloc, &[0, 1])?.retain_mut(|_| false).err();
-    assert_eq!(rt; empty.ok_or("some kept")?.len(), 0);
+    is(empty.ok_or("some kept")?.len(), 0)?;
     Ok(())
 }
 
@@ -172,14 +155,14 @@ fn some_kept(rt: HostRuntime) -> Result<(), Fail> {
     let alloc = rt.alloc();
     let odd = list(alloc, &[0, 1, 2, 3])?.retain(|x| *x % 2 == 1);
     let odd = odd.ok().ok_or("none kept")?;
-    assert_eq!(rt; odd.as_slice(), [1, 3].as_slice());
+    same(odd.as_slice(), &[1, 3])?;
     let written = list(alloc, &[1u8, 2, 3, 4])?.retain_mut(|x| {
         let stays = *x <= 3;
         *x = x.wrapping_add(1);
         stays
     });
     let written = written.ok().ok_or("none kept")?;
-    assert_eq!(rt; written.as_slice(), [2, 3, 4].as_slice());
+    same(written.as_slice(), &[2, 3, 4])?;
     Ok(())
 }
 
@@ -192,18 +175,19 @@ fn kept_by_turns(rt: HostRuntime) -> Result<(), Fail> {
         asked == 2
     });
     let kept = kept.ok().ok_or("none kept")?;
-    assert_eq!(rt; (kept.as_slice(), asked), ([6].as_slice(), 3));
+    same(kept.as_slice(), &[6])?;
+    is(asked, 3)?;
     Ok(())
 }
 
 #[test]
 fn looked_up(rt: HostRuntime) -> Result<(), Fail> {
     let three = list(rt.alloc(), &[10, 20, 30])?;
-    assert_eq!(rt; (three.contains(&20), three.contains(&25)), (true, false));
-    assert_eq!(rt; (three.get(2), three.get(3)), (Some(&30), None));
-    assert_eq!(rt; three[1], 20);
-    assert_eq!(rt; three.capacity() >= three.len(), true);
-    assert_eq!(rt; three.as_ref().len(), 3);
+    is((three.contains(&20), three.contains(&25)), (true, false))?;
+    is((three.get(2), three.get(3)), (Some(&30), None))?;
+    is(three[1], 20)?;
+    is(three.capacity() >= three.len(), true)?;
+    is(three.as_ref().len(), 3)?;
     Ok(())
 }
 
@@ -216,10 +200,10 @@ fn written(rt: HostRuntime) -> Result<(), Fail> {
     if let Some(x) = three.get_mut(1) {
         *x = 22;
     }
-    assert_eq!(rt; three.get_mut(3).is_none(), true);
-    assert_eq!(rt; three.as_slice(), [11, 22, 31].as_slice());
+    is(three.get_mut(3).is_none(), true)?;
+    same(three.as_slice(), &[11, 22, 31])?;
     three.as_mut_slice().reverse();
-    assert_eq!(rt; three.as_slice(), [31, 22, 11].as_slice());
+    same(three.as_slice(), &[31, 22, 11])?;
     Ok(())
 }
 
@@ -228,30 +212,30 @@ fn sorted(rt: HostRuntime) -> Result<(), Fail> {
     let alloc = rt.alloc();
     let mut six = list(alloc, &[1, 5, 4, 3, 2, 1])?;
     six.sort()?;
-    assert_eq!(rt; six.as_slice(), [1, 1, 2, 3, 4, 5].as_slice());
+    same(six.as_slice(), &[1, 1, 2, 3, 4, 5])?;
     let mut rivers = list(alloc, &["Sirion", "Gelion", "Narog"])?;
     rivers.sort_by(|a, b| b.cmp(a))?;
-    assert_eq!(rt; rivers.as_slice(), ["Sirion", "Narog", "Gelion"].as_slice());
+    same(rivers.as_slice(), &["Sirion", "Narog", "Gelion"])?;
     let mut signed = list(alloc, &[-5i32, 4, -3, 2, 1])?;
     signed.sort_by_key(|x| x.wrapping_mul(*x))?;
-    assert_eq!(rt; signed.as_slice(), [1, 2, -3, 4, -5].as_slice());
+    same(signed.as_slice(), &[1, 2, -3, 4, -5])?;
     Ok(())
 }
 
 #[test]
 fn searched(rt: HostRuntime) -> Result<(), Fail> {
     let found = list(rt.alloc(), &[0, 1, 1, 1, 1, 2, 3, 5, 8, 13, 21, 34, 55u8])?;
-    assert_eq!(rt; found.binary_search(&13), Ok(9));
-    assert_eq!(rt; found.binary_search(&4), Err(7));
-    assert_eq!(rt; found.binary_search(&100), Err(13));
-    assert_eq!(rt; matches!(found.binary_search(&1), Ok(1..=4)), true);
-    assert_eq!(rt; found.binary_search_by(|x| x.cmp(&13)), Ok(9));
-    assert_eq!(rt;
+    for (item, wanted) in [(13, Ok(9)), (4, Err(7)), (100, Err(13))] {
+        is(found.binary_search(&item), wanted)?;
+    }
+    is(matches!(found.binary_search(&1), Ok(1..=4)), true)?;
+    is(found.binary_search_by(|x| x.cmp(&13)), Ok(9))?;
+    is(
         found.binary_search_by_key(&14, |x| x.wrapping_add(1)),
-        Ok(9)
-    );
+        Ok(9),
+    )?;
     let parted = list(rt.alloc(), &[1, 2, 3, 3, 5, 6, 7])?;
-    assert_eq!(rt; parted.partition_point(|x| *x < 5), 4);
+    is(parted.partition_point(|x| *x < 5), 4)?;
     Ok(())
 }
 
@@ -260,10 +244,10 @@ fn neighbours_dropped(rt: HostRuntime) -> Result<(), Fail> {
     let alloc = rt.alloc();
     let mut eight = list(alloc, &[1, 1, 1, 2, 3, 2, 2, 1])?;
     eight.dedup();
-    assert_eq!(rt; eight.as_slice(), [1, 2, 3, 2, 1].as_slice());
+    same(eight.as_slice(), &[1, 2, 3, 2, 1])?;
     let mut near = list(alloc, &[1u8, 2, 3])?;
     near.dedup_by(|later, kept| later.abs_diff(*kept) <= 1);
-    assert_eq!(rt; near.as_slice(), [1, 3].as_slice());
+    same(near.as_slice(), &[1, 3])?;
     Ok(())
 }
 
@@ -272,7 +256,7 @@ fn neighbours_dropped(rt: HostRuntime) -> Result<(), Fail> {
 fn successors_dropped(rt: HostRuntime) -> Result<(), Fail> {
     let mut four = list(rt.alloc(), &[1u8, 2, 3, 4])?;
     four.dedup_by(|later, kept| *later == kept.wrapping_add(1));
-    assert_eq!(rt; four.as_slice(), [1, 3].as_slice());
+    same(four.as_slice(), &[1, 3])?;
     Ok(())
 }
 
@@ -280,7 +264,7 @@ fn successors_dropped(rt: HostRuntime) -> Result<(), Fail> {
 fn neighbours_of_one_key_dropped(rt: HostRuntime) -> Result<(), Fail> {
     let mut tens = list(rt.alloc(), &[10, 20, 21, 30, 20])?;
     tens.dedup_by_key(|x| *x / 10);
-    assert_eq!(rt; tens.as_slice(), [10, 20, 30, 20].as_slice());
+    same(tens.as_slice(), &[10, 20, 30, 20])?;
     Ok(())
 }
 
@@ -288,11 +272,11 @@ fn neighbours_of_one_key_dropped(rt: HostRuntime) -> Result<(), Fail> {
 fn walks_that_write(rt: HostRuntime) -> Result<(), Fail> {
     let mut four = list(rt.alloc(), &[0, 1, 2, 3])?;
     crate::lists::bump_each(&mut four);
-    assert_eq!(rt; four.as_slice(), [1, 2, 3, 4].as_slice());
+    same(four.as_slice(), &[1, 2, 3, 4])?;
     crate::lists::bump_nonempty(&mut four);
-    assert_eq!(rt; four.as_slice(), [2, 3, 4, 5].as_slice());
+    same(four.as_slice(), &[2, 3, 4, 5])?;
     crate::lists::bump_loop(&mut four);
-    assert_eq!(rt; four.as_slice(), [3, 4, 5, 6].as_slice());
+    same(four.as_slice(), &[3, 4, 5, 6])?;
     Ok(())
 }
 
@@ -300,23 +284,22 @@ fn walks_that_write(rt: HostRuntime) -> Result<(), Fail> {
 fn walks_that_read(rt: HostRuntime) -> Result<(), Fail> {
     let alloc = rt.alloc();
     let four = list(alloc, &[3, 4, 5, 6])?;
-    let halves = [1, 2, 2, 3];
-    assert_eq!(rt;
+    same(
         crate::lists::halves(alloc, &four)?.as_slice(),
-        halves.as_slice()
-    );
-    assert_eq!(rt;
+        &[1, 2, 2, 3],
+    )?;
+    same(
         crate::lists::halves_nonempty(alloc, &four)?.as_slice(),
-        halves.as_slice()
-    );
+        &[1, 2, 2, 3],
+    )?;
     let mut total = 0u32;
     for x in &four {
         total = total.wrapping_add(*x);
     }
-    assert_eq!(rt; total, 18);
+    is(total, 18)?;
     let walk = four.nonempty_iter();
     let again: Vec<u32> = walk.clone()?.into_iter().copied().collect(alloc)?;
-    assert_eq!(rt; again.as_slice(), four.as_slice());
+    same(again.as_slice(), four.as_slice())?;
     Ok(())
 }
 
@@ -327,9 +310,9 @@ fn walks_that_consume(rt: HostRuntime) -> Result<(), Fail> {
     let taken: Vec<u8> = vector::IntoIter::from(two.clone()?)
         .into_iter()
         .collect(alloc)?;
-    assert_eq!(rt; taken.as_slice(), [1, 2].as_slice());
+    same(taken.as_slice(), &[1, 2])?;
     let taken: Vec<u8> = two.into_iter().collect(alloc)?;
-    assert_eq!(rt; taken.as_slice(), [1, 2].as_slice());
+    same(taken.as_slice(), &[1, 2])?;
     Ok(())
 }
 
@@ -339,14 +322,14 @@ fn compared(rt: HostRuntime) -> Result<(), Fail> {
     let two = list(alloc, &[1, 2])?;
     let longer = list(alloc, &[1, 2, 0])?;
     let greater = list(alloc, &[1, 3])?;
-    assert_eq!(rt; (two.clone()? == two, two == longer), (true, false));
-    assert_eq!(rt; (two < longer, longer < greater), (true, true));
-    assert_eq!(rt;
+    is((two.clone()? == two, two == longer), (true, false))?;
+    is((two < longer, longer < greater), (true, true))?;
+    is(
         (two.cmp(&two), greater.cmp(&two)),
-        (Ordering::Equal, Ordering::Greater)
-    );
-    assert_eq!(rt; two.partial_cmp(&greater), Some(Ordering::Less));
-    assert_eq!(rt; part(&[1, 2])? == two.as_nonempty_slice(), true);
+        (Ordering::Equal, Ordering::Greater),
+    )?;
+    is(two.partial_cmp(&greater), Some(Ordering::Less))?;
+    is(part(&[1, 2])? == two.as_nonempty_slice(), true)?;
     Ok(())
 }
 
@@ -354,8 +337,8 @@ fn compared(rt: HostRuntime) -> Result<(), Fail> {
 fn hashed(rt: HostRuntime) -> Result<(), Fail> {
     let alloc = rt.alloc();
     let mut seen: HashSet<NEVec<u8>> = HashSet::new(alloc);
-    assert_eq!(rt; seen.insert(list(alloc, &[1, 2])?)?, true);
-    assert_eq!(rt; seen.insert(list(alloc, &[1, 2])?)?, false);
-    assert_eq!(rt; seen.insert(list(alloc, &[2, 1])?)?, true);
+    is(seen.insert(list(alloc, &[1, 2])?)?, true)?;
+    is(seen.insert(list(alloc, &[1, 2])?)?, false)?;
+    is(seen.insert(list(alloc, &[2, 1])?)?, true)?;
     Ok(())
 }
