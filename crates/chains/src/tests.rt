@@ -1,6 +1,8 @@
-//! Each method of a source, each source, and what is counted: calls of closures, and draws of a source.
+//! Each method of a source, each source, and what is counted: calls of closures, and draws of a
+//! source.
 //!
-//! Most methods are called behind a bound, in a function that knows of its source the trait alone; the tests are worked rows of it.
+//! Most methods are called behind a bound, in a function that knows of its source the trait alone;
+//! the tests are worked rows of it.
 
 mod adapters;
 mod clones;
@@ -19,10 +21,32 @@ mod runs;
 mod sources;
 mod totals;
 
+use nonempty_collections::NEVec;
+use std::alloc::Global;
+use std::fmt::Debug;
 use std::num::NonZeroUsize;
 use std::test::Fail;
 
 // A size or a count, which is not 0.
 pub(crate) fn of(count: usize) -> Result<NonZeroUsize, Fail> {
     Ok(NonZeroUsize::new(count).ok_or("0 is no count")?)
+}
+
+// The vector of these items.
+pub(crate) fn list<T: Clone + Drop>(alloc: Global, items: &[T]) -> Result<NEVec<T>, Fail> {
+    Ok(NEVec::try_from_slice(alloc, items)?.ok_or("no items")?)
+}
+
+// Fails if the two values differ, and says what both are.
+pub(crate) fn is<T: PartialEq + Debug + Drop>(given: T, wanted: T) -> Result<(), Fail> {
+    if given == wanted {
+        Ok(())
+    } else {
+        Err(Fail::new(format_args!("expected {wanted:?}, found {given:?}")))
+    }
+}
+
+// The same of two lists.
+pub(crate) fn same<T: PartialEq + Debug>(given: &[T], wanted: &[T]) -> Result<(), Fail> {
+    is(given, wanted)
 }

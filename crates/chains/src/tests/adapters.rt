@@ -2,9 +2,9 @@
 ghost use Rattle.std.specs.Prelude.{◌^◌, ◌<◌};
 ghost use Rattle.std.specs.Iterator.{IsFiniteIterable, size};
 
-use super::of;
+use super::{list, of, same};
 use nonempty_collections::iter::once;
-use nonempty_collections::{IntoNonEmptyIterator, NEVec, NonEmptyIterator, nev};
+use nonempty_collections::{IntoNonEmptyIterator, NEVec, NonEmptyIterator};
 use std::alloc::{AllocError, Global};
 use std::convert::AsSlice;
 use std::num::NonZeroUsize;
@@ -26,7 +26,8 @@ fn sums<S: NonEmptyIterator<Item = u32>, O: IntoNonEmptyIterator<Item = u32>>(
     other: O,
 ) -> Result<NEVec<u32>, AllocError>
     requires runs { IsFiniteIterable S.into_iter_gives S.IntoIter.can_next S.IntoIter.remaining s }
-    requires other_runs { IsFiniteIterable O.into_iter_gives O.IntoIter.can_next O.IntoIter.remaining other }
+    requires other_runs { IsFiniteIterable O.into_iter_gives O.IntoIter.can_next
+        O.IntoIter.remaining other }
 {
     s.zip(other).map(|(a, b)| a.wrapping_add(b)).collect(alloc)
 }
@@ -37,7 +38,8 @@ fn chained<S: NonEmptyIterator<Item = u32>, O: IntoIterator<Item = u32>>(
     other: O,
 ) -> Result<NEVec<u32>, AllocError>
     requires runs { IsFiniteIterable S.into_iter_gives S.IntoIter.can_next S.IntoIter.remaining s }
-    requires other_runs { IsFiniteIterable O.into_iter_gives O.IntoIter.can_next O.IntoIter.remaining other }
+    requires other_runs { IsFiniteIterable O.into_iter_gives O.IntoIter.can_next
+        O.IntoIter.remaining other }
 {
     s.chain(other).collect(alloc)
 }
@@ -56,7 +58,8 @@ fn placed<S: NonEmptyIterator<Item = char>>(
     s: S,
 ) -> Result<NEVec<(usize, char)>, AllocError>
     requires runs { IsFiniteIterable S.into_iter_gives S.IntoIter.can_next S.IntoIter.remaining s }
-    requires fits { (it : S.IntoIter) → S.into_iter_gives s it → size (S.IntoIter.remaining it) < 2 ^ 64 }
+    requires fits { (it : S.IntoIter) → S.into_iter_gives s it
+        → size (S.IntoIter.remaining it) < 2 ^ 64 }
 {
     s.enumerate().collect(alloc)
 }
@@ -83,20 +86,11 @@ fn copied<'a, S: NonEmptyIterator<Item = &'a u32>>(
 fn of_one_source(rt: HostRuntime) -> Result<(), Fail> {
     let alloc = rt.alloc();
     let three = [1u32, 2, 3].into_nonempty_iter();
-    assert_eq!(rt;
-        doubled(alloc, three, of(2)?)?.as_slice(),
-        [2, 4].as_slice()
-    );
+    same(doubled(alloc, three, of(2)?)?.as_slice(), &[2, 4])?;
     let three = [1u32, 2, 3].into_nonempty_iter();
-    assert_eq!(rt;
-        each_twice(alloc, three)?.as_slice(),
-        [1, 1, 2, 2, 3, 3].as_slice()
-    );
+    same(each_twice(alloc, three)?.as_slice(), &[1, 1, 2, 2, 3, 3])?;
     let two = ['a', 'b'].into_nonempty_iter();
-    assert_eq!(rt;
-        placed(alloc, two)?.as_slice(),
-        [(0, 'a'), (1, 'b')].as_slice()
-    );
+    same(placed(alloc, two)?.as_slice(), &[(0, 'a'), (1, 'b')])?;
     Ok(())
 }
 
@@ -104,31 +98,22 @@ fn of_one_source(rt: HostRuntime) -> Result<(), Fail> {
 fn of_two_sources(rt: HostRuntime) -> Result<(), Fail> {
     let alloc = rt.alloc();
     let three = [1u32, 2, 3].into_nonempty_iter();
-    assert_eq!(rt;
-        sums(alloc, three, [4u32, 5, 6, 7])?.as_slice(),
-        [5, 7, 9].as_slice()
-    );
+    same(sums(alloc, three, [4u32, 5, 6, 7])?.as_slice(), &[5, 7, 9])?;
     let none = Vec::new(alloc);
-    assert_eq!(rt; chained(alloc, once(5), none)?.as_slice(), [5].as_slice());
+    same(chained(alloc, once(5), none)?.as_slice(), &[5])?;
     let rest = vec![in alloc; 6u32, 7]?;
-    assert_eq!(rt;
-        chained(alloc, once(5), rest)?.as_slice(),
-        [5, 6, 7].as_slice()
-    );
+    same(chained(alloc, once(5), rest)?.as_slice(), &[5, 6, 7])?;
     Ok(())
 }
 
 #[test]
 fn over_references(rt: HostRuntime) -> Result<(), Fail> {
     let alloc = rt.alloc();
-    let two = nev![alloc; 1u32, 2]?;
-    assert_eq!(rt;
+    let two = list(alloc, &[1u32, 2])?;
+    same(
         cloned(alloc, two.nonempty_iter())?.as_slice(),
-        [Ok(1), Ok(2)].as_slice()
-    );
-    assert_eq!(rt;
-        copied(alloc, two.nonempty_iter())?.as_slice(),
-        [1, 2].as_slice()
-    );
+        &[Ok(1), Ok(2)],
+    )?;
+    same(copied(alloc, two.nonempty_iter())?.as_slice(), &[1, 2])?;
     Ok(())
 }

@@ -1,5 +1,6 @@
 //! A clone that is refused.
 
+use super::{is, same};
 use nonempty_collections::{IntoNonEmptyIterator, NEVec, NonEmptyIterator};
 use std::alloc::AllocError;
 use std::cell::Cell;
@@ -44,10 +45,7 @@ fn second_refused(rt: HostRuntime) -> Result<(), Fail> {
         .cloned()
         .map(|clone| clone.map(|it| it.value))
         .collect(rt.alloc())?;
-    assert_eq!(rt;
-        values.as_slice(),
-        [Ok(1), Err(AllocError), Ok(3)].as_slice()
-    );
-    assert_eq!(rt; clones.get(), 3);
+    same(values.as_slice(), &[Ok(1), Err(AllocError), Ok(3)])?;
+    is(clones.get(), 3)?;
     Ok(())
 }

@@ -1,5 +1,6 @@
 //! Collecting into the standard library's types.
 
+use super::{is, same};
 use nonempty_collections::{IntoNonEmptyIterator, NEVec, NonEmptyIterator};
 use std::borrow::CowStr;
 use std::collections::{BTreeMap, BTreeSet, HashMap, HashSet};
@@ -20,7 +21,7 @@ fn nothing_of_each_item(rt: HostRuntime) -> Result<(), Fail> {
         calls = calls.wrapping_add(1);
     });
     let () = drawn.collect(rt.alloc())?;
-    assert_eq!(rt; calls, 2);
+    is(calls, 2)?;
     Ok(())
 }
 
@@ -28,11 +29,11 @@ fn nothing_of_each_item(rt: HostRuntime) -> Result<(), Fail> {
 fn lists_and_sets(rt: HostRuntime) -> Result<(), Fail> {
     let items = [1u32, 1, 2];
     let list: Vec<u32> = items.into_nonempty_iter().collect(rt.alloc())?;
-    assert_eq!(rt; list.as_slice(), [1, 1, 2].as_slice());
+    same(list.as_slice(), &[1, 1, 2])?;
     let hashed: HashSet<u32> = items.into_nonempty_iter().collect(rt.alloc())?;
-    assert_eq!(rt; hashed.len(), 2);
+    is(hashed.len(), 2)?;
     let tree: BTreeSet<u32> = items.into_nonempty_iter().collect(rt.alloc())?;
-    assert_eq!(rt; tree.len(), 2);
+    is(tree.len(), 2)?;
     Ok(())
 }
 
@@ -40,11 +41,11 @@ fn lists_and_sets(rt: HostRuntime) -> Result<(), Fail> {
 fn maps(rt: HostRuntime) -> Result<(), Fail> {
     let pairs = [('a', 1u32), ('b', 2), ('a', 4)];
     let hashed: HashMap<char, u32> = pairs.into_nonempty_iter().collect(rt.alloc())?;
-    assert_eq!(rt; (hashed.get(&'a'), hashed.get(&'b')), (Some(&4), Some(&2)));
-    assert_eq!(rt; hashed.len(), 2);
+    is((hashed.get(&'a'), hashed.get(&'b')), (Some(&4), Some(&2)))?;
+    is(hashed.len(), 2)?;
     let tree: BTreeMap<char, u32> = pairs.into_nonempty_iter().collect(rt.alloc())?;
-    assert_eq!(rt; (tree.get(&'a'), tree.get(&'b')), (Some(&4), Some(&2)));
-    assert_eq!(rt; tree.len(), 2);
+    is((tree.get(&'a'), tree.get(&'b')), (Some(&4), Some(&2)))?;
+    is(tree.len(), 2)?;
     Ok(())
 }
 
@@ -53,13 +54,13 @@ fn texts(rt: HostRuntime) -> Result<(), Fail> {
     let alloc = rt.alloc();
     let pieces = ["ab", "", "c"];
     let joined: String = pieces.into_nonempty_iter().collect(alloc)?;
-    assert_eq!(rt; joined.as_str(), "abc");
+    is(joined.as_str(), "abc")?;
     let owned = [String::from_str(alloc, "ab")?, joined];
     let joined: String = owned.into_nonempty_iter().collect(alloc)?;
-    assert_eq!(rt; joined.as_str(), "ababc");
+    is(joined.as_str(), "ababc")?;
     let either = [CowStr::Borrowed("ab"), CowStr::Owned(joined)];
     let joined: String = either.into_nonempty_iter().collect(alloc)?;
-    assert_eq!(rt; joined.as_str(), "abababc");
+    is(joined.as_str(), "abababc")?;
     Ok(())
 }
 
@@ -67,16 +68,16 @@ fn texts(rt: HostRuntime) -> Result<(), Fail> {
 fn characters(rt: HostRuntime) -> Result<(), Fail> {
     let letters = ['x', 'y'];
     let text: String = letters.into_nonempty_iter().collect(rt.alloc())?;
-    assert_eq!(rt; text.as_str(), "xy");
+    is(text.as_str(), "xy")?;
     let text: String = (&letters).into_nonempty_iter().collect(rt.alloc())?;
-    assert_eq!(rt; text.as_str(), "xy");
+    is(text.as_str(), "xy")?;
     Ok(())
 }
 
 #[test]
 fn paths(rt: HostRuntime) -> Result<(), Fail> {
     let path: PathBuf = ["a", "b"].into_nonempty_iter().collect(rt.alloc())?;
-    assert_eq!(rt; path.into_string().as_str(), "a/b");
+    is(path.into_string().as_str(), "a/b")?;
     Ok(())
 }
 
@@ -86,10 +87,7 @@ fn values(rt: HostRuntime) -> Result<(), Fail> {
         .into_nonempty_iter()
         .map(even)
         .collect(rt.alloc())?;
-    assert_eq!(rt;
-        all.as_ref().map(|v| v.as_slice()),
-        Ok([2, 4, 8].as_slice())
-    );
+    same(all?.as_slice(), &[2, 4, 8])?;
     Ok(())
 }
 
@@ -104,7 +102,7 @@ fn first_error(rt: HostRuntime) -> Result<(), Fail> {
             even(n)
         })
         .collect(rt.alloc())?;
-    assert_eq!(rt; (all.err(), calls), (Some(ODD), 2));
+    is((all.err(), calls), (Some(ODD), 2))?;
     Ok(())
 }
 
@@ -116,6 +114,6 @@ fn result_of_results(rt: HostRuntime) -> Result<(), Fail> {
         .into_nonempty_iter()
         .collect(rt.alloc())?;
     let inner = made.ok().ok_or("an error of the outer result")?;
-    assert_eq!(rt; inner.err(), Some(ODD));
+    is(inner.err(), Some(ODD))?;
     Ok(())
 }

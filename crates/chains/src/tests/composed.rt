@@ -1,7 +1,7 @@
 //! The towers of the crate `towers`.
 
-use super::of;
-use nonempty_collections::{IntoNonEmptyIterator, NEVec, nev};
+use super::{list, of, same};
+use nonempty_collections::{IntoNonEmptyIterator, NEVec};
 use std::convert::AsSlice;
 use std::num::NonZeroU32;
 use std::test::Fail;
@@ -10,9 +10,9 @@ use towers::{Countdown, numbered_halves, parted, spread_countdown, spread_pairs}
 #[test]
 fn plain(rt: HostRuntime) -> Result<(), Fail> {
     let alloc = rt.alloc();
-    let two = nev![alloc; 8u32, 6]?;
+    let two = list(alloc, &[8u32, 6])?;
     let halves = numbered_halves(alloc, two, vec![in alloc; 5u32, 7]?, of(3)?)?;
-    assert_eq!(rt; halves.as_slice(), [(0, 4), (1, 3), (2, 5)].as_slice());
+    same(halves.as_slice(), &[(0, 4), (1, 3), (2, 5)])?;
     Ok(())
 }
 
@@ -20,7 +20,7 @@ fn plain(rt: HostRuntime) -> Result<(), Fail> {
 fn over_a_countdown(rt: HostRuntime) -> Result<(), Fail> {
     let three = Countdown::new(NonZeroU32::new(3).ok_or("0 is no start")?);
     let all = spread_countdown(rt.alloc(), three, of(3)?)?;
-    assert_eq!(rt; all.as_slice(), [(0, 3), (1, 3), (2, 2)].as_slice());
+    same(all.as_slice(), &[(0, 3), (1, 3), (2, 2)])?;
     Ok(())
 }
 
@@ -29,7 +29,7 @@ fn over_two_sources(rt: HostRuntime) -> Result<(), Fail> {
     let alloc = rt.alloc();
     let two = [8u32, 6].into_nonempty_iter();
     let all: NEVec<(usize, u32)> = spread_pairs(alloc, two, [1u32, 2, 3], |(a, b)| [a, b], of(9)?)?;
-    assert_eq!(rt; all.as_slice(), [(0, 8), (1, 1), (2, 6), (3, 2)].as_slice());
+    same(all.as_slice(), &[(0, 8), (1, 1), (2, 6), (3, 2)])?;
     let three = [8u32, 6, 4].into_nonempty_iter();
     let other = ['a', 'b', 'c'];
     let (halves, marks): (NEVec<u32>, NEVec<char>) = parted(
@@ -39,7 +39,7 @@ fn over_two_sources(rt: HostRuntime) -> Result<(), Fail> {
         other,
         of(2)?,
     )?;
-    assert_eq!(rt; halves.as_slice(), [4, 3].as_slice());
-    assert_eq!(rt; marks.as_slice(), ['a', 'b'].as_slice());
+    same(halves.as_slice(), &[4, 3])?;
+    same(marks.as_slice(), &['a', 'b'])?;
     Ok(())
 }

@@ -1,38 +1,42 @@
 //! How often a closure is called: once for each item that is drawn, in order.
 
+use super::{is, same};
 use nonempty_collections::{IntoNonEmptyIterator, NEVec, NonEmptyIterator};
 use std::cell::Cell;
 use std::convert::AsSlice;
 use std::test::Fail;
 
 #[test]
-fn find_stops(rt: HostRuntime) {
+fn find_stops(rt: HostRuntime) -> Result<(), Fail> {
     let mut calls = 0u32;
     let found = [1u32, 2, 3].into_nonempty_iter().find(|x| {
         calls = calls.wrapping_add(1);
         *x > 1
     });
-    assert_eq!(rt; (found, calls), (Some(2), 2));
+    is((found, calls), (Some(2), 2))?;
+    Ok(())
 }
 
 #[test]
-fn any_stops(rt: HostRuntime) {
+fn any_stops(rt: HostRuntime) -> Result<(), Fail> {
     let mut calls = 0u32;
     let is_there = [1u32, 2, 3].into_nonempty_iter().any(|x| {
         calls = calls.wrapping_add(1);
         x == 2
     });
-    assert_eq!(rt; (is_there, calls), (true, 2));
+    is((is_there, calls), (true, 2))?;
+    Ok(())
 }
 
 #[test]
-fn all_stops(rt: HostRuntime) {
+fn all_stops(rt: HostRuntime) -> Result<(), Fail> {
     let mut calls = 0u32;
     let are_small = [1u32, 2, 3].into_nonempty_iter().all(|x| {
         calls = calls.wrapping_add(1);
         x < 2
     });
-    assert_eq!(rt; (are_small, calls), (false, 2));
+    is((are_small, calls), (false, 2))?;
+    Ok(())
 }
 
 // The number of the call and the item.
@@ -46,8 +50,8 @@ fn map_in_order(rt: HostRuntime) -> Result<(), Fail> {
             (calls, x)
         })
         .collect(rt.alloc())?;
-    assert_eq!(rt; told.as_slice(), [(1, 7), (2, 5), (3, 6)].as_slice());
-    assert_eq!(rt; calls, 3);
+    same(told.as_slice(), &[(1, 7), (2, 5), (3, 6)])?;
+    is(calls, 3)?;
     Ok(())
 }
 
@@ -61,8 +65,8 @@ fn flat_map_in_order(rt: HostRuntime) -> Result<(), Fail> {
             [calls.get(), x]
         })
         .collect(rt.alloc())?;
-    assert_eq!(rt; told.as_slice(), [1, 7, 2, 5].as_slice());
-    assert_eq!(rt; calls.get(), 2);
+    same(told.as_slice(), &[1, 7, 2, 5])?;
+    is(calls.get(), 2)?;
     Ok(())
 }
 
@@ -77,7 +81,8 @@ fn skip_while_asks_no_more(rt: HostRuntime) -> Result<(), Fail> {
             *x % 2 == 0
         })
         .collect(rt.alloc())?;
-    assert_eq!(rt; (kept.as_slice(), calls), ([7, 8, 9].as_slice(), 3));
+    same(kept.as_slice(), &[7, 8, 9])?;
+    is(calls, 3)?;
     Ok(())
 }
 
@@ -91,6 +96,7 @@ fn take_while_asks_no_more(rt: HostRuntime) -> Result<(), Fail> {
             *x % 2 == 0
         })
         .collect(rt.alloc())?;
-    assert_eq!(rt; (kept.as_slice(), calls), ([2, 4].as_slice(), 3));
+    same(kept.as_slice(), &[2, 4])?;
+    is(calls, 3)?;
     Ok(())
 }

@@ -1,7 +1,9 @@
 //! The methods that answer an item, or whether there is one.
 ghost use Rattle.std.specs.Iterator.{IsFiniteIterable};
 
+use super::is;
 use nonempty_collections::{IntoNonEmptyIterator, NonEmptyIterator};
+use std::test::Fail;
 
 pub(super) fn first<S: NonEmptyIterator<Item = u32>>(s: S) -> u32
     requires { IsFiniteIterable S.into_iter_gives S.IntoIter.can_next S.IntoIter.remaining s }
@@ -34,18 +36,20 @@ pub(super) fn at<S: NonEmptyIterator<Item = u32>>(s: S, place: usize) -> Option<
 }
 
 #[test]
-fn items(rt: HostRuntime) {
-    assert_eq!(rt; first([1u32, 2, 3].into_nonempty_iter()), 1);
-    assert_eq!(rt; above_one([1u32, 2, 3].into_nonempty_iter()), Some(2));
-    assert_eq!(rt; above_one([1u32].into_nonempty_iter()), None);
-    assert_eq!(rt; at([0u32, 1, 2].into_nonempty_iter(), 2), Some(2));
-    assert_eq!(rt; at([0u32, 1, 2].into_nonempty_iter(), 3), None);
+fn items(rt: HostRuntime) -> Result<(), Fail> {
+    is(first([1u32, 2, 3].into_nonempty_iter()), 1)?;
+    is(above_one([1u32, 2, 3].into_nonempty_iter()), Some(2))?;
+    is(above_one([1u32].into_nonempty_iter()), None)?;
+    is(at([0u32, 1, 2].into_nonempty_iter(), 2), Some(2))?;
+    is(at([0u32, 1, 2].into_nonempty_iter(), 3), None)?;
+    Ok(())
 }
 
 #[test]
-fn answers(rt: HostRuntime) {
-    assert_eq!(rt; are_small([1u32, 2].into_nonempty_iter()), true);
-    assert_eq!(rt; are_small([1u32, 2, 3].into_nonempty_iter()), false);
-    assert_eq!(rt; has_two([1u32, 2, 3].into_nonempty_iter()), true);
-    assert_eq!(rt; has_two([1u32, 3].into_nonempty_iter()), false);
+fn answers(rt: HostRuntime) -> Result<(), Fail> {
+    is(are_small([1u32, 2].into_nonempty_iter()), true)?;
+    is(are_small([1u32, 2, 3].into_nonempty_iter()), false)?;
+    is(has_two([1u32, 2, 3].into_nonempty_iter()), true)?;
+    is(has_two([1u32, 3].into_nonempty_iter()), false)?;
+    Ok(())
 }

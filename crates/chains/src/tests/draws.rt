@@ -3,7 +3,7 @@ ghost use Rattle.std.specs.Prelude.{◌≡◌, ◌<◌, IfNone};
 ghost use Rattle.std.specs.Iterator.{at_most};
 ghost use Rattle.std.proofs.Common.{arith};
 
-use super::of;
+use super::{is, of, same};
 use nonempty_collections::{IntoIteratorExt, NEVec, NonEmptyIterator};
 use std::cell::Cell;
 use std::convert::AsSlice;
@@ -75,28 +75,28 @@ fn three(draws: &Cell<u32>) -> Countdown<'_>
 }
 
 #[test]
-fn deciding(rt: HostRuntime) {
+fn deciding(rt: HostRuntime) -> Result<(), Fail> {
     let draws = Cell::new(0u32);
-    assert_eq!(rt; (three(&draws).all(|x| x > 2), draws.take()), (false, 2));
-    assert_eq!(rt; (three(&draws).any(|x| x == 2), draws.take()), (true, 2));
-    assert_eq!(rt;
-        (three(&draws).find(|x| *x < 3), draws.take()),
-        (Some(2), 2)
-    );
+    is((three(&draws).all(|x| x > 2), draws.take()), (false, 2))?;
+    is((three(&draws).any(|x| x == 2), draws.take()), (true, 2))?;
+    is((three(&draws).find(|x| *x < 3), draws.take()), (Some(2), 2))?;
+    Ok(())
 }
 
 #[test]
-fn at_a_place(rt: HostRuntime) {
+fn at_a_place(rt: HostRuntime) -> Result<(), Fail> {
     let draws = Cell::new(0u32);
-    assert_eq!(rt; (three(&draws).nth(1), draws.take()), (Some(2), 2));
-    assert_eq!(rt; (three(&draws).next().0, draws.take()), (3, 1));
+    is((three(&draws).nth(1), draws.take()), (Some(2), 2))?;
+    is((three(&draws).next().0, draws.take()), (3, 1))?;
+    Ok(())
 }
 
 #[test]
 fn taken(rt: HostRuntime) -> Result<(), Fail> {
     let draws = Cell::new(0u32);
     let two: NEVec<u32> = three(&draws).take(of(2)?).collect(rt.alloc())?;
-    assert_eq!(rt; (two.as_slice(), draws.get()), ([3, 2].as_slice(), 2));
+    same(two.as_slice(), &[3, 2])?;
+    is(draws.get(), 2)?;
     Ok(())
 }
 
@@ -105,18 +105,19 @@ fn taken(rt: HostRuntime) -> Result<(), Fail> {
 fn looked_at(rt: HostRuntime) -> Result<(), Fail> {
     let draws = Cell::new(0u32);
     let source = three(&draws).peekable();
-    assert_eq!(rt; (source.next().0, draws.take()), (3, 1));
+    is((source.next().0, draws.take()), (3, 1))?;
     let source = three(&draws).try_into_nonempty_iter();
     let source = source.ok_or("nothing there")?;
-    assert_eq!(rt; (source.next().0, draws.take()), (3, 1));
+    is((source.next().0, draws.take()), (3, 1))?;
     Ok(())
 }
 
 // An adapter draws nothing before it is asked, and then no more than it has to.
 #[test]
-fn adapted(rt: HostRuntime) {
+fn adapted(rt: HostRuntime) -> Result<(), Fail> {
     let draws = Cell::new(0u32);
     let tower = three(&draws).map(|x| x / 2).enumerate().chain([(9, 9)]);
-    assert_eq!(rt; draws.get(), 0);
-    assert_eq!(rt; (tower.next().0, draws.get()), ((0, 1), 1));
+    is(draws.get(), 0)?;
+    is((tower.next().0, draws.get()), ((0, 1), 1))?;
+    Ok(())
 }

@@ -1,6 +1,7 @@
 //! The extremes, which of several equal items is answered, and sorting.
 ghost use Rattle.std.specs.Iterator.{IsFiniteIterable};
 
+use super::{is, same};
 use nonempty_collections::{IntoNonEmptyIterator, NEVec, NonEmptyIterator};
 use std::alloc::{AllocError, Global};
 use std::cell::Cell;
@@ -71,57 +72,63 @@ fn oldest_first<'a, S: NonEmptyIterator<Item = (&'a str, i32)>>(
 }
 
 #[test]
-fn of_numbers(rt: HostRuntime) {
-    assert_eq!(rt; greatest([1i32, -2, 33, 4].into_nonempty_iter()), 33);
-    assert_eq!(rt; least([1i32, -2, 33, 4].into_nonempty_iter()), -2);
-    assert_eq!(rt; greatest_by([1i32, -2, 33, 4].into_nonempty_iter()), 33);
-    assert_eq!(rt; least_by([1i32, -2, 33, 4].into_nonempty_iter()), -2);
+fn of_numbers(rt: HostRuntime) -> Result<(), Fail> {
+    is(greatest([1i32, -2, 33, 4].into_nonempty_iter()), 33)?;
+    is(least([1i32, -2, 33, 4].into_nonempty_iter()), -2)?;
+    is(greatest_by([1i32, -2, 33, 4].into_nonempty_iter()), 33)?;
+    is(least_by([1i32, -2, 33, 4].into_nonempty_iter()), -2)?;
+    Ok(())
 }
 
 #[test]
-fn first_of_equal_ones(rt: HostRuntime) {
-    assert_eq!(rt; greatest(twins().into_nonempty_iter()).mark, 'a');
-    assert_eq!(rt; least(twins().into_nonempty_iter()).mark, 'a');
-    assert_eq!(rt; greatest_by(twins().into_nonempty_iter()).mark, 'a');
-    assert_eq!(rt; least_by(twins().into_nonempty_iter()).mark, 'a');
+fn first_of_equal_ones(rt: HostRuntime) -> Result<(), Fail> {
+    is(greatest(twins().into_nonempty_iter()).mark, 'a')?;
+    is(least(twins().into_nonempty_iter()).mark, 'a')?;
+    is(greatest_by(twins().into_nonempty_iter()).mark, 'a')?;
+    is(least_by(twins().into_nonempty_iter()).mark, 'a')?;
+    Ok(())
 }
 
 #[test]
-fn of_words(rt: HostRuntime) {
+fn of_words(rt: HostRuntime) -> Result<(), Fail> {
     let words = ["hi", "hey", "rust", "yolo"];
-    assert_eq!(rt; longest(words.into_nonempty_iter()), "rust");
+    is(longest(words.into_nonempty_iter()), "rust")?;
     let words = ["hi", "hello", "greetings", "hy"];
-    assert_eq!(rt; shortest(words.into_nonempty_iter()), "hi");
+    is(shortest(words.into_nonempty_iter()), "hi")?;
+    Ok(())
 }
 
 // A comparison that is no order still answers an item.
 #[test]
-fn always_less(rt: HostRuntime) {
+fn always_less(rt: HostRuntime) -> Result<(), Fail> {
     let three = [1u32, 2, 3].into_nonempty_iter();
     let some = three.max_by(|_, _| Ordering::Less);
-    assert!(rt; 1 <= some && some <= 3);
+    is(1 <= some && some <= 3, true)?;
+    Ok(())
 }
 
-// The comparison is called with the best item so far and the next one, in this order: `asked` holds its last call.
+// The comparison is called with the best item so far and the next one, in this order: `asked` holds
+// its last call.
 #[test]
-fn best_so_far_in_front(rt: HostRuntime) {
+fn best_so_far_in_front(rt: HostRuntime) -> Result<(), Fail> {
     let asked = Cell::new((0u32, 0u32));
     let compare = |x: &u32, y: &u32| {
         asked.set((*x, *y));
         x.cmp(y)
     };
     let greatest = [4u32, 7, 5].into_nonempty_iter().max_by(compare);
-    assert_eq!(rt; (greatest, asked.get()), (7, (7, 5)));
+    is((greatest, asked.get()), (7, (7, 5)))?;
     let least = [5u32, 2, 4].into_nonempty_iter().min_by(compare);
-    assert_eq!(rt; (least, asked.get()), (2, (2, 4)));
+    is((least, asked.get()), (2, (2, 4)))?;
+    Ok(())
 }
 
 #[test]
 fn sorted(rt: HostRuntime) -> Result<(), Fail> {
     let people = [("Jane", 20i32), ("John", 18), ("Jill", 30), ("Jack", 30)];
-    assert_eq!(rt;
+    same(
         oldest_first(rt.alloc(), people.into_nonempty_iter())?.as_slice(),
-        [("Jill", 30), ("Jack", 30), ("Jane", 20), ("John", 18)].as_slice()
-    );
+        &[("Jill", 30), ("Jack", 30), ("Jane", 20), ("John", 18)],
+    )?;
     Ok(())
 }

@@ -1,8 +1,10 @@
-//! A separator between the items: rows, a clone of it that is refused, and when the source is drawn.
+//! A separator between the items: rows, a clone of it that is refused, and when the source is
+//! drawn.
 ghost use Rattle.std.specs.Iterator.{IsFiniteIterable};
 
 use super::clones::numbered;
 use super::draws::down_from;
+use super::{is, same};
 use ne_iter::laws::interspersed_lists_have_their_places;
 use nonempty_collections::{IntoNonEmptyIterator, NEVec, NonEmptyIterator};
 use std::alloc::{AllocError, Global};
@@ -23,30 +25,31 @@ fn separated<S: NonEmptyIterator<Item = u32>>(
 fn rows(rt: HostRuntime) -> Result<(), Fail> {
     let alloc = rt.alloc();
     interspersed_lists_have_their_places::<u32>();
-    assert_eq!(rt;
+    same(
         separated(alloc, [1u32].into_nonempty_iter())?.as_slice(),
-        [Ok(1)].as_slice()
-    );
-    assert_eq!(rt;
+        &[Ok(1)],
+    )?;
+    same(
         separated(alloc, [1u32, 2, 3].into_nonempty_iter())?.as_slice(),
-        [Ok(1), Ok(0), Ok(2), Ok(0), Ok(3)].as_slice()
-    );
+        &[Ok(1), Ok(0), Ok(2), Ok(0), Ok(3)],
+    )?;
     Ok(())
 }
 
 #[test]
 fn of_answers(rt: HostRuntime) -> Result<(), Fail> {
     let halves = [4u32, 6].into_nonempty_iter().map(|x| x / 2);
-    assert_eq!(rt;
+    same(
         separated(rt.alloc(), halves)?.as_slice(),
-        [Ok(2), Ok(0), Ok(3)].as_slice()
-    );
+        &[Ok(2), Ok(0), Ok(3)],
+    )?;
     Ok(())
 }
 
-// The first clone is made, the second refused. Each separator is one clone, and none is made behind the refusal.
+// The first clone is made, the second refused. Each separator is one clone, and none is made behind
+// the refusal.
 #[test]
-fn second_refused(rt: HostRuntime) {
+fn second_refused(rt: HostRuntime) -> Result<(), Fail> {
     let clones = Cell::new(0u32);
     let three = [
         numbered(1, &clones),
@@ -58,24 +61,26 @@ fn second_refused(rt: HostRuntime) {
         .intersperse(numbered(0, &clones))
         .into_iter()
         .map(|item| item.map(|it| it.value));
-    assert_eq!(rt; (items.next(), clones.get()), (Some(Ok(1)), 0));
-    assert_eq!(rt; (items.next(), clones.get()), (Some(Ok(0)), 1));
-    assert_eq!(rt; (items.next(), clones.get()), (Some(Ok(2)), 1));
-    assert_eq!(rt; items.next(), Some(Err(AllocError)));
-    assert_eq!(rt; items.next(), None);
-    assert_eq!(rt; (items.next(), clones.get()), (None, 2));
+    is((items.next(), clones.get()), (Some(Ok(1)), 0))?;
+    is((items.next(), clones.get()), (Some(Ok(0)), 1))?;
+    is((items.next(), clones.get()), (Some(Ok(2)), 1))?;
+    is(items.next(), Some(Err(AllocError)))?;
+    is(items.next(), None)?;
+    is((items.next(), clones.get()), (None, 2))?;
+    Ok(())
 }
 
 // An item is drawn ahead of its separator. After the end the source is asked at each call.
 #[test]
-fn drawn(rt: HostRuntime) {
+fn drawn(rt: HostRuntime) -> Result<(), Fail> {
     let draws = Cell::new(0u32);
     let mut items = down_from(2, &draws).intersperse(0).into_iter();
-    assert_eq!(rt; draws.get(), 1);
-    assert_eq!(rt; (items.next(), draws.get()), (Some(Ok(2)), 1));
-    assert_eq!(rt; (items.next(), draws.get()), (Some(Ok(0)), 2));
-    assert_eq!(rt; (items.next(), draws.get()), (Some(Ok(1)), 2));
-    assert_eq!(rt; (items.next(), draws.get()), (None, 3));
-    assert_eq!(rt; (items.next(), draws.get()), (None, 4));
-    assert_eq!(rt; (items.next(), draws.get()), (None, 5));
+    is(draws.get(), 1)?;
+    is((items.next(), draws.get()), (Some(Ok(2)), 1))?;
+    is((items.next(), draws.get()), (Some(Ok(0)), 2))?;
+    is((items.next(), draws.get()), (Some(Ok(1)), 2))?;
+    is((items.next(), draws.get()), (None, 3))?;
+    is((items.next(), draws.get()), (None, 4))?;
+    is((items.next(), draws.get()), (None, 5))?;
+    Ok(())
 }

@@ -1,6 +1,7 @@
 //! Looking at the first item: of a source, and of what may be empty.
 ghost use Rattle.std.specs.Iterator.{IsFiniteIterable};
 
+use super::{is, same};
 use nonempty_collections::{IntoIteratorExt, IntoNonEmptyIterator, NEVec, NonEmptyIterator};
 use std::alloc::{AllocError, Global};
 use std::convert::AsSlice;
@@ -23,12 +24,9 @@ pub(super) fn peeked<S: NonEmptyIterator<Item = u32>>(s: S) -> u32
 
 #[test]
 fn seen(rt: HostRuntime) -> Result<(), Fail> {
-    assert_eq!(rt; peeked([0u32, 1, 2, 3].into_nonempty_iter()), 0);
+    is(peeked([0u32, 1, 2, 3].into_nonempty_iter()), 0)?;
     let source = [0u32, 1, 2, 3].into_nonempty_iter().peekable();
-    assert_eq!(rt;
-        collected(rt.alloc(), source)?.as_slice(),
-        [0, 1, 2, 3].as_slice()
-    );
+    same(collected(rt.alloc(), source)?.as_slice(), &[0, 1, 2, 3])?;
     Ok(())
 }
 
@@ -36,10 +34,11 @@ fn seen(rt: HostRuntime) -> Result<(), Fail> {
 fn written(rt: HostRuntime) -> Result<(), Fail> {
     let mut source = [0u32, 1, 2, 3].into_nonempty_iter().peekable();
     *source.peek_mut() = 7;
-    assert_eq!(rt; *source.peek(), 7);
+    is(*source.peek(), 7)?;
     let (first, rest) = source.next();
     let rest: Vec<u32> = rest.collect(rt.alloc())?;
-    assert_eq!(rt; (first, rest.as_slice()), (7, [1, 2, 3].as_slice()));
+    is(first, 7)?;
+    same(rest.as_slice(), &[1, 2, 3])?;
     Ok(())
 }
 
@@ -47,9 +46,9 @@ fn written(rt: HostRuntime) -> Result<(), Fail> {
 fn of_a_vector(rt: HostRuntime) -> Result<(), Fail> {
     let alloc = rt.alloc();
     let nothing = Vec::<u32>::new(alloc).try_into_nonempty_iter();
-    assert_eq!(rt; nothing.is_none(), true);
+    is(nothing.is_none(), true)?;
     let source = vec![in alloc; 1u32, 2, 3]?.try_into_nonempty_iter();
     let all = collected(alloc, source.ok_or("nothing there")?)?;
-    assert_eq!(rt; all.as_slice(), [1, 2, 3].as_slice());
+    same(all.as_slice(), &[1, 2, 3])?;
     Ok(())
 }

@@ -1,6 +1,7 @@
 //! The methods that may leave nothing, and `unzip`.
 ghost use Rattle.std.specs.Iterator.{IsFiniteIterable};
 
+use super::{is, same};
 use nonempty_collections::{IntoNonEmptyIterator, NEVec, NonEmptyIterator};
 use std::alloc::{AllocError, Global};
 use std::convert::AsSlice;
@@ -54,10 +55,10 @@ pub(super) fn parts<S: NonEmptyIterator<Item = (char, u32)>>(
 fn kept(rt: HostRuntime) -> Result<(), Fail> {
     let alloc = rt.alloc();
     let three = [2u32, 3, 4].into_nonempty_iter();
-    assert_eq!(rt; even(alloc, three)?.as_slice(), [2, 4].as_slice());
+    same(even(alloc, three)?.as_slice(), &[2, 4])?;
     let three = [2u32, 3, 4].into_nonempty_iter();
-    assert_eq!(rt; halves(alloc, three)?.as_slice(), [1, 2].as_slice());
-    assert_eq!(rt; even(alloc, [3u32].into_nonempty_iter())?.len(), 0);
+    same(halves(alloc, three)?.as_slice(), &[1, 2])?;
+    is(even(alloc, [3u32].into_nonempty_iter())?.len(), 0)?;
     Ok(())
 }
 
@@ -65,9 +66,9 @@ fn kept(rt: HostRuntime) -> Result<(), Fail> {
 fn skipped(rt: HostRuntime) -> Result<(), Fail> {
     let alloc = rt.alloc();
     let three = [2u32, 3, 4].into_nonempty_iter();
-    assert_eq!(rt; after(alloc, three, 2)?.as_slice(), [4].as_slice());
+    same(after(alloc, three, 2)?.as_slice(), &[4])?;
     let three = [2u32, 3, 4].into_nonempty_iter();
-    assert_eq!(rt; after(alloc, three, 5)?.len(), 0);
+    is(after(alloc, three, 5)?.len(), 0)?;
     Ok(())
 }
 
@@ -75,9 +76,9 @@ fn skipped(rt: HostRuntime) -> Result<(), Fail> {
 fn cut(rt: HostRuntime) -> Result<(), Fail> {
     let alloc = rt.alloc();
     let five = [2u32, 4, 6, 7, 8].into_nonempty_iter();
-    assert_eq!(rt; to_odd(alloc, five)?.as_slice(), [2, 4, 6].as_slice());
+    same(to_odd(alloc, five)?.as_slice(), &[2, 4, 6])?;
     let five = [2u32, 4, 6, 7, 8].into_nonempty_iter();
-    assert_eq!(rt; from_odd(alloc, five)?.as_slice(), [7, 8].as_slice());
+    same(from_odd(alloc, five)?.as_slice(), &[7, 8])?;
     Ok(())
 }
 
@@ -85,7 +86,7 @@ fn cut(rt: HostRuntime) -> Result<(), Fail> {
 fn parted(rt: HostRuntime) -> Result<(), Fail> {
     let three = [('a', 1u32), ('b', 2), ('c', 3)].into_nonempty_iter();
     let (marks, numbers) = parts(rt.alloc(), three)?;
-    assert_eq!(rt; marks.as_slice(), ['a', 'b', 'c'].as_slice());
-    assert_eq!(rt; numbers.as_slice(), [1, 2, 3].as_slice());
+    same(marks.as_slice(), &['a', 'b', 'c'])?;
+    same(numbers.as_slice(), &[1, 2, 3])?;
     Ok(())
 }

@@ -3,6 +3,7 @@ ghost use Rattle.std.specs.Prelude.{◌≡◌, false, refl};
 ghost use Rattle.std.specs.Iterator.{IsFiniteIterable};
 
 use super::draws::down_from;
+use super::is;
 use nonempty_collections::{IntoNonEmptyIterator, NEVec, NonEmptyIterator};
 use std::alloc::{AllocError, Global};
 use std::cell::Cell;
@@ -15,7 +16,8 @@ fn runs<K: PartialEq + Drop, S: NonEmptyIterator<Item = u32>, F: FnMut(&u32) -> 
     source: S,
     key: F,
 ) -> Result<NEVec<NEVec<u32>>, AllocError>
-    requires runs { IsFiniteIterable S.into_iter_gives S.IntoIter.can_next S.IntoIter.remaining source }
+    requires runs { IsFiniteIterable S.into_iter_gives S.IntoIter.can_next
+        S.IntoIter.remaining source }
     requires callable { F.IsAlwaysCallable key }
 {
     source.group_by(alloc, key).collect(alloc)?
@@ -51,11 +53,11 @@ impl PartialEq for Never {
 fn of_any_key(rt: HostRuntime) -> Result<(), Fail> {
     let alloc = rt.alloc();
     let ones = [1u32, 1, 2, 3, 3].into_nonempty_iter();
-    assert_eq!(rt; told(&runs(alloc, ones, |x| *x)?), 1_102_0330);
+    is(told(&runs(alloc, ones, |x| *x)?), 1_102_0330)?;
     let ones = [1u32, 1, 1].into_nonempty_iter();
-    assert_eq!(rt; told(&runs(alloc, ones, |_| Never)?), 101_010);
+    is(told(&runs(alloc, ones, |_| Never)?), 101_010)?;
     let three = Countdown::new(NonZeroU32::new(3).ok_or("0 is no start")?);
-    assert_eq!(rt; told(&runs(alloc, three, |x| *x / 2)?), 32010);
+    is(told(&runs(alloc, three, |x| *x / 2)?), 32010)?;
     Ok(())
 }
 
@@ -69,11 +71,12 @@ fn key_with_state(rt: HostRuntime) -> Result<(), Fail> {
         calls = calls.wrapping_add(1);
         key
     })?;
-    assert_eq!(rt; (told(&runs), calls), (99_099_090, 5));
+    is((told(&runs), calls), (99_099_090, 5))?;
     Ok(())
 }
 
-// 4 and 3 are a run, and then 2 and 1. Each item is drawn and asked for its key once, and one is drawn beyond a run that it ends.
+// 4 and 3 are a run, and then 2 and 1. Each item is drawn and asked for its key once, and one is
+// drawn beyond a run that it ends.
 #[test]
 fn draws_and_keys(rt: HostRuntime) -> Result<(), Fail> {
     let (draws, keys) = (Cell::new(0u32), Cell::new(0u32));
@@ -83,12 +86,12 @@ fn draws_and_keys(rt: HostRuntime) -> Result<(), Fail> {
             *x > 2
         })
         .into_iter();
-    assert_eq!(rt; (draws.get(), keys.get()), (0, 0));
+    is((draws.get(), keys.get()), (0, 0))?;
     let first = reader.next().ok_or("no run")??;
-    assert_eq!(rt; (first.len().get(), draws.get(), keys.get()), (2, 3, 3));
+    is((first.len().get(), draws.get(), keys.get()), (2, 3, 3))?;
     let second = reader.next().ok_or("no run")??;
-    assert_eq!(rt; (*second.first(), draws.get(), keys.get()), (2, 5, 4));
-    assert_eq!(rt; reader.next().is_none(), true);
-    assert_eq!(rt; (draws.get(), keys.get()), (5, 4));
+    is((*second.first(), draws.get(), keys.get()), (2, 5, 4))?;
+    is(reader.next().is_none(), true)?;
+    is((draws.get(), keys.get()), (5, 4))?;
     Ok(())
 }

@@ -1,10 +1,13 @@
 //! Each source once, into a vector.
+ghost use Rattle.std.specs.Iterator.{IsFiniteIterable};
 
-use super::of;
+use super::{is, list, of, same};
 use nonempty_collections::{
     IntoNonEmptyIterator, NESlice, NEVec, NonEmptyArrayExt, NonEmptyIterator, nev, slice, vector,
 };
+use std::alloc::Global;
 use std::convert::AsSlice;
+use std::fmt::Debug;
 use std::test::Fail;
 
 const ALL: [u8; 32] = [
@@ -12,30 +15,51 @@ const ALL: [u8; 32] = [
     26, 27, 28, 29, 30, 31,
 ];
 
+// Fails if the source's items, collected, are others.
+fn gives<T: PartialEq + Debug + Drop, S: NonEmptyIterator<Item = T>>(
+    alloc: Global,
+    s: S,
+    wanted: &[T],
+) -> Result<(), Fail>
+    requires { IsFiniteIterable S.into_iter_gives S.IntoIter.can_next S.IntoIter.remaining s }
+{
+    let all: NEVec<T> = s.collect(alloc)?;
+    same(all.as_slice(), wanted)
+}
+
+// The same of copies of a source's items.
+fn refers_to<'a, T: Copy + PartialEq + Debug + 'a, S: NonEmptyIterator<Item = &'a T>>(
+    alloc: Global,
+    s: S,
+    wanted: &[T],
+) -> Result<(), Fail>
+    requires { IsFiniteIterable S.into_iter_gives S.IntoIter.can_next S.IntoIter.remaining s }
+{
+    let all: NEVec<T> = s.copied().collect(alloc)?;
+    same(all.as_slice(), wanted)
+}
+
 #[test]
 fn vector_by_value(rt: HostRuntime) -> Result<(), Fail> {
     let three = nev![rt.alloc(); 1u32, 2, 3]?;
     let walk = vector::IntoIter::from(three);
     let again: NEVec<u32> = walk.collect(rt.alloc())?;
-    let all: NEVec<u32> = again.into_nonempty_iter().collect(rt.alloc())?;
-    assert_eq!(rt; all.as_slice(), [1, 2, 3].as_slice());
+    gives(rt.alloc(), again.into_nonempty_iter(), &[1, 2, 3])?;
     Ok(())
 }
 
 #[test]
 fn vector_by_reference(rt: HostRuntime) -> Result<(), Fail> {
-    let three = nev![rt.alloc(); 1u32, 2, 3]?;
-    let all: NEVec<u32> = (&three).into_nonempty_iter().copied().collect(rt.alloc())?;
-    assert_eq!(rt; all.as_slice(), [1, 2, 3].as_slice());
+    let three = list(rt.alloc(), &[1u32, 2, 3])?;
+    refers_to(rt.alloc(), (&three).into_nonempty_iter(), &[1, 2, 3])?;
     let walk: vector::Iter<'_, u32> = three.nonempty_iter();
-    let all: NEVec<u32> = walk.copied().collect(rt.alloc())?;
-    assert_eq!(rt; all.as_slice(), [1, 2, 3].as_slice());
+    refers_to(rt.alloc(), walk, &[1, 2, 3])?;
     Ok(())
 }
 
 #[test]
 fn vector_written(rt: HostRuntime) -> Result<(), Fail> {
-    let mut three = nev![rt.alloc(); 1u32, 2, 3]?;
+    let mut three = list(rt.alloc(), &[1u32, 2, 3])?;
     let written: NEVec<u32> = three
         .nonempty_iter_mut()
         .map(|x| {
@@ -43,8 +67,8 @@ fn vector_written(rt: HostRuntime) -> Result<(), Fail> {
             *x
         })
         .collect(rt.alloc())?;
-    assert_eq!(rt; written.as_slice(), [2, 3, 4].as_slice());
-    assert_eq!(rt; three.as_slice(), [2, 3, 4].as_slice());
+    same(written.as_slice(), &[2, 3, 4])?;
+    same(three.as_slice(), &[2, 3, 4])?;
     Ok(())
 }
 
@@ -53,10 +77,8 @@ fn slice_by_value(rt: HostRuntime) -> Result<(), Fail> {
     let items = [1u32, 2, 3];
     let three = items.as_nonempty_slice();
     let walk = slice::Iter::from(three.clone()?);
-    let all: NEVec<u32> = walk.copied().collect(rt.alloc())?;
-    assert_eq!(rt; all.as_slice(), [1, 2, 3].as_slice());
-    let all: NEVec<u32> = three.into_nonempty_iter().copied().collect(rt.alloc())?;
-    assert_eq!(rt; all.as_slice(), [1, 2, 3].as_slice());
+    refers_to(rt.alloc(), walk, &[1, 2, 3])?;
+    refers_to(rt.alloc(), three.into_nonempty_iter(), &[1, 2, 3])?;
     Ok(())
 }
 
@@ -64,56 +86,45 @@ fn slice_by_value(rt: HostRuntime) -> Result<(), Fail> {
 fn slice_by_reference(rt: HostRuntime) -> Result<(), Fail> {
     let items = [1u32, 2, 3];
     let three = NESlice::try_from_slice(&items).ok_or("no items")?;
-    let all: NEVec<u32> = (&three).into_nonempty_iter().copied().collect(rt.alloc())?;
-    assert_eq!(rt; all.as_slice(), [1, 2, 3].as_slice());
-    let all: NEVec<u32> = three.nonempty_iter().copied().collect(rt.alloc())?;
-    assert_eq!(rt; all.as_slice(), [1, 2, 3].as_slice());
+    refers_to(rt.alloc(), (&three).into_nonempty_iter(), &[1, 2, 3])?;
+    refers_to(rt.alloc(), three.nonempty_iter(), &[1, 2, 3])?;
     Ok(())
 }
 
 #[test]
 fn chunks(rt: HostRuntime) -> Result<(), Fail> {
-    let five = nev![rt.alloc(); 1u32, 2, 3, 4, 5]?;
+    let five = list(rt.alloc(), &[1u32, 2, 3, 4, 5])?;
     let lengths: NEVec<usize> = five
         .nonempty_chunks(of(2)?)
         .map(|chunk| chunk.len().get())
         .collect(rt.alloc())?;
-    assert_eq!(rt; lengths.as_slice(), [2, 2, 1].as_slice());
+    same(lengths.as_slice(), &[2, 2, 1])?;
     Ok(())
 }
 
 #[test]
 fn arrays_by_value(rt: HostRuntime) -> Result<(), Fail> {
     let alloc = rt.alloc();
-    let one: NEVec<u8> = [1u8].into_nonempty_iter().collect(alloc)?;
-    assert_eq!(rt; one.as_slice(), [1].as_slice());
-    let two: NEVec<u8> = [1u8, 2].into_nonempty_iter().collect(alloc)?;
-    assert_eq!(rt; two.as_slice(), [1, 2].as_slice());
-    let all: NEVec<u8> = ALL.into_nonempty_iter().collect(alloc)?;
-    assert_eq!(rt; all.as_slice(), ALL.as_slice());
+    gives(alloc, [1u8].into_nonempty_iter(), &[1])?;
+    gives(alloc, [1u8, 2].into_nonempty_iter(), &[1, 2])?;
+    gives(alloc, ALL.into_nonempty_iter(), &ALL)?;
     Ok(())
 }
 
 #[test]
 fn arrays_by_reference(rt: HostRuntime) -> Result<(), Fail> {
     let alloc = rt.alloc();
-    let one: NEVec<u8> = (&[1u8]).into_nonempty_iter().copied().collect(alloc)?;
-    assert_eq!(rt; one.as_slice(), [1].as_slice());
-    let two: NEVec<u8> = (&[1u8, 2]).into_nonempty_iter().copied().collect(alloc)?;
-    assert_eq!(rt; two.as_slice(), [1, 2].as_slice());
-    let all: NEVec<u8> = (&ALL).into_nonempty_iter().copied().collect(alloc)?;
-    assert_eq!(rt; all.as_slice(), ALL.as_slice());
+    refers_to(alloc, (&[1u8]).into_nonempty_iter(), &[1])?;
+    refers_to(alloc, (&[1u8, 2]).into_nonempty_iter(), &[1, 2])?;
+    refers_to(alloc, (&ALL).into_nonempty_iter(), &ALL)?;
     Ok(())
 }
 
 #[test]
 fn arrays_as_others(rt: HostRuntime) -> Result<(), Fail> {
-    assert_eq!(rt; ALL.as_nonempty_slice().as_slice(), ALL.as_slice());
-    assert_eq!(rt; ALL.nonzero_len().get(), 32);
-    assert_eq!(rt; [4u8].nonzero_len().get(), 1);
-    assert_eq!(rt;
-        [4u8].into_nonempty_vec(rt.alloc())?.as_slice(),
-        [4].as_slice()
-    );
+    same(ALL.as_nonempty_slice().as_slice(), &ALL)?;
+    is(ALL.nonzero_len().get(), 32)?;
+    is([4u8].nonzero_len().get(), 1)?;
+    same([4u8].into_nonempty_vec(rt.alloc())?.as_slice(), &[4])?;
     Ok(())
 }

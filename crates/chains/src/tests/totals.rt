@@ -2,12 +2,16 @@
 ghost use Rattle.std.specs.Iterator.{IsFinite, IsFiniteIterable};
 ghost use Rattle.std.specs.Iterator.Runs.{CountFits, EachRunFrom};
 
+use super::is;
 use nonempty_collections::{IntoNonEmptyIterator, NonEmptyIterator};
 use std::iter::{Product, Sum};
 use std::num::Wrapping;
+use std::test::Fail;
 
 pub(super) fn count<S: NonEmptyIterator<Item = u32>>(s: S) -> usize
-    requires { (it : S.IntoIter) → S.into_iter_gives s it → S.IntoIter.can_next it × IsFinite (S.IntoIter.remaining it) × CountFits S.IntoIter.next_gives S.IntoIter.remaining 0 it }
+    requires { (it : S.IntoIter) → S.into_iter_gives s it
+        → S.IntoIter.can_next it × IsFinite (S.IntoIter.remaining it)
+        × CountFits S.IntoIter.next_gives S.IntoIter.remaining 0 it }
 {
     s.count().get()
 }
@@ -27,38 +31,44 @@ pub(super) fn reduced<S: NonEmptyIterator<Item = u32>>(s: S) -> u32
 
 fn sum<T: Sum<u32>, S: NonEmptyIterator<Item = u32>>(s: S) -> T
     requires runs { IsFiniteIterable S.into_iter_gives S.IntoIter.can_next S.IntoIter.remaining s }
-    requires fits { (it : S.IntoIter) → S.into_iter_gives s it → EachRunFrom S.IntoIter.next_gives it (λ p. T.can_sum p.items) }
+    requires fits { (it : S.IntoIter) → S.into_iter_gives s it
+        → EachRunFrom S.IntoIter.next_gives it (λ p. T.can_sum p.items) }
 {
     s.sum()
 }
 
 fn product<X, T: Product<X>, S: NonEmptyIterator<Item = X>>(s: S) -> T
     requires runs { IsFiniteIterable S.into_iter_gives S.IntoIter.can_next S.IntoIter.remaining s }
-    requires fits { (it : S.IntoIter) → S.into_iter_gives s it → EachRunFrom S.IntoIter.next_gives it (λ p. T.can_product p.items) }
+    requires fits { (it : S.IntoIter) → S.into_iter_gives s it
+        → EachRunFrom S.IntoIter.next_gives it (λ p. T.can_product p.items) }
 {
     s.product()
 }
 
 #[test]
-fn counted(rt: HostRuntime) {
-    assert_eq!(rt; count([1u32, 2, 3].into_nonempty_iter()), 3);
+fn counted(rt: HostRuntime) -> Result<(), Fail> {
+    is(count([1u32, 2, 3].into_nonempty_iter()), 3)?;
+    Ok(())
 }
 
 #[test]
-fn folded(rt: HostRuntime) {
-    assert_eq!(rt; digits([1u32, 2, 3].into_nonempty_iter(), 7), 7123);
-    assert_eq!(rt; reduced([1u32, 2, 3].into_nonempty_iter()), 123);
+fn folded(rt: HostRuntime) -> Result<(), Fail> {
+    is(digits([1u32, 2, 3].into_nonempty_iter(), 7), 7123)?;
+    is(reduced([1u32, 2, 3].into_nonempty_iter()), 123)?;
+    Ok(())
 }
 
 #[test]
-fn summed(rt: HostRuntime) {
-    assert_eq!(rt; sum::<u32, _>([1u32, 2, 3, 4].into_nonempty_iter()), 10);
+fn summed(rt: HostRuntime) -> Result<(), Fail> {
+    is(sum::<u32, _>([1u32, 2, 3, 4].into_nonempty_iter()), 10)?;
+    Ok(())
 }
 
 // Of plain numbers it would have to be proved here that no product is out of range.
 #[test]
-fn multiplied(rt: HostRuntime) {
+fn multiplied(rt: HostRuntime) -> Result<(), Fail> {
     let four = [Wrapping(1u32), Wrapping(2), Wrapping(3), Wrapping(4)];
     let product: Wrapping<u32> = product(four.into_nonempty_iter());
-    assert_eq!(rt; product.0, 24);
+    is(product.0, 24)?;
+    Ok(())
 }
