@@ -1,17 +1,9 @@
 //! The runs of slices: worked rows, by the first item of a run and by the previous item.
 
+use super::{is, same};
 use ne_vec::NESlice;
 use std::convert::AsSlice;
 use std::test::Fail;
-
-// The lists are equal.
-fn same(given: &[u32], wanted: &[u32]) -> Result<(), Fail> {
-    if given == wanted {
-        Ok(())
-    } else {
-        Err(Fail::from("another run"))
-    }
-}
 
 // `runs_by` gives these runs, and no more.
 fn by_first<F: Fn(&u32, &u32) -> bool + Drop>(
@@ -26,10 +18,7 @@ fn by_first<F: Fn(&u32, &u32) -> bool + Drop>(
     for run in wanted {
         same(runs.next().ok_or("too few runs")?.as_slice(), run)?;
     }
-    match runs.next() {
-        Some(_) => Err(Fail::from("too many runs")),
-        None => Ok(()),
-    }
+    is(runs.next().is_none(), true)
 }
 
 // And `adjacent_runs` these.
@@ -45,10 +34,7 @@ fn by_previous<F: Fn(&u32, &u32) -> bool + Drop>(
     for run in wanted {
         same(runs.next().ok_or("too few runs")?.as_slice(), run)?;
     }
-    match runs.next() {
-        Some(_) => Err(Fail::from("too many runs")),
-        None => Ok(()),
-    }
+    is(runs.next().is_none(), true)
 }
 
 #[test]
@@ -86,9 +72,5 @@ fn large(rt: HostRuntime) -> Result<(), Fail> {
         count = count.wrapping_add(1);
         even = even && of_thousand(run);
     }
-    if count == 200 && even {
-        Ok(())
-    } else {
-        Err(Fail::from("other runs"))
-    }
+    is((count, even), (200, true))
 }

@@ -1,20 +1,11 @@
 //! `flatten` and `scan`: worked rows, and how often a closure is called.
 
+use super::{is, list, of, same};
 use nonempty_collections::{IntoNonEmptyIterator, NEVec, NonEmptyIterator, nev};
 use std::alloc::{AllocError, Global};
 use std::cell::Cell;
 use std::convert::AsSlice;
-use std::num::NonZeroUsize;
 use std::test::Fail;
-
-// The lists are equal.
-fn same(given: &[u32], wanted: &[u32]) -> Result<(), Fail> {
-    if given == wanted {
-        Ok(())
-    } else {
-        Err(Fail::from("another list"))
-    }
-}
 
 fn flat(alloc: Global, lists: NEVec<NEVec<u32>>) -> Result<NEVec<u32>, AllocError> {
     lists.into_nonempty_iter().flatten().collect(alloc)
@@ -42,21 +33,22 @@ fn flattened(rt: HostRuntime) -> Result<(), Fail> {
     same(flat(alloc, lists)?.as_slice(), &[1, 2, 3])?;
     let one: NEVec<u32> = [[7u32]].into_nonempty_iter().flatten().collect(alloc)?;
     same(one.as_slice(), &[7])?;
-    let numbers = NEVec::try_from_slice(alloc, &[1u32, 1, 2, 3, 3])?.ok_or("no item")?;
-    let lists = runs(alloc, numbers)?;
+    let lists = runs(alloc, list(alloc, &[1, 1, 2, 3, 3])?)?;
     same(flat(alloc, lists)?.as_slice(), &[1, 1, 2, 3, 3])
 }
 
 #[test]
 fn scanned(rt: HostRuntime) -> Result<(), Fail> {
     let alloc = rt.alloc();
-    let three = NEVec::try_from_slice(alloc, &[1u32, 2, 3])?.ok_or("no item")?;
-    same(sums(alloc, three)?.as_slice(), &[1, 3, 6])?;
-    let ones = NEVec::from_elem(alloc, 1u32, NonZeroUsize::new(10_000).ok_or("0")?)?;
-    let totals = sums(alloc, ones)?;
     same(
-        &[totals.len().get() as u32, *totals.first(), *totals.last()],
-        &[10_000, 1, 10_000],
+        sums(alloc, list(alloc, &[1, 2, 3])?)?.as_slice(),
+        &[1, 3, 6],
+    )?;
+    let ones = NEVec::from_elem(alloc, 1u32, of(10_000)?)?;
+    let totals = sums(alloc, ones)?;
+    is(
+        (totals.len().get(), *totals.first(), *totals.last()),
+        (10_000, 1, 10_000),
     )
 }
 
@@ -72,11 +64,11 @@ fn calls(rt: HostRuntime) -> Result<(), Fail> {
             x.wrapping_add(*count)
         })
         .into_iter();
-    same(&[calls.get()], &[0])?;
+    is(calls.get(), 0)?;
     let first = answers.next().ok_or("no answer")?;
     let second = answers.next().ok_or("no answer")?;
-    same(&[first, second, calls.get()], &[6, 8, 2])?;
+    is((first, second, calls.get()), (6, 8, 2))?;
     let third = answers.next().ok_or("no answer")?;
     let more = answers.next().is_some() || answers.next().is_some();
-    same(&[third, u32::from(more), calls.get()], &[10, 0, 3])
+    is((third, more, calls.get()), (10, false, 3))
 }
