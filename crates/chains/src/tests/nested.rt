@@ -34,7 +34,10 @@ fn flattened(rt: HostRuntime) -> Result<(), Fail> {
     let one: NEVec<u32> = [[7u32]].into_nonempty_iter().flatten().collect(alloc)?;
     same(one.as_slice(), &[7])?;
     let lists = runs(alloc, list(alloc, &[1, 1, 2, 3, 3])?)?;
-    same(flat(alloc, lists)?.as_slice(), &[1, 1, 2, 3, 3])
+    same(flat(alloc, lists)?.as_slice(), &[1, 1, 2, 3, 3])?;
+    let ones = NEVec::from_elem(alloc, 1u32, of(10_000)?)?.into_nonempty_iter();
+    let many: NEVec<u32> = ones.map(|x| [x, 2]).flatten().collect(alloc)?;
+    is((many.len().get(), *many.last()), (20_000, 2))
 }
 
 #[test]
