@@ -1,5 +1,6 @@
 pub mod Sources
 pub mod SourceLaws
+pub mod SourceRuns
 pub mod Walks
 pub mod Calls
 pub mod Parts

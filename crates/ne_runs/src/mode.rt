@@ -193,7 +193,6 @@ fn text_of_runs<'a, R: NonEmptyIterator<Item = NESlice<'a, u32>>>(
 fn least(numbers: &NEVec<u32>) -> u32
     ensures { IsLeast numbers.now result }
 {
-    vectors_give_their_items::<u32>();
     numbers.nonempty_iter().copied().min()
 }
 
@@ -201,7 +200,6 @@ fn least(numbers: &NEVec<u32>) -> u32
 fn greatest(numbers: &NEVec<u32>) -> u32
     ensures { IsGreatest numbers.now result }
 {
-    vectors_give_their_items::<u32>();
     numbers.nonempty_iter().copied().max()
 }
 
@@ -210,10 +208,7 @@ fn sum(numbers: &NEVec<u32>) -> u64
     requires { sum numbers.now < 2 ^ 64 }
     ensures { result ≡ sum numbers.now }
 {
-    let widen = |number| u64::from(number);
-    vectors_give_their_items::<u32>();
-    calls_of_a_function(&widen);
-    numbers.nonempty_iter().copied().map(widen).sum()
+    numbers.nonempty_iter().copied().map(u64::from).sum()
 }
 
 // Adds a row to a text: its first number, and the rest of them.

@@ -11,16 +11,17 @@ pub struct Map<I, F> {
     pub(super) f: F,
 }
 
-impl<U, I: NonEmptyIterator, F: FnMut(I::Item) -> U> IntoIterator for Map<I, F> {
+impl<U, I: IntoIterator, F: FnMut(I::Item) -> U> IntoIterator for Map<I, F> {
     ghost use Rattle.std.specs.Prelude.{◌≡◌};
     ghost use Rattle.std.specs.Iterator.Adapters.{map_source, map_callee};
+    ghost use Rattle.ne_iter.specs.SourceRuns.{MapsRuns};
     ghost use Rattle.ne_iter.specs.Parts.{source_of_map, closure_of_map};
 
     type Item = U;
 
     type IntoIter = iter::Map<I::IntoIter, F>;
 
-    ghost into_iter_gives = { λ s it. I.into_iter_gives (source_of_map s) (map_source it) × (map_callee it ≡ closure_of_map s) };
+    ghost into_iter_gives = { λ s it. I.into_iter_gives (source_of_map s) (map_source it) × (map_callee it ≡ closure_of_map s) × MapsRuns I.IntoIter.next_gives F.FnMut (closure_of_map s) (map_source it) it };
 
     fn into_iter(self) -> iter::Map<I::IntoIter, F> {
         self.iter.into_iter().map(self.f)
@@ -40,16 +41,17 @@ pub struct Enumerate<I> {
     pub(super) iter: I,
 }
 
-impl<I: NonEmptyIterator> IntoIterator for Enumerate<I> {
+impl<I: IntoIterator> IntoIterator for Enumerate<I> {
     ghost use Rattle.std.specs.Prelude.{◌≡◌};
     ghost use Rattle.std.specs.Iterator.Adapters.{enumerate_source, enumerate_count};
+    ghost use Rattle.ne_iter.specs.SourceRuns.{EnumeratesRuns};
     ghost use Rattle.ne_iter.specs.Parts.{source_of_enumerate};
 
     type Item = (usize, I::Item);
 
     type IntoIter = iter::Enumerate<I::IntoIter>;
 
-    ghost into_iter_gives = { λ s it. I.into_iter_gives (source_of_enumerate s) (enumerate_source it) × (enumerate_count it ≡ 0) };
+    ghost into_iter_gives = { λ s it. I.into_iter_gives (source_of_enumerate s) (enumerate_source it) × (enumerate_count it ≡ 0) × EnumeratesRuns I.IntoIter.next_gives (enumerate_source it) it };
 
     fn into_iter(self) -> iter::Enumerate<I::IntoIter> {
         self.iter.into_iter().enumerate()
@@ -70,16 +72,17 @@ pub struct Take<I> {
     pub(super) n: NonZeroUsize,
 }
 
-impl<I: NonEmptyIterator> IntoIterator for Take<I> {
+impl<I: IntoIterator> IntoIterator for Take<I> {
     ghost use Rattle.std.specs.Prelude.{◌≡◌, ◌<◌};
     ghost use Rattle.std.specs.Iterator.Adapters.{take_source, take_count};
+    ghost use Rattle.ne_iter.specs.SourceRuns.{TakesRuns};
     ghost use Rattle.ne_iter.specs.Parts.{source_of_take, count_of_take};
 
     type Item = I::Item;
 
     type IntoIter = iter::Take<I::IntoIter>;
 
-    ghost into_iter_gives = { λ s it. I.into_iter_gives (source_of_take s) (take_source it) × (take_count it ≡ count_of_take s) };
+    ghost into_iter_gives = { λ s it. I.into_iter_gives (source_of_take s) (take_source it) × (take_count it ≡ count_of_take s) × TakesRuns I.IntoIter.next_gives (count_of_take s) (take_source it) it };
 
     fn into_iter(self) -> iter::Take<I::IntoIter> {
         self.iter.into_iter().take(self.n.get())
@@ -101,16 +104,16 @@ pub struct Chain<A, B> {
     pub(super) b: B,
 }
 
-impl<A: NonEmptyIterator, B: IntoIterator<Item = A::Item>> IntoIterator for Chain<A, B> {
+impl<A: IntoIterator, B: IntoIterator<Item = A::Item>> IntoIterator for Chain<A, B> {
     ghost use Rattle.std.specs.Prelude.{◌≡◌, false};
-    ghost use Rattle.std.specs.Iterator.Adapters.{chain_first, chain_second, chain_first_done, chain_second_done};
+    ghost use Rattle.std.specs.Iterator.Adapters.{chain_first, chain_second, chain_first_done, chain_second_done, ChainsRuns};
     ghost use Rattle.ne_iter.specs.Parts.{first_of_chain, second_of_chain};
 
     type Item = A::Item;
 
     type IntoIter = iter::Chain<A::IntoIter, B::IntoIter>;
 
-    ghost into_iter_gives = { λ s it. A.into_iter_gives (first_of_chain s) (chain_first it) × B.into_iter_gives (second_of_chain s) (chain_second it) × (chain_first_done it ≡ false) × (chain_second_done it ≡ false) };
+    ghost into_iter_gives = { λ s it. A.into_iter_gives (first_of_chain s) (chain_first it) × B.into_iter_gives (second_of_chain s) (chain_second it) × (chain_first_done it ≡ false) × (chain_second_done it ≡ false) × ChainsRuns A.IntoIter.next_gives B.IntoIter.next_gives (chain_first it) (chain_second it) it };
 
     fn into_iter(self) -> iter::Chain<A::IntoIter, B::IntoIter> {
         self.a.into_iter().chain(self.b)
@@ -133,14 +136,14 @@ pub struct Once<T> {
 
 impl<T: Drop> IntoIterator for Once<T> {
     ghost use Rattle.std.specs.Prelude.{◌≡◌, Some};
-    ghost use Rattle.std.specs.Iterator.Adapters.{once_item};
+    ghost use Rattle.std.specs.Iterator.Adapters.{once_item, OnceYieldsItsItem};
     ghost use Rattle.ne_iter.specs.Parts.{item_of_once};
 
     type Item = T;
 
     type IntoIter = iter::Once<T>;
 
-    ghost into_iter_gives = { λ s it. once_item it ≡ Some (item_of_once s) };
+    ghost into_iter_gives = { λ s it. (once_item it ≡ Some (item_of_once s)) × OnceYieldsItsItem T };
 
     fn into_iter(self) -> iter::Once<T> {
         iter::once(self.item)
@@ -151,7 +154,7 @@ impl<T: Drop> NonEmptyIterator for Once<T> {
     ghost use Rattle.ne_iter.specs.SourceLaws.{HasFirst-once};
     ghost use Rattle.ne_iter.specs.Parts.{item_of_once};
 
-    ghost not_empty = { λ s it made. HasFirst-once it (item_of_once s) made };
+    ghost not_empty = { λ s it made. HasFirst-once it (item_of_once s) made.0 };
 }
 
 /// Pairs of an item of one source and an item of another: see [`NonEmptyIterator::zip`].
@@ -161,18 +164,19 @@ pub struct Zip<A, B> {
     pub(super) b: B,
 }
 
-impl<A: NonEmptyIterator, B: IntoNonEmptyIterator> IntoIterator for Zip<A, B>
+impl<A: IntoIterator, B: IntoNonEmptyIterator> IntoIterator for Zip<A, B>
 where
     A::Item: Drop,
 {
     ghost use Rattle.std.specs.Iterator.Adapters.{zip_first, zip_second};
     ghost use Rattle.ne_iter.specs.Parts.{first_of_zip, second_of_zip};
+    ghost use Rattle.ne_iter.specs.SourceRuns.{ZipsLists};
 
     type Item = (A::Item, B::Item);
 
     type IntoIter = iter::Zip<A::IntoIter, B::IntoIter>;
 
-    ghost into_iter_gives = { λ s it. A.into_iter_gives (first_of_zip s) (zip_first it) × B.into_iter_gives (second_of_zip s) (zip_second it) };
+    ghost into_iter_gives = { λ s it. A.into_iter_gives (first_of_zip s) (zip_first it) × B.into_iter_gives (second_of_zip s) (zip_second it) × ZipsLists A.IntoIter.next_gives B.IntoIter.next_gives (zip_first it) (zip_second it) it };
 
     fn into_iter(self) -> iter::Zip<A::IntoIter, B::IntoIter> {
         self.a.into_iter().zip(self.b)

@@ -10,7 +10,7 @@ pub struct Cloned<I> {
     pub(super) iter: I,
 }
 
-impl<'a, T: Clone + 'a, I: NonEmptyIterator<Item = &'a T>> IntoIterator for Cloned<I> {
+impl<'a, T: Clone + 'a, I: IntoIterator<Item = &'a T>> IntoIterator for Cloned<I> {
     ghost use Rattle.ne_iter.specs.Parts.{source_of_cloned, iterator_of_cloned};
 
     type Item = Result<T, AllocError>;
@@ -72,15 +72,16 @@ pub struct Copied<I> {
     pub(super) iter: I,
 }
 
-impl<'a, T: Copy + 'a, I: NonEmptyIterator<Item = &'a T>> IntoIterator for Copied<I> {
+impl<'a, T: Copy + 'a, I: IntoIterator<Item = &'a T>> IntoIterator for Copied<I> {
     ghost use Rattle.std.specs.Iterator.Adapters.{copied_source};
     ghost use Rattle.ne_iter.specs.Parts.{source_of_copied};
+    ghost use Rattle.ne_iter.specs.SourceRuns.{CopiesRuns};
 
     type Item = T;
 
     type IntoIter = iter::Copied<I::IntoIter>;
 
-    ghost into_iter_gives = { λ s it. I.into_iter_gives (source_of_copied s) (copied_source it) };
+    ghost into_iter_gives = { λ s it. I.into_iter_gives (source_of_copied s) (copied_source it) × CopiesRuns I.IntoIter.next_gives (copied_source it) it };
 
     fn into_iter(self) -> iter::Copied<I::IntoIter> {
         self.iter.into_iter().copied()
@@ -92,5 +93,5 @@ impl<'a, T: Copy + 'a, I: NonEmptyIterator<Item = &'a T>> NonEmptyIterator for C
     ghost use Rattle.ne_iter.specs.Parts.{source_of_copied};
     ghost use Rattle.ne_iter.specs.SourceLaws.{none_copied};
 
-    ghost not_empty = { λ s it made t ended. I.not_empty (source_of_copied s) (copied_source it) made (copied_source t) (none_copied I.IntoIter.next_gives (copied_source it) (copied_source t) ended.0 ended.1 ended.2) };
+    ghost not_empty = { λ s it made t ended. I.not_empty (source_of_copied s) (copied_source it) made.0 (copied_source t) (none_copied I.IntoIter.next_gives (copied_source it) (copied_source t) ended.0 ended.1 ended.2) };
 }

@@ -13,17 +13,18 @@ pub struct FlatMap<I, U, F> {
     pub(super) of: PhantomData<U>,
 }
 
-impl<U: IntoNonEmptyIterator, I: NonEmptyIterator, F: FnMut(I::Item) -> U> IntoIterator
+impl<U: IntoNonEmptyIterator, I: IntoIterator, F: FnMut(I::Item) -> U> IntoIterator
     for FlatMap<I, U, F> {
     ghost use Rattle.std.specs.Prelude.{◌≡◌, None, false};
     ghost use Rattle.std.specs.Iterator.Adapters.{map_source, map_callee, flatten_source, flatten_front, flatten_back, flatten_done};
     ghost use Rattle.ne_iter.specs.Parts.{source_of_flat_map, closure_of_flat_map};
+    ghost use Rattle.ne_iter.specs.SourceRuns.{FlatMapsRuns};
 
     type Item = U::Item;
 
     type IntoIter = iter::FlatMap<I::IntoIter, U, F>;
 
-    ghost into_iter_gives = { λ s it. I.into_iter_gives (source_of_flat_map s) (map_source (flatten_source it)) × (map_callee (flatten_source it) ≡ closure_of_flat_map s) × (flatten_front it ≡ None) × (flatten_back it ≡ None) × (flatten_done it ≡ false) };
+    ghost into_iter_gives = { λ s it. I.into_iter_gives (source_of_flat_map s) (map_source (flatten_source it)) × (map_callee (flatten_source it) ≡ closure_of_flat_map s) × (flatten_front it ≡ None) × (flatten_back it ≡ None) × (flatten_done it ≡ false) × FlatMapsRuns I.IntoIter.next_gives U.into_iter_gives U.IntoIter.next_gives F.FnMut (closure_of_flat_map s) (map_source (flatten_source it)) it };
 
     fn into_iter(self) -> iter::FlatMap<I::IntoIter, U, F> {
         self.iter.into_iter().flat_map(self.f)
@@ -45,7 +46,7 @@ pub struct Flatten<I> {
     pub(super) iter: I,
 }
 
-impl<U: IntoNonEmptyIterator, I: NonEmptyIterator<Item = U>> IntoIterator for Flatten<I> {
+impl<U: IntoNonEmptyIterator, I: IntoIterator<Item = U>> IntoIterator for Flatten<I> {
     ghost use Rattle.std.specs.Prelude.{◌≡◌, None, false};
     ghost use Rattle.std.specs.Iterator.Adapters.{flatten_source, flatten_front};
     ghost use Rattle.std.specs.Iterator.Adapters.{flatten_back, flatten_done};

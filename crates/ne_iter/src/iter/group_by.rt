@@ -15,7 +15,7 @@ pub struct NEGroupBy<I, F> {
     pub(super) alloc: Global,
 }
 
-impl<I: NonEmptyIterator, K: PartialEq + Drop, F: FnMut(&I::Item) -> K + Drop> IntoIterator
+impl<I: IntoIterator, K: PartialEq + Drop, F: FnMut(&I::Item) -> K + Drop> IntoIterator
     for NEGroupBy<I, F>
 where
     I::Item: Drop,

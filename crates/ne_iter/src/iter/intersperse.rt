@@ -14,7 +14,7 @@ where
     pub(super) separator: I::Item,
 }
 
-impl<I: NonEmptyIterator> IntoIterator for Intersperse<I>
+impl<I: IntoIterator> IntoIterator for Intersperse<I>
 where
     I::Item: Clone + Drop,
 {

@@ -1,11 +1,14 @@
 //! [`NonEmptyIterator`]: a source that gives at least one item, with its methods.
-ghost use Rattle.std.specs.Prelude.{◌≡◌, true, false, List, length, map, Some, IfOk, OnOk, IsPermutation};
-ghost use Rattle.std.specs.Iterator.{IsFinite, IsFiniteIterable, MakesProgress, AfterFirst, CallableInFold, CallableWhile, CallableWhileAt, CallableOnAllAt};
-ghost use Rattle.std.specs.Iterator.Runs.{CountFits, EachRunFrom};
-ghost use Rattle.std.specs.Iterator.Adapters.{filter_source, filter_callee, filter_map_source, filter_map_callee, skip_source, skip_count, skip_while_source, skip_while_callee, skip_while_done_skipping, take_while_source, take_while_callee, take_while_done};
+ghost use Rattle.std.specs.Prelude.{◌≡◌, ◌+◌, ◌≤◌, true, false, List, length, map, Some, IfOk, OnOk, IsPermutation, IsTrue, MatchOption};
+ghost use Rattle.std.specs.Bool.{MatchBool};
+ghost use Rattle.std.specs.List.{fold as list_fold};
+ghost use Rattle.std.specs.Iterator.{IsFinite, ActsAsOnTwo, MakesProgress, AfterFirst, CallableInFold, CallableWhile, CallableWhileAt, CallableOnAllAt};
+ghost use Rattle.std.specs.Iterator.Runs.{CountFits, EachRunFrom, SomeRun, WholeRun, AnyItem, AllItems, AllItemsGive, AnyItemGives, NoItemPasses, EndsAtFirstPassing, IsReduceRun, IndexesMappedItems, IsFilterRun, IsFilterMapRun, IsSkipRun, IsSkipWhileRun, IsTakeWhileRun};
+ghost use Rattle.std.specs.Iterator.Adapters.{filter_steps, filter_map_steps, skip_steps, skip_while_steps, take_while_steps, filter_source, filter_callee, filter_map_source, filter_map_callee, skip_source, skip_count, skip_while_source, skip_while_callee, skip_while_done_skipping, take_while_source, take_while_callee, take_while_done};
 ghost use Rattle.std.specs.Int.NonZero.{non_zero_usize_get};
 ghost use Rattle.std.specs.List.Sorted.{IsSortedByKeyClosure, IsStableByKeyClosure};
 ghost use Rattle.ne_iter.specs.Sources.{IsNonEmpty, FirstAndRest};
+ghost use Rattle.ne_iter.specs.SourceRuns.{RunsSome, RunsWhole, BeginsRuns};
 ghost use Rattle.ne_iter.specs.Calls.{ShownEach};
 ghost use Rattle.ne_iter.specs.Clones.{TriesClone};
 ghost use Rattle.ne_iter.specs.Parts.{source_of_map, closure_of_map, source_of_enumerate, source_of_take, count_of_take, first_of_chain, second_of_chain, first_of_zip, second_of_zip, source_of_cloned, source_of_copied, source_of_flat_map, closure_of_flat_map, source_of_flatten, source_of_scan, init_of_scan, closure_of_scan, source_of_group_by, closure_of_group_by, first_of_intersperse, rest_of_intersperse, separator_of_intersperse};
@@ -16,7 +19,7 @@ ghost use Rattle.ne_iter.specs.Answers.{TellsAll, TellsAny, FindsFirst, GivesNth
 use super::sources::{FromNonEmptyIterator, IntoNonEmptyIterator, Source};
 use super::{
     Chain, Cloned, Copied, Enumerate, FlatMap, Flatten, GroupBy, Intersperse, Map, NEGroupBy,
-    Peekable, Scan, ScanIter, Take, Zip,
+    Peekable, Scan, Take, Zip,
 };
 use ne_vec::{NEVec, Singleton, vector};
 use std::alloc::{AllocError, Global};
@@ -40,7 +43,7 @@ pub trait NonEmptyIterator: IntoIterator {
     fn next(self) -> (Self::Item, Self::IntoIter)
     where
         Self: Sized,
-        requires { (it : Self.IntoIter) → Self.into_iter_gives self it → Self.IntoIter.can_next it }
+        requires { ⟦<Self as Source>⟧.starts self }
         ensures first { (it : Self.IntoIter) × Self.into_iter_gives self it × Self.IntoIter.next_gives it (Some result.0) result.1 × MakesProgress Self.IntoIter.can_next Self.IntoIter.remaining it (Some result.0) result.1 }
     {
         let mut it = self.into_iter();
@@ -55,10 +58,11 @@ pub trait NonEmptyIterator: IntoIterator {
     where
         Self: Sized,
         Self::Item: Drop,
-        requires { (it : Self.IntoIter) → Self.into_iter_gives self it → Self.IntoIter.can_next it }
+        requires { ⟦<Self as Source>⟧.starts self }
         ensures drawn { FirstAndRest Self.into_iter_gives Self.IntoIter.next_gives self (peekable_first result) (peekable_rest result) }
         ensures goes_on { (it : Self.IntoIter) × Self.into_iter_gives self it × MakesProgress Self.IntoIter.can_next Self.IntoIter.remaining it (Some (peekable_first result)) (peekable_rest result) }
         ensures gives { PeekableGives (⟦<Self as Source>⟧.reads) (⟦<Peekable<Self::IntoIter> as Source>⟧.reads) self result }
+        ensures runs { (it : Self.IntoIter) × Self.into_iter_gives self it × BeginsRuns Self.IntoIter.next_gives (peekable_first result) (peekable_rest result) it }
     {
         let (first, rest) = self.next();
         Peekable { first, rest }
@@ -68,9 +72,10 @@ pub trait NonEmptyIterator: IntoIterator {
     final fn all<F: FnMut(Self::Item) -> bool>(self, f: F) -> bool
     where
         Self: Sized,
-        requires runs { IsFiniteIterable Self.into_iter_gives Self.IntoIter.can_next Self.IntoIter.remaining self }
+        requires runs { ⟦<Self as Source>⟧.ends self }
         requires callable { (it : Self.IntoIter) → Self.into_iter_gives self it → CallableWhile Self.IntoIter.next_gives F.FnMut true it f }
-        ensures { TellsAll (⟦<Self as Source>⟧.reads) F.FnMut self f result }
+        ensures gives { TellsAll (⟦<Self as Source>⟧.reads) F.FnMut self f result }
+        ensures runs { RunsSome Self.into_iter_gives Self.IntoIter.next_gives self (λ p. MatchBool result (IsTrue p.whole × AllItemsGive p F.FnMut f true) (AnyItemGives p F.FnMut f false)) }
     {
         self.into_iter().all(f)
     }
@@ -79,9 +84,10 @@ pub trait NonEmptyIterator: IntoIterator {
     final fn any<F: FnMut(Self::Item) -> bool>(self, f: F) -> bool
     where
         Self: Sized,
-        requires runs { IsFiniteIterable Self.into_iter_gives Self.IntoIter.can_next Self.IntoIter.remaining self }
+        requires runs { ⟦<Self as Source>⟧.ends self }
         requires callable { (it : Self.IntoIter) → Self.into_iter_gives self it → CallableWhile Self.IntoIter.next_gives F.FnMut false it f }
-        ensures { TellsAny (⟦<Self as Source>⟧.reads) F.FnMut self f result }
+        ensures gives { TellsAny (⟦<Self as Source>⟧.reads) F.FnMut self f result }
+        ensures runs { RunsSome Self.into_iter_gives Self.IntoIter.next_gives self (λ p. MatchBool result (AnyItemGives p F.FnMut f true) (IsTrue p.whole × AllItemsGive p F.FnMut f false)) }
     {
         self.into_iter().any(f)
     }
@@ -119,8 +125,9 @@ pub trait NonEmptyIterator: IntoIterator {
     ) -> Result<B, AllocError>
     where
         Self: Sized,
-        requires { IsFiniteIterable Self.into_iter_gives Self.IntoIter.can_next Self.IntoIter.remaining self }
-        ensures { IfOk result (λ c. (xs : List Self.Item) × ⟦<Self as Source>⟧.reads (B.is_complete c) self xs × B.collected xs c) }
+        requires { ⟦<Self as Source>⟧.ends self }
+        ensures gives { IfOk result (λ c. (xs : List Self.Item) × ⟦<Self as Source>⟧.reads (B.is_complete c) self xs × B.collected xs c) }
+        ensures runs { IfOk result (λ c. RunsSome Self.into_iter_gives Self.IntoIter.next_gives self (λ p. (p.whole ≡ B.is_complete c) × B.collected p.items c)) }
     {
         B::from_nonempty_iter(alloc, self)
     }
@@ -143,7 +150,8 @@ pub trait NonEmptyIterator: IntoIterator {
         Self: Sized,
         Self::Item: Drop,
         requires { (it : Self.IntoIter) → Self.into_iter_gives self it → Self.IntoIter.can_next it × IsFinite (Self.IntoIter.remaining it) × CountFits Self.IntoIter.next_gives Self.IntoIter.remaining 0 it }
-        ensures { (xs : List Self.Item) × ⟦<Self as Source>⟧.reads true self xs × (non_zero_usize_get result ≡ length xs) }
+        ensures gives { (xs : List Self.Item) × ⟦<Self as Source>⟧.reads true self xs × (non_zero_usize_get result ≡ length xs) }
+        ensures runs { RunsWhole Self.into_iter_gives Self.IntoIter.next_gives self (λ p. non_zero_usize_get result ≡ p.len) }
     {
         match NonZeroUsize::new(self.into_iter().count()) {
             Some(n) => n,
@@ -171,6 +179,7 @@ pub trait NonEmptyIterator: IntoIterator {
         Self::Item: Drop,
         ensures holds { Self.into_iter_gives self (filter_source result) × (filter_callee result ≡ predicate) }
         ensures gives { FilterGives (⟦<Self as Source>⟧.reads) (⟦<iter::Filter<Self::IntoIter, P> as Source>⟧.reads) P.FnMut self predicate result }
+        ensures runs { (it : Self.IntoIter) × Self.into_iter_gives self it × EachRunFrom (filter_steps Self.IntoIter.next_gives P.FnMut) result (λ u. SomeRun Self.IntoIter.next_gives it (λ q. IsFilterRun u q P.FnMut predicate)) }
     {
         self.into_iter().filter(predicate)
     }
@@ -184,6 +193,7 @@ pub trait NonEmptyIterator: IntoIterator {
         Self: Sized,
         ensures holds { Self.into_iter_gives self (filter_map_source result) × (filter_map_callee result ≡ f) }
         ensures gives { FilterMapGives (⟦<Self as Source>⟧.reads) (⟦<iter::FilterMap<Self::IntoIter, F> as Source>⟧.reads) F.FnMut self f result }
+        ensures runs { (it : Self.IntoIter) × Self.into_iter_gives self it × EachRunFrom (filter_map_steps Self.IntoIter.next_gives F.FnMut) result (λ p. SomeRun Self.IntoIter.next_gives it (λ q. IsFilterMapRun p q F.FnMut f)) }
     {
         self.into_iter().filter_map(f)
     }
@@ -193,9 +203,10 @@ pub trait NonEmptyIterator: IntoIterator {
     where
         Self: Sized,
         Self::Item: Drop,
-        requires runs { IsFiniteIterable Self.into_iter_gives Self.IntoIter.can_next Self.IntoIter.remaining self }
+        requires runs { ⟦<Self as Source>⟧.ends self }
         requires callable { (it : Self.IntoIter) → Self.into_iter_gives self it → CallableWhileAt Self.IntoIter.next_gives P.FnMut false it predicate }
-        ensures { FindsFirst (⟦<Self as Source>⟧.reads) P.FnMut self predicate result }
+        ensures gives { FindsFirst (⟦<Self as Source>⟧.reads) P.FnMut self predicate result }
+        ensures runs { RunsSome Self.into_iter_gives Self.IntoIter.next_gives self (λ u. MatchOption result (IsTrue u.whole × NoItemPasses u P.FnMut predicate) (EndsAtFirstPassing u P.FnMut predicate)) }
     {
         self.into_iter().find(predicate)
     }
@@ -241,9 +252,10 @@ pub trait NonEmptyIterator: IntoIterator {
     final fn fold<B, F: FnMut(B, Self::Item) -> B>(self, init: B, f: F) -> B
     where
         Self: Sized,
-        requires runs { IsFiniteIterable Self.into_iter_gives Self.IntoIter.can_next Self.IntoIter.remaining self }
+        requires runs { ⟦<Self as Source>⟧.ends self }
         requires callable { (it : Self.IntoIter) → Self.into_iter_gives self it → CallableInFold Self.IntoIter.next_gives F.FnMut it f init }
-        ensures { FoldsAll (⟦<Self as Source>⟧.reads) F.FnMut self f init result }
+        ensures gives { FoldsAll (⟦<Self as Source>⟧.reads) F.FnMut self f init result }
+        ensures runs { RunsWhole Self.into_iter_gives Self.IntoIter.next_gives self (λ p. (h : B → Self.Item → B) → ActsAsOnTwo F.FnMut f h → result ≡ list_fold h init p.items) }
     {
         self.into_iter().fold(init, f)
     }
@@ -267,7 +279,7 @@ pub trait NonEmptyIterator: IntoIterator {
         Self: Sized,
         Self::Item: Drop,
         ensures holds { (source_of_group_by result ≡ self) × (closure_of_group_by result ≡ f) }
-        ensures ends { IsFiniteIterable Self.into_iter_gives Self.IntoIter.can_next Self.IntoIter.remaining self → F.IsAlwaysCallable f → IsFiniteIterable (⟦<NEGroupBy<Self, F> as IntoIterator>⟧.into_iter_gives) (⟦<GroupBy<Self::IntoIter, K, Self::Item, F> as Iterator>⟧.can_next) (⟦<GroupBy<Self::IntoIter, K, Self::Item, F> as Iterator>⟧.remaining) result }
+        ensures ends { ⟦<Self as Source>⟧.ends self → F.IsAlwaysCallable f → ⟦<NEGroupBy<Self, F> as Source>⟧.ends result }
         ensures gives { GroupByGives (⟦<Self as Source>⟧.reads) F.FnMut K.eq (⟦<NEGroupBy<Self, F> as Source>⟧.reads) self f result }
         ensures stops { GroupByStops (⟦<Self as Source>⟧.reads) F.FnMut K.eq (⟦<NEGroupBy<Self, F> as Source>⟧.reads) self f result }
     {
@@ -288,7 +300,7 @@ pub trait NonEmptyIterator: IntoIterator {
     where
         Self: Sized,
         Self::Item: Clone + Drop,
-        requires { (it : Self.IntoIter) → Self.into_iter_gives self it → Self.IntoIter.can_next it }
+        requires { ⟦<Self as Source>⟧.starts self }
         ensures holds { separator_of_intersperse result ≡ separator }
         ensures drawn { FirstAndRest Self.into_iter_gives Self.IntoIter.next_gives self (first_of_intersperse result) (rest_of_intersperse result) }
         ensures goes_on { (it : Self.IntoIter) × Self.into_iter_gives self it × MakesProgress Self.IntoIter.can_next Self.IntoIter.remaining it (Some (first_of_intersperse result)) (rest_of_intersperse result) }
@@ -317,8 +329,9 @@ pub trait NonEmptyIterator: IntoIterator {
     where
         Self: Sized,
         Self::Item: Ord + Drop,
-        requires { IsFiniteIterable Self.into_iter_gives Self.IntoIter.can_next Self.IntoIter.remaining self }
-        ensures { (xs : List Self.Item) × ⟦<Self as Source>⟧.reads true self xs × IsFirstGreatest (less_by Self.Item.cmp) xs result }
+        requires { ⟦<Self as Source>⟧.ends self }
+        ensures gives { (xs : List Self.Item) × ⟦<Self as Source>⟧.reads true self xs × IsFirstGreatest (less_by Self.Item.cmp) xs result }
+        ensures runs { RunsWhole Self.into_iter_gives Self.IntoIter.next_gives self (λ p. AnyItem p (λ x. x ≡ result) × AllItems p (λ x. less_by Self.Item.cmp result x ≡ false)) }
     {
         let (first, rest) = self.next();
         let mut best = first;
@@ -338,7 +351,7 @@ pub trait NonEmptyIterator: IntoIterator {
     where
         Self: Sized,
         Self::Item: Drop,
-        requires runs { IsFiniteIterable Self.into_iter_gives Self.IntoIter.can_next Self.IntoIter.remaining self }
+        requires runs { ⟦<Self as Source>⟧.ends self }
         requires callable { (it : Self.IntoIter) → Self.into_iter_gives self it → CallableOnTwo Self.IntoIter.next_gives F.Fn it compare }
         ensures { (xs : List Self.Item) × ⟦<Self as Source>⟧.reads true self xs × PicksGreatest F.Fn compare xs result }
     {
@@ -358,7 +371,7 @@ pub trait NonEmptyIterator: IntoIterator {
     where
         Self: Sized,
         Self::Item: Drop,
-        requires runs { IsFiniteIterable Self.into_iter_gives Self.IntoIter.can_next Self.IntoIter.remaining self }
+        requires runs { ⟦<Self as Source>⟧.ends self }
         requires callable { (it : Self.IntoIter) → Self.into_iter_gives self it → CallableOnAllAt Self.IntoIter.next_gives F.FnMut it key }
         ensures { (ps : List (Self.Item × B)) × (k : B) × (g : F) × ⟦<Self as Source>⟧.reads true self (map (λ p. p.0) ps) × ShownEach F.FnMut key ps g × IsFirstGreatest (λ p q. less_by B.cmp p.1 q.1) ps (result, k) }
     {
@@ -381,8 +394,9 @@ pub trait NonEmptyIterator: IntoIterator {
     where
         Self: Sized,
         Self::Item: Ord + Drop,
-        requires { IsFiniteIterable Self.into_iter_gives Self.IntoIter.can_next Self.IntoIter.remaining self }
-        ensures { (xs : List Self.Item) × ⟦<Self as Source>⟧.reads true self xs × IsFirstLeast (less_by Self.Item.cmp) xs result }
+        requires { ⟦<Self as Source>⟧.ends self }
+        ensures gives { (xs : List Self.Item) × ⟦<Self as Source>⟧.reads true self xs × IsFirstLeast (less_by Self.Item.cmp) xs result }
+        ensures runs { RunsWhole Self.into_iter_gives Self.IntoIter.next_gives self (λ p. AnyItem p (λ x. x ≡ result) × AllItems p (λ x. less_by Self.Item.cmp x result ≡ false)) }
     {
         let (first, rest) = self.next();
         let mut best = first;
@@ -402,7 +416,7 @@ pub trait NonEmptyIterator: IntoIterator {
     where
         Self: Sized,
         Self::Item: Drop,
-        requires runs { IsFiniteIterable Self.into_iter_gives Self.IntoIter.can_next Self.IntoIter.remaining self }
+        requires runs { ⟦<Self as Source>⟧.ends self }
         requires callable { (it : Self.IntoIter) → Self.into_iter_gives self it → CallableOnTwo Self.IntoIter.next_gives F.Fn it compare }
         ensures { (xs : List Self.Item) × ⟦<Self as Source>⟧.reads true self xs × PicksLeast F.Fn compare xs result }
     {
@@ -421,7 +435,7 @@ pub trait NonEmptyIterator: IntoIterator {
     where
         Self: Sized,
         Self::Item: Drop,
-        requires runs { IsFiniteIterable Self.into_iter_gives Self.IntoIter.can_next Self.IntoIter.remaining self }
+        requires runs { ⟦<Self as Source>⟧.ends self }
         requires callable { (it : Self.IntoIter) → Self.into_iter_gives self it → CallableOnAllAt Self.IntoIter.next_gives F.FnMut it key }
         ensures { (ps : List (Self.Item × B)) × (k : B) × (g : F) × ⟦<Self as Source>⟧.reads true self (map (λ p. p.0) ps) × ShownEach F.FnMut key ps g × IsFirstLeast (λ p q. less_by B.cmp p.1 q.1) ps (result, k) }
     {
@@ -451,9 +465,10 @@ pub trait NonEmptyIterator: IntoIterator {
     where
         Self: Sized,
         Self::Item: Drop,
-        requires runs { IsFiniteIterable Self.into_iter_gives Self.IntoIter.can_next Self.IntoIter.remaining self }
+        requires runs { ⟦<Self as Source>⟧.ends self }
         requires callable { F.IsAlwaysCallable f }
-        ensures { IfOk result (λ ys. (xs : List Self.Item) × ⟦<Self as Source>⟧.reads true self xs × IsPermutation xs ys × IsSortedByKeyClosure F.FnMut K.cmp f ys × IsStableByKeyClosure F.FnMut K.cmp f xs ys) }
+        ensures gives { IfOk result (λ ys. (xs : List Self.Item) × ⟦<Self as Source>⟧.reads true self xs × IsPermutation xs ys × IsSortedByKeyClosure F.FnMut K.cmp f ys × IsStableByKeyClosure F.FnMut K.cmp f xs ys) }
+        ensures runs { IfOk result (λ ys. RunsWhole Self.into_iter_gives Self.IntoIter.next_gives self (λ p. IsPermutation p.items ys × IsSortedByKeyClosure F.FnMut K.cmp f ys × IsStableByKeyClosure F.FnMut K.cmp f p.items ys)) }
     {
         let mut items: NEVec<Self::Item> = self.collect(alloc)?;
         items.sort_by_key(f)?;
@@ -465,8 +480,9 @@ pub trait NonEmptyIterator: IntoIterator {
     where
         Self: Sized,
         Self::Item: Drop,
-        requires { (it : Self.IntoIter) → Self.into_iter_gives self it → Self.IntoIter.can_next it }
-        ensures { GivesNth (⟦<Self as Source>⟧.reads) self n result }
+        requires { ⟦<Self as Source>⟧.starts self }
+        ensures gives { GivesNth (⟦<Self as Source>⟧.reads) self n result }
+        ensures runs { RunsSome Self.into_iter_gives Self.IntoIter.next_gives self (λ p. MatchOption result (IsTrue p.whole × (p.len ≤ n)) (λ x. (p.len ≡ n + 1) × (p.at n ≡ Some x))) }
     {
         self.into_iter().nth(n)
     }
@@ -488,12 +504,8 @@ pub trait NonEmptyIterator: IntoIterator {
         Self: Sized,
         ensures holds { (source_of_scan result ≡ self) × (init_of_scan result ≡ init)
             × (closure_of_scan result ≡ f) }
-        ensures ends { IsFiniteIterable Self.into_iter_gives Self.IntoIter.can_next
-            Self.IntoIter.remaining self
-            → F.IsAlwaysCallable f
-            → IsFiniteIterable (⟦<Scan<Self, St, F> as IntoIterator>⟧.into_iter_gives)
-            (⟦<ScanIter<Self::IntoIter, St, F> as Iterator>⟧.can_next)
-            (⟦<ScanIter<Self::IntoIter, St, F> as Iterator>⟧.remaining) result }
+        ensures ends { ⟦<Self as Source>⟧.ends self → F.IsAlwaysCallable f
+            → ⟦<Scan<Self, St, F> as Source>⟧.ends result }
         ensures gives { ScanGives (⟦<Self as Source>⟧.reads) (⟦<Scan<Self, St, F> as Source>⟧.reads)
             F.FnMut self init f result }
     {
@@ -511,6 +523,7 @@ pub trait NonEmptyIterator: IntoIterator {
         Self::Item: Drop,
         ensures holds { Self.into_iter_gives self (skip_source result) × (skip_count result ≡ n) }
         ensures gives { SkipGives (⟦<Self as Source>⟧.reads) (⟦<iter::Skip<Self::IntoIter> as Source>⟧.reads) n self result }
+        ensures runs { (it : Self.IntoIter) × Self.into_iter_gives self it × EachRunFrom (skip_steps Self.IntoIter.next_gives) result (λ p. SomeRun Self.IntoIter.next_gives it (λ q. IsSkipRun p q n)) }
     {
         self.into_iter().skip(n)
     }
@@ -526,6 +539,7 @@ pub trait NonEmptyIterator: IntoIterator {
         Self::Item: Drop,
         ensures holds { Self.into_iter_gives self (skip_while_source result) × (skip_while_callee result ≡ pred) × (skip_while_done_skipping result ≡ false) }
         ensures gives { SkipWhileGives (⟦<Self as Source>⟧.reads) (⟦<iter::SkipWhile<Self::IntoIter, P> as Source>⟧.reads) P.FnMut self pred result }
+        ensures runs { (it : Self.IntoIter) × Self.into_iter_gives self it × EachRunFrom (skip_while_steps Self.IntoIter.next_gives P.FnMut) result (λ u. SomeRun Self.IntoIter.next_gives it (λ q. IsSkipWhileRun u q P.FnMut pred)) }
     {
         self.into_iter().skip_while(pred)
     }
@@ -534,9 +548,10 @@ pub trait NonEmptyIterator: IntoIterator {
     final fn sum<S: Sum<Self::Item>>(self) -> S
     where
         Self: Sized,
-        requires runs { IsFiniteIterable Self.into_iter_gives Self.IntoIter.can_next Self.IntoIter.remaining self }
+        requires runs { ⟦<Self as Source>⟧.ends self }
         requires fits { (it : Self.IntoIter) → Self.into_iter_gives self it → EachRunFrom Self.IntoIter.next_gives it (λ p. S.can_sum p.items) }
-        ensures { (xs : List Self.Item) × (S.is_complete result → ⟦<Self as Source>⟧.reads true self xs) × S.sum_gives xs result }
+        ensures gives { (xs : List Self.Item) × (S.is_complete result → ⟦<Self as Source>⟧.reads true self xs) × S.sum_gives xs result }
+        ensures runs { (it : Self.IntoIter) × Self.into_iter_gives self it × (S.is_complete result → WholeRun Self.IntoIter.next_gives it (λ p. S.sum_gives p.items result)) }
     {
         self.into_iter().sum()
     }
@@ -562,6 +577,7 @@ pub trait NonEmptyIterator: IntoIterator {
         Self::Item: Drop,
         ensures holds { Self.into_iter_gives self (take_while_source result) × (take_while_callee result ≡ pred) × (take_while_done result ≡ false) }
         ensures gives { TakeWhileGives (⟦<Self as Source>⟧.reads) (⟦<iter::TakeWhile<Self::IntoIter, P> as Source>⟧.reads) P.FnMut self pred result }
+        ensures runs { (it : Self.IntoIter) × Self.into_iter_gives self it × EachRunFrom (take_while_steps Self.IntoIter.next_gives P.FnMut) result (λ u. SomeRun Self.IntoIter.next_gives it (λ q. IsTakeWhileRun u q P.FnMut pred)) }
     {
         self.into_iter().take_while(pred)
     }
@@ -570,9 +586,10 @@ pub trait NonEmptyIterator: IntoIterator {
     final fn product<P: Product<Self::Item>>(self) -> P
     where
         Self: Sized,
-        requires runs { IsFiniteIterable Self.into_iter_gives Self.IntoIter.can_next Self.IntoIter.remaining self }
+        requires runs { ⟦<Self as Source>⟧.ends self }
         requires fits { (it : Self.IntoIter) → Self.into_iter_gives self it → EachRunFrom Self.IntoIter.next_gives it (λ p. P.can_product p.items) }
-        ensures { (xs : List Self.Item) × (P.is_complete result → ⟦<Self as Source>⟧.reads true self xs) × P.product_gives xs result }
+        ensures gives { (xs : List Self.Item) × (P.is_complete result → ⟦<Self as Source>⟧.reads true self xs) × P.product_gives xs result }
+        ensures runs { (it : Self.IntoIter) × Self.into_iter_gives self it × (P.is_complete result → WholeRun Self.IntoIter.next_gives it (λ p. P.product_gives p.items result)) }
     {
         self.into_iter().product()
     }
@@ -604,8 +621,9 @@ pub trait NonEmptyIterator: IntoIterator {
     >(self, alloc: Global) -> Result<(FromA, FromB), AllocError>
     where
         Self: Sized + IntoIterator<Item = (A, B)>,
-        requires { IsFiniteIterable Self.into_iter_gives Self.IntoIter.can_next Self.IntoIter.remaining self }
-        ensures { IfOk result (λ r. (ps : List (A × B)) × ⟦<Self as Source>⟧.reads true self ps × FromA.collected (map (λ p. p.0) ps) r.0 × FromB.collected (map (λ p. p.1) ps) r.1) }
+        requires { ⟦<Self as Source>⟧.ends self }
+        ensures gives { IfOk result (λ r. (ps : List (A × B)) × ⟦<Self as Source>⟧.reads true self ps × FromA.collected (map (λ p. p.0) ps) r.0 × FromB.collected (map (λ p. p.1) ps) r.1) }
+        ensures runs { IfOk result (λ r. RunsWhole Self.into_iter_gives Self.IntoIter.next_gives self (λ p. FromA.collected (map (λ x. x.0) p.items) r.0 × FromB.collected (map (λ x. x.1) p.items) r.1 × IndexesMappedItems p (λ x. x.0) × IndexesMappedItems p (λ x. x.1))) }
     {
         let ((a, b), rest) = self.next();
         let mut firsts = FromA::singleton(alloc, a)?;
@@ -621,9 +639,10 @@ pub trait NonEmptyIterator: IntoIterator {
     final fn reduce<F: FnMut(Self::Item, Self::Item) -> Self::Item>(self, f: F) -> Self::Item
     where
         Self: Sized,
-        requires runs { IsFiniteIterable Self.into_iter_gives Self.IntoIter.can_next Self.IntoIter.remaining self }
+        requires runs { ⟦<Self as Source>⟧.ends self }
         requires callable { (it : Self.IntoIter) → Self.into_iter_gives self it → AfterFirst Self.IntoIter.next_gives it (λ x rest. CallableInFold Self.IntoIter.next_gives F.FnMut rest f x) }
-        ensures { ReducesAll (⟦<Self as Source>⟧.reads) F.FnMut self f result }
+        ensures gives { ReducesAll (⟦<Self as Source>⟧.reads) F.FnMut self f result }
+        ensures runs { RunsWhole Self.into_iter_gives Self.IntoIter.next_gives self (λ p. IsReduceRun p F.FnMut f result) }
     {
         match self.into_iter().reduce(f) {
             Some(x) => x,

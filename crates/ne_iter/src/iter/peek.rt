@@ -43,14 +43,14 @@ where
     I::Item: Drop,
 {
     ghost use Rattle.std.specs.Prelude.{◌≡◌, Some, false};
-    ghost use Rattle.std.specs.Iterator.Adapters.{once_item, chain_first, chain_second, chain_first_done, chain_second_done};
+    ghost use Rattle.std.specs.Iterator.Adapters.{once_item, chain_first, chain_second, chain_first_done, chain_second_done, once_steps, OnceYieldsItsItem, ChainsRuns};
     ghost use Rattle.ne_iter.specs.Peeks.{peekable_first, peekable_rest};
 
     type Item = I::Item;
 
     type IntoIter = iter::Chain<iter::Once<I::Item>, I>;
 
-    ghost into_iter_gives = { λ s it. (once_item (chain_first it) ≡ Some (peekable_first s)) × (chain_second it ≡ peekable_rest s) × (chain_first_done it ≡ false) × (chain_second_done it ≡ false) };
+    ghost into_iter_gives = { λ s it. (once_item (chain_first it) ≡ Some (peekable_first s)) × (chain_second it ≡ peekable_rest s) × (chain_first_done it ≡ false) × (chain_second_done it ≡ false) × OnceYieldsItsItem I.Item × ChainsRuns once_steps I.next_gives (chain_first it) (peekable_rest s) it };
 
     fn into_iter(self) -> iter::Chain<iter::Once<I::Item>, I> {
         iter::once(self.first).chain(self.rest)

@@ -10,7 +10,7 @@ pub struct Scan<I, St, F> {
     pub(super) f: F,
 }
 
-impl<St: Drop, B, I: NonEmptyIterator, F: FnMut(&mut St, I::Item) -> B> IntoIterator
+impl<St: Drop, B, I: IntoIterator, F: FnMut(&mut St, I::Item) -> B> IntoIterator
     for Scan<I, St, F> {
     ghost use Rattle.std.specs.Prelude.{◌≡◌};
     ghost use Rattle.ne_iter.specs.Parts.{source_of_scan, init_of_scan, closure_of_scan};

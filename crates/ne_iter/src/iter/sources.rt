@@ -9,13 +9,23 @@ use std::alloc::{AllocError, Global};
 
 /// A source by what it may give: every `IntoIterator`. It is for contracts alone, and has no method.
 ///
-/// `reads whole source xs` says that `source` may give the items `xs` first, and where `whole` is true may then end.
+/// `reads whole source xs` says that `source` may give the items `xs` first, and where `whole` is
+/// true may then end. `starts source` says that the first item may be drawn, and `ends source`
+/// that all of them may be, and that they end.
 pub trait Source: IntoIterator {
     ghost reads: { Bool → Self → List Self.Item → Type 0 };
+
+    ghost starts: { Self → Type 0 };
+
+    ghost ends: { Self → Type 0 };
 }
 
 impl<S: IntoIterator> Source for S {
     ghost reads = { Reads S.into_iter_gives S.IntoIter.next_gives };
+
+    ghost starts = { λ s. (it : S.IntoIter) → S.into_iter_gives s it → S.IntoIter.can_next it };
+
+    ghost ends = { IsFiniteIterable S.into_iter_gives S.IntoIter.can_next S.IntoIter.remaining };
 }
 
 /// What can be made of one item or more.

@@ -20,4 +20,4 @@ returns g c = IfOk-weaker c.in_ok-collect.field-0 _ _ (λ v h.
       mapped.3,
       runs.5,
       subst (λ held. DividesByKey g.K.PartialEq.eq runs.0 (and_held v held)) end.1 runs.6,
-    )) (all_ok c.group_by.ensures.stops _ c.results_make_a_vector.ensures c.in_ok-collect.field-0 c.in_ok-collect.ensures)
+    )) (all_ok c.group_by.ensures.stops _ c.results_make_a_vector.ensures c.in_ok-collect.field-0 c.in_ok-collect.ensures.gives)

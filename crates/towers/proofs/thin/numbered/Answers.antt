@@ -26,4 +26,4 @@ returns g c = IfOk-weaker c.collect.result _ _ (λ v h.
       ap (λ len. complete && ltb len n) long,
       subst (λ len. len ≤ n) long taken.1,
       subst (λ ws. g.B.FromNonEmptyIterator.collected ws v) (counted.2 ∙ ap (λ l. enumerate_from 0 l) chained.4) h.2,
-    )) c.collect.ensures
+    )) c.collect.ensures.gives

@@ -30,4 +30,4 @@ returns g c = IfOk-weaker c.unzip.result _ _ (λ r h.
       (λ less. zipped.8 (lt-ltb (length h.0) n (subst (λ len. len < n) (sym long) less))),
       subst (λ l. g.R.Singleton.collected l r.0) firsts h.2,
       subst (λ l. g.Q.Singleton.collected l r.1) seconds h.3,
-    )) c.unzip.ensures
+    )) c.unzip.ensures.gives

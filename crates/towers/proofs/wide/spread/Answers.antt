@@ -29,4 +29,4 @@ returns g c = IfOk-weaker c.collect.result _ _ (λ v h.
         subst (λ len. len ≤ n) long taken.1,
         subst (λ ws. g.B.FromNonEmptyIterator.collected ws v) (counted.2 ∙ ap (λ l. enumerate_from 0 l) same) h.2,
       ),
-    )) c.collect.ensures
+    )) c.collect.ensures.gives

@@ -6,4 +6,4 @@ use Rattle.ne_iter.proofs.iter.non_empty.NonEmptyIterator.copied.Goals as goal
 pub returns-clause-gives : goal.returns-clause-gives
 returns-clause-gives g c whole ys h =
     let p = DrainsIf-copied (whole ≡ true) g.Self.IntoIter.Iterator.next_gives h.it ys h.given in
-    (p.0, record { it = copied_source h.it; made = h.made; given = p.1 }, p.2)
+    (p.0, record { it = copied_source h.it; made = h.made.0; given = p.1 }, p.2)

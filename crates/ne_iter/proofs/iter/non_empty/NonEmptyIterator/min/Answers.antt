@@ -3,6 +3,7 @@ use Rattle.std.proofs.lemmas.List.MinMax.{ranks_by}
 use Rattle.ne_iter.specs.Answers.{less_by}
 use Rattle.ne_iter.proofs.Best.{best_of-takes, best_of-keeps, IsFirstLeast-best_of, less_by-from_partial_lt}
 use Rattle.ne_iter.proofs.Loops.{Reads-loop}
+use Rattle.ne_iter.proofs.Traced.{best_run_of}
 use Rattle.ne_iter.proofs.iter.non_empty.NonEmptyIterator.min.Goals as goal
 
 pub loop-x-init : goal.loop-x-init
@@ -18,10 +19,15 @@ loop-x-preserved g c =
     best_of-keeps (less_by g.Self.Item.Ord.cmp) c.next-first.result.0 c.loop-x.yielded c.loop-x.best c.in-Some.x c.loop-x.invariant
     (less_by-from_partial_lt g.met.Self.Item.Ord.matches_partial_cmp c.in-Some.x c.loop-x.best c.lt.result false c.lt.ensures c.if-lt.false)
 
-pub returns : goal.returns
-returns g c =
+pub returns-clause-gives : goal.returns-clause-gives
+returns-clause-gives g c =
     let first = c.next-first.ensures.first in (
       c.next-first.result.0 ∷ c.loop-x.yielded,
       Reads-loop first.0 c.loop-x.x-iterator c.next.new.self first.1 first.2 c.into_iter-x-iterator.ensures.into_iter_gives c.loop-x.yielded_by c.in-None.ensures.steps,
       IsFirstLeast-best_of (less_by g.Self.Item.Ord.cmp) (ranks_by g.met.Self.Item.Ord.total (λ x. x)) c.next-first.result.0 c.loop-x.yielded c.loop-x.best c.loop-x.invariant,
     )
+
+pub returns-clause-runs : goal.returns-clause-runs
+returns-clause-runs g c =
+    let r = returns-clause-gives g c in
+    best_run_of (less_by g.Self.Item.Ord.cmp) r.0 _ r.2.0 r.2.1 r.2.2 r.1

@@ -1,5 +1,5 @@
 use Rattle.ne_iter.proofs.Stops.{GivesNth-from_run}
 use Rattle.ne_iter.proofs.iter.non_empty.NonEmptyIterator.nth.Goals as goal
 
-pub returns : goal.returns
-returns g c = GivesNth-from_run g.Self.IntoIterator.into_iter_gives g.Self.IntoIter.Iterator.next_gives c.args.self c.into_iter.result c.nth.new.self c.into_iter.ensures.into_iter_gives c.args.n c.nth.result c.nth.ensures.ran
+pub returns-clause-gives : goal.returns-clause-gives
+returns-clause-gives g c = GivesNth-from_run g.Self.IntoIterator.into_iter_gives g.Self.IntoIter.Iterator.next_gives c.args.self c.into_iter.result c.nth.new.self c.into_iter.ensures.into_iter_gives c.args.n c.nth.result c.nth.ensures.ran

@@ -2,6 +2,7 @@ use Rattle.std.proofs.Common.{subst, sym, map, [], ◌∷◌}
 use Rattle.std.proofs.lemmas.List.{append-nil}
 use Rattle.ne_iter.proofs.Loops.{Reads-loop}
 use Rattle.ne_iter.proofs.Unzipped.{map-one_more}
+use Rattle.ne_iter.proofs.Traced.{whole_run_of, indexes}
 use Rattle.ne_iter.proofs.iter.non_empty.NonEmptyIterator.unzip.Goals as goal
 
 pub loop-a-init : goal.loop-a-init
@@ -19,8 +20,8 @@ loop-a-preserved g c =
           (c.in_ok-extend_one-2.ensures.added _ (c.loop-a.invariant.1 ps h)),
     )
 
-pub returns : goal.returns
-returns g c =
+pub returns-clause-gives : goal.returns-clause-gives
+returns-clause-gives g c =
     let from = c.next-a.ensures.first in
     let first = c.next-a.result.0 in (
       first ∷ c.loop-a.yielded,
@@ -28,3 +29,8 @@ returns g c =
       c.loop-a.invariant.0 (first ∷ []) c.in_ok-firsts.ensures,
       c.loop-a.invariant.1 (first ∷ []) c.in_ok-seconds.ensures,
     )
+
+pub returns-clause-runs : goal.returns-clause-runs
+returns-clause-runs g c =
+    let r = returns-clause-gives g c in
+    whole_run_of r.1 _ (r.2, r.3, indexes r.0 (λ x. x.0), indexes r.0 (λ x. x.1))
