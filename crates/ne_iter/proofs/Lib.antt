@@ -11,6 +11,7 @@ pub mod Fronts
 pub mod JoinedRuns
 pub mod Stops
 pub mod KeptRuns
+pub mod FrontRuns
 pub mod Traced
 pub mod Loops
 pub mod Best

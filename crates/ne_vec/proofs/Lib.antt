@@ -6,3 +6,5 @@ pub mod Chunked
 pub mod Compared
 pub mod MappedRuns
 pub mod FirstRuns
+pub mod FrontLists
+pub mod WalkRuns

@@ -106,7 +106,8 @@ pub struct Chain<A, B> {
 
 impl<A: IntoIterator, B: IntoIterator<Item = A::Item>> IntoIterator for Chain<A, B> {
     ghost use Rattle.std.specs.Prelude.{◌≡◌, false};
-    ghost use Rattle.std.specs.Iterator.Adapters.{chain_first, chain_second, chain_first_done, chain_second_done, ChainsRuns};
+    ghost use Rattle.std.specs.Iterator.Adapters.{chain_first, chain_second, chain_first_done, chain_second_done};
+    ghost use Rattle.ne_iter.specs.SourceRuns.{ChainsRuns};
     ghost use Rattle.ne_iter.specs.Parts.{first_of_chain, second_of_chain};
 
     type Item = A::Item;
@@ -170,13 +171,13 @@ where
 {
     ghost use Rattle.std.specs.Iterator.Adapters.{zip_first, zip_second};
     ghost use Rattle.ne_iter.specs.Parts.{first_of_zip, second_of_zip};
-    ghost use Rattle.ne_iter.specs.SourceRuns.{ZipsLists};
+    ghost use Rattle.ne_iter.specs.SourceRuns.{ZipsRuns};
 
     type Item = (A::Item, B::Item);
 
     type IntoIter = iter::Zip<A::IntoIter, B::IntoIter>;
 
-    ghost into_iter_gives = { λ s it. A.into_iter_gives (first_of_zip s) (zip_first it) × B.into_iter_gives (second_of_zip s) (zip_second it) × ZipsLists A.IntoIter.next_gives B.IntoIter.next_gives (zip_first it) (zip_second it) it };
+    ghost into_iter_gives = { λ s it. A.into_iter_gives (first_of_zip s) (zip_first it) × B.into_iter_gives (second_of_zip s) (zip_second it) × ZipsRuns A.IntoIter.next_gives B.IntoIter.next_gives (zip_first it) (zip_second it) it };
 
     fn into_iter(self) -> iter::Zip<A::IntoIter, B::IntoIter> {
         self.a.into_iter().zip(self.b)

@@ -1,5 +1,7 @@
 use Rattle.std.proofs.Common.{sym, subst}
-use Rattle.std.specs.Iterator.Adapters.{chain_second, ChainsRuns}
+use Rattle.std.specs.Iterator.Adapters.{chain_second}
+use Rattle.ne_iter.specs.SourceRuns.{ChainsRuns}
+use Rattle.ne_iter.proofs.FrontRuns.{chains_runs}
 use Rattle.ne_iter.proofs.iter.adapters.ChainIntoIterator.into_iter.Goals as goal
 
 pub returns : goal.returns
@@ -11,6 +13,6 @@ returns g c =
         c.chain.ensures.second,
         c.chain.ensures.first_done,
         c.chain.ensures.second_done,
-        subst (λ u. ChainsRuns g.A.IntoIter.Iterator.next_gives g.B.IntoIter.Iterator.next_gives u (chain_second c.chain.result) c.chain.result) e c.chain.ensures.runs,
+        subst (λ u. ChainsRuns g.A.IntoIter.Iterator.next_gives g.B.IntoIter.Iterator.next_gives u (chain_second c.chain.result) c.chain.result) e (chains_runs g.A.IntoIter.Iterator.next_gives g.B.IntoIter.Iterator.next_gives c.into_iter.result (chain_second c.chain.result) c.chain.result c.chain.ensures.runs),
       );
     }

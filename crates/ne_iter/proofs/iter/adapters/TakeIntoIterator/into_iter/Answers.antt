@@ -1,6 +1,7 @@
 use Rattle.std.proofs.Common.{sym, subst, ◌∙◌}
 use Rattle.std.specs.Iterator.Adapters.{take_source}
 use Rattle.ne_iter.specs.SourceRuns.{TakesRuns}
+use Rattle.ne_iter.proofs.FrontRuns.{takes_runs}
 use Rattle.ne_iter.proofs.iter.adapters.TakeIntoIterator.into_iter.Goals as goal
 
 pub returns : goal.returns
@@ -11,6 +12,6 @@ returns g c =
         subst (g.I.IntoIterator.into_iter_gives c.args.self.iter) e c.into_iter.ensures.into_iter_gives,
         c.take.ensures.count ∙ c.get.ensures.value,
         subst (λ n. TakesRuns g.I.IntoIter.Iterator.next_gives n (take_source c.take.result) c.take.result) c.get.ensures.value
-            (subst (λ u. TakesRuns g.I.IntoIter.Iterator.next_gives c.get.result u c.take.result) e c.take.ensures.runs),
+            (subst (λ u. TakesRuns g.I.IntoIter.Iterator.next_gives c.get.result u c.take.result) e (takes_runs g.I.IntoIter.Iterator.next_gives c.into_iter.result c.get.result c.take.result c.take.ensures.runs)),
       );
     }
