@@ -9,14 +9,15 @@ use Rattle.std.specs.Prelude.{None, Some, ◌≡◌, ℕ, zero, suc, ◌+◌, �
 use Rattle.std.specs.Fn.{Mut}
 use Rattle.std.specs.Borrow.{Bor}
 use Rattle.std.specs.Iterator.{ActsAs}
+use Rattle.std.specs.Iterator.Adapters.{map_steps, enumerate_steps, take_steps, copied_steps, chain_steps, zip_steps}
 use Rattle.std.specs.Iterator.Adapters as std
-use Rattle.std.specs.Iterator.Adapters.{map_steps, enumerate_steps, take_steps, copied_steps}
 use Rattle.std.specs.Iterator.Runs.{Run, EachRunFrom, SomeRun, IsMapRun, HasSameItems, IsCopiedRun, IsChainRun, IsZipRun, ProjectsRun}
 use Rattle.std.specs.List.{enumerate_from, zip}
-use Rattle.ne_vec.specs.Fronts.{IsFront, ShowsFront, GivesFront, GivesShown}
-use Rattle.ne_vec.specs.FrontLaws.{shows_front, as_items, as_shown}
-use Rattle.ne_vec.proofs.FrontLists.{gives_front, gives_shown}
-use Rattle.ne_iter.specs.SourceRuns.{MapsFront, TakesFront, ChainsFront, EnumeratesFront, ZipsFront, CopiesFront, MeetsFront, MapsRuns, TakesRuns, EnumeratesRuns, ChainsRuns, ZipsRuns, CopiesRuns}
+use Rattle.ne_vec.specs.Fronts.{IsFront, ShowsFront, Lists, Shows}
+use Rattle.ne_vec.specs.FrontLaws.{shows_front, as_items, as_shown, marked}
+use Rattle.ne_vec.proofs.FrontLists.{gives_items, gives_shown}
+use Rattle.ne_iter.specs.SourceRuns.{MapsRuns, TakesRuns, EnumeratesRuns, CopiesRuns, ChainsRuns, ZipsRuns}
+use Rattle.ne_iter.specs.SourceLists.{MapsList, TakesList, EnumeratesList, ChainsLists, ZipsLists, CopiesList, MeetsList}
 use Rattle.std.specs.declared.iter.Map.{Map}
 use Rattle.std.specs.declared.iter.Take.{Take}
 use Rattle.std.specs.declared.iter.Enumerate.{Enumerate}
@@ -40,24 +41,17 @@ module _ {S T A B : Type 0} {steps : S → Option B → S → Type 0} {source : 
   mapped_shown view h xs e (more, cut, fin) = (
     map h more,
     ap (map h) cut ∙ map-append h (map view q.items) more
-    ∙ ap (λ l. l ++ map h more) (map-map h view q.items ∙ sym e),
+        ∙ ap (λ l. l ++ map h more) (map-map h view q.items ∙ sym e),
     λ w. ap (map h) (fin (same ∙ w)),
   )
 
-module _ {S T A B F : Type 0} {steps : S → Option B → S → Type 0} {source : T → Option A → T → Type 0}
-    (p : Run steps) (q : Run source) (calls : Mut F (A × Unit {0}) B) (f : F) where
-  pub maps_front : IsMapRun p q calls f → MapsFront p q calls f
-  maps_front r = (
-    (λ h xs front acts. gives_front p (map h xs) (mapped p q r.0 h xs (r.3 h acts) front)),
-    λ view h xs front acts.
-      gives_front p (map h xs) (mapped_shown p q r.0 view h xs (r.3 (λ x. h (view x)) acts) front),
-  )
-
-pub copies_front : {S T X : Type 0} {steps : S → Option X → S → Type 0} {source : T → Option (Bor X) → T → Type 0}
-    (p : Run steps) (q : Run source) → IsCopiedRun p q (λ y. y.now) → CopiesFront p q
+copied_front : {S T X : Type 0} {steps : S → Option X → S → Type 0}
+    {source : T → Option (Bor X) → T → Type 0} (p : Run steps) (q : Run source)
+    → q.whole ≡ p.whole → p.items ≡ map (λ y. y.now) q.items
+    → (xs : List X) → ShowsFront (λ y. y.now) q xs → IsFront p xs
 unfolding IsFront ShowsFront
-copies_front p q r xs (more, cut, fin) =
-    gives_front p xs (more, cut ∙ ap (λ l. l ++ more) (sym r.2), λ w. fin (r.0 ∙ w))
+copied_front p q same e xs (m, c, fin) =
+    (m, c ∙ ap (λ l. l ++ m) (sym e), λ w. fin (same ∙ w))
 
 -- the first n of a list that begins with us
 take_cut : {A : Type 0} (n : ℕ) (us more : List A) → length us ≤ n
@@ -75,60 +69,57 @@ take_none zero xs e = refl
 take_none (suc n) xs e = absurd (omega (arith, e))
 
 module _ {S T A : Type 0} {steps : S → Option A → S → Type 0} {source : T → Option A → T → Type 0}
-    (n : ℕ) (p : Run steps) (q : Run source) (same : HasSameItems p q) (within : p.len ≤ n)
+    (n : ℕ) (p : Run steps) (q : Run source) (same : q.items ≡ p.items) (within : p.len ≤ n)
     (ends : IsTrue p.whole → p.len < n → IsTrue q.whole) where
   no_more : {B : Type 0} (more : List B) → (q.whole ≡ true → more ≡ []) → p.whole ≡ true
       → (p.len ≡ n) ⊎ (p.len < n) → take (n - p.len) more ≡ []
   no_more more fin w (inl e) = take_none (n - p.len) more (omega (arith, e))
   no_more more fin w (inr l) = ap (take (n - p.len)) (fin (ends w l)) ∙ take_nil (n - p.len)
 
-  pub takes_front : TakesFront n p q
-  unfolding IsFront ShowsFront
-  takes_front = (
-    (λ xs front.
-      let more : List A = front.0 in
-      let long : length p.items ≡ p.len = omega (arith, p.long) in
-      let cut : xs ≡ p.items ++ more = front.1 ∙ ap (λ l. l ++ more) same.1 in
-      gives_front p (take n xs) (
-        take (n - p.len) more,
-        ap (take n) cut ∙ take_cut n p.items more (omega (arith, long, within))
-        ∙ ap (λ k. p.items ++ take (n - k) more) long,
-        λ w. no_more more front.2 w (eq-or-lt_of_le within),
-      )),
-    λ view xs front.
-      let more : List ℕ = front.0 in
-      let us : List ℕ = map view p.items in
-      let long : length us ≡ p.len = omega (arith, p.long, length-map p.items view) in
-      let cut : xs ≡ us ++ more = front.1 ∙ ap (λ l. map view l ++ more) same.1 in
-      gives_shown p view (take n xs) (
-        take (n - p.len) more,
-        ap (take n) cut ∙ take_cut n us more (omega (arith, long, within))
-        ∙ ap (λ k. us ++ take (n - k) more) long,
-        λ w. no_more more front.2 w (eq-or-lt_of_le within),
-      ),
-  )
+  taken : (xs : List A) → IsFront q xs → IsFront p (take n xs)
+  unfolding IsFront
+  taken xs (m, c, fin) =
+      let long : length p.items ≡ p.len = omega (arith, p.long) in (
+        take (n - p.len) m,
+        ap (take n) (c ∙ ap (λ l. l ++ m) same)
+            ∙ take_cut n p.items m (omega (arith, long, within))
+            ∙ ap (λ k. p.items ++ take (n - k) m) long,
+        λ w. no_more m fin w (eq-or-lt_of_le within),
+      )
 
-pub meets_front : {S A : Type 0} {steps : S → Option A → S → Type 0} (v : Run steps) → MeetsFront v
-meets_front v ys within f = as_items v ys (shows_front v (λ x. x) ys within f.0 f.1)
+  taken_shown : {B : Type 0} (view : A → B) (xs : List B) → ShowsFront view q xs
+      → ShowsFront view p (take n xs)
+  unfolding ShowsFront
+  taken_shown view xs (m, c, fin) =
+      let us : List _ = map view p.items in
+      let long : length us ≡ p.len = omega (arith, p.long, length-map p.items view) in (
+        take (n - p.len) m,
+        ap (take n) (c ∙ ap (λ l. map view l ++ m) same)
+            ∙ take_cut n us m (omega (arith, long, within))
+            ∙ ap (λ k. us ++ take (n - k) m) long,
+        λ w. no_more m fin w (eq-or-lt_of_le within),
+      )
 
 -- a list, and then one that is empty if the first has not ended
 module _ {S T U A : Type 0} {steps : S → Option A → S → Type 0} {first : T → Option A → T → Type 0}
     {second : U → Option A → U → Type 0} (p : Run steps) (a : Run first) (b : Run second)
-    (joined : IsChainRun p a b) where
+    (e : p.items ≡ a.items ++ b.items)
+    (over : p.whole ≡ true → (a.whole ≡ true) × (b.whole ≡ true))
+    (through : 0 < b.len → a.whole ≡ true) where
   seam : {B : Type 0} (view : A → B) (n : ℕ) → n ≡ b.len → (m k : List B)
       → (a.whole ≡ true → m ≡ [])
       → (more : List B) × (m ++ (map view b.items ++ k) ≡ map view b.items ++ more)
       × (p.whole ≡ true → k ≡ [] → more ≡ [])
-  seam view zero e m k fin =
-      let none : b.items ≡ [] = nil_from_length b.items (omega (arith, e, b.long)) in (
+  seam view zero z m k fin =
+      let none : b.items ≡ [] = nil_from_length b.items (omega (arith, z, b.long)) in (
         m ++ k,
         ap (λ l. m ++ (map view l ++ k)) none ∙ sym (ap (λ l. map view l ++ (m ++ k)) none),
-        λ w ended. ap (λ l. l ++ k) (fin (joined.2 w).0) ∙ ended,
+        λ w ended. ap (λ l. l ++ k) (fin (over w).0) ∙ ended,
       )
-  seam view (suc n) e m k fin =
-      let over : a.whole ≡ true = joined.3 (omega (arith, e)) in (
+  seam view (suc n) z m k fin =
+      let past : a.whole ≡ true = through (omega (arith, z)) in (
         k,
-        ap (λ l. l ++ (map view b.items ++ k)) (fin over),
+        ap (λ l. l ++ (map view b.items ++ k)) (fin past),
         λ w ended. ended,
       )
 
@@ -141,17 +132,10 @@ module _ {S T U A : Type 0} {steps : S → Option A → S → Type 0} {first : T
       let s = seam view b.len refl m k fin in (
         s.0,
         ap (λ l. l ++ ys) cut ∙ ap (λ l. (us ++ m) ++ l) cut' ∙ append_assoc us m (vs ++ k)
-        ∙ ap (λ l. us ++ l) s.1 ∙ sym (append_assoc us vs s.0)
-        ∙ ap (λ l. l ++ s.0) (sym (map-append view a.items b.items) ∙ ap (map view) (sym joined.1)),
-        λ w. s.2 w (fin' (joined.2 w).1),
+            ∙ ap (λ l. us ++ l) s.1 ∙ sym (append_assoc us vs s.0)
+            ∙ ap (λ l. l ++ s.0) (sym (map-append view a.items b.items) ∙ ap (map view) (sym e)),
+        λ w. s.2 w (fin' (over w).1),
       )
-
-  pub chains_front : ChainsFront p a b
-  chains_front = (
-    (λ xs ys u v. gives_front p (xs ++ ys) (as_items p (xs ++ ys)
-      (chained (λ x. x) xs ys (as_shown a xs u) (as_shown b ys v)))),
-    λ view xs ys u v. gives_shown p view (xs ++ ys) (chained view xs ys u v),
-  )
 
 numbered : {A : Type 0} (n : ℕ) (us more : List A)
     → enumerate_from n (us ++ more) ≡ enumerate_from n us ++ enumerate_from (n + length us) more
@@ -161,14 +145,15 @@ numbered n (u ∷ us) more =
     ap (λ l. (n, u) ∷ l) (numbered (n + 1) us more
     ∙ ap (λ k. enumerate_from (n + 1) us ++ enumerate_from k more) e)
 
-pub enumerates_front : {S T A : Type 0} {steps : S → Option (ℕ × A) → S → Type 0}
+enumerated : {S T A : Type 0} {steps : S → Option (ℕ × A) → S → Type 0}
     {source : T → Option A → T → Type 0} (p : Run steps) (q : Run source) → q.whole ≡ p.whole
-    → p.items ≡ enumerate_from 0 q.items → EnumeratesFront p q
+    → p.items ≡ enumerate_from 0 q.items → (xs : List A) → IsFront q xs
+    → IsFront p (enumerate_from 0 xs)
 unfolding IsFront
-enumerates_front p q same e xs (more, cut, fin) = gives_front p (enumerate_from 0 xs) (
-  enumerate_from (0 + length q.items) more,
-  ap (enumerate_from 0) cut ∙ numbered 0 q.items more
-  ∙ ap (λ l. l ++ enumerate_from (0 + length q.items) more) (sym e),
+enumerated p q same e xs (m, c, fin) = (
+  enumerate_from (0 + length q.items) m,
+  ap (enumerate_from 0) c ∙ numbered 0 q.items m
+      ∙ ap (λ l. l ++ enumerate_from (0 + length q.items) m) (sym e),
   λ w. ap (enumerate_from (0 + length q.items)) (fin (same ∙ w)),
 )
 
@@ -192,23 +177,26 @@ none_left : {A B : Type 0} (m : List A) (k : List B) → (m ≡ []) ⊎ (k ≡ [
 none_left m k (inl e) = ap (λ l. zip l k) e
 none_left m k (inr e) = ap (zip m) e ∙ zip_nil m
 
-pub zips_front : {S T U A B : Type 0} {steps : S → Option (A × B) → S → Type 0}
+module _ {S T U A B : Type 0} {steps : S → Option (A × B) → S → Type 0}
     {first : T → Option A → T → Type 0} {second : U → Option B → U → Type 0}
-    (p : Run steps) (a : Run first) (b : Run second) → IsZipRun p a b → ZipsFront p a b
-unfolding IsFront
-zips_front p a b r xs ys (m, cut, fin) (k, cut', fin') =
-    let e : length a.items ≡ length b.items = omega (arith, a.long, b.long, r.0.0, r.1.0) in
-    gives_front p (zip xs ys) (
-      zip m k,
-      ap (λ l. zip l ys) cut ∙ ap (zip (a.items ++ m)) cut' ∙ zipped a.items m b.items k e
-      ∙ ap (λ l. l ++ zip m k)
-      (ap (λ l. zip l b.items) r.0.1 ∙ ap (zip (map (λ x. x.0) p.items)) r.1.1 ∙ sym (paired p.items)),
-      λ w. none_left m k (either (r.2 w)),
-    )
-  where
-    either : (a.whole ≡ true) ⊎ (b.whole ≡ true) → (m ≡ []) ⊎ (k ≡ [])
-    either (inl w) = inl (fin w)
-    either (inr w) = inr (fin' w)
+    (p : Run steps) (a : Run first) (b : Run second) (r : (a.len ≡ p.len) × (b.len ≡ p.len)
+    × (p.items ≡ zip a.items b.items) × (p.whole ≡ true → (a.whole ≡ true) ⊎ (b.whole ≡ true))) where
+  e : length a.items ≡ length b.items
+  e = omega (arith, a.long, b.long, r.0, r.1)
+
+  either : {X Y : Type 0} (m : List X) (k : List Y) → (a.whole ≡ true → m ≡ [])
+      → (b.whole ≡ true → k ≡ []) → (a.whole ≡ true) ⊎ (b.whole ≡ true) → (m ≡ []) ⊎ (k ≡ [])
+  either m k fin fin' (inl w) = inl (fin w)
+  either m k fin fin' (inr w) = inr (fin' w)
+
+  zipped_fronts : (xs : List A) (ys : List B) → IsFront a xs → IsFront b ys → IsFront p (zip xs ys)
+  unfolding IsFront
+  zipped_fronts xs ys (m, cut, fin) (k, cut', fin') = (
+    zip m k,
+    ap (λ l. zip l ys) cut ∙ ap (zip (a.items ++ m)) cut' ∙ zipped a.items m b.items k e
+        ∙ ap (λ l. l ++ zip m k) (sym r.2),
+    λ w. none_left m k (either m k fin fin' (r.3 w)),
+  )
 
 -- items whose places are their own are the numbered list of what they hold
 moved : {A : Type 0} (n m : ℕ) → n ≡ m → (o : Option (ℕ × A)) → IfSome o (λ x. x.0 ≡ n) → IfSome o (λ x. x.0 ≡ m)
@@ -229,29 +217,54 @@ places_and_items : {S T A : Type 0} {steps : S → Option (ℕ × A) → S → T
     → p.items ≡ enumerate_from 0 q.items
 places_and_items p q r places =
     placed 0 p.items (λ k.
-      let e : k ≡ 0 + k = omega arith in
-      moved k (0 + k) e (slice_get p.items k)
-      (subst (λ o. IfSome o (λ x. x.0 ≡ k)) (at-is p k) (places k)))
+    let e : k ≡ 0 + k = omega arith in
+    moved k (0 + k) e (slice_get p.items k)
+    (subst (λ o. IfSome o (λ x. x.0 ≡ k)) (at-is p k) (places k)))
     ∙ ap (enumerate_from 0) (sym r.1)
 
--- std's clauses on the runs of its adapters, with the fronts
+-- std's clauses on the runs of its adapters, taken from list to list
 module _ {S A : Type 0} (steps : S → Option A → S → Type 0) (source : S) where
-  pub maps_runs : {B F : Type 0} (calls : Mut F (A × Unit {0}) B) (f : F) (it : Map S F)
-      → EachRunFrom (map_steps steps calls) it (λ p.
-      SomeRun steps source (λ q. IsMapRun p q calls f)) → MapsRuns steps calls f source it
-  maps_runs calls f it runs p seen from =
-      let h = runs p seen from in
-      (h.0, h.1, (h.2, maps_front p h.0 calls f h.2))
+  pub maps_list : {B F : Type 0} (calls : Mut F (A × Unit {0}) B) (f : F) (it : Map S F)
+      → MapsRuns steps calls f source it → MapsList steps calls f source it
+  unfolding Lists Shows
+  maps_list calls f it runs = (
+    (λ xs each. (
+      marked source xs,
+      λ h acts. (
+        refl,
+        gives_items (map_steps steps calls) it (map h xs) (λ p seen from.
+            let r = runs p seen from in
+            mapped p r.0 r.2.0 h xs (r.2.3 h acts) (each r.0 r.0.seen r.1)),
+      ),
+    )),
+    λ view xs each. (
+      marked source xs,
+      λ h acts. (
+        refl,
+        gives_items (map_steps steps calls) it (map h xs) (λ p seen from.
+            let r = runs p seen from in
+            mapped_shown p r.0 r.2.0 view h xs (r.2.3 (λ x. h (view x)) acts)
+            (each r.0 r.0.seen r.1)),
+      ),
+    ),
+  )
 
-  pub takes_runs : (n : ℕ) (it : Take S)
-      → EachRunFrom (take_steps steps) it (λ p. (p.len ≤ n) × SomeRun steps source (λ q.
-      HasSameItems p q × (IsTrue p.whole → p.len < n → IsTrue q.whole)))
-      → TakesRuns steps n source it
-  takes_runs n it runs p seen from =
-      let h = runs p seen from in
-      let q = h.1.0 in
-      let r = h.1.2 in
-      (h.0, (q, h.1.1, (r.0, r.1, takes_front n p q r.0 h.0 r.1)))
+  pub takes_list : (n : ℕ) (it : Take S) → TakesRuns steps n source it → TakesList steps n source it
+  unfolding Lists Shows
+  takes_list n it runs = (
+    (λ xs each. (
+      marked source xs,
+      gives_items (take_steps steps) it (take n xs) (λ p seen from.
+          let r = runs p seen from in
+          taken n p r.1.0 r.1.2.1 r.0 r.1.2.2 xs (each r.1.0 r.1.0.seen r.1.1)),
+    )),
+    λ view xs each. (
+      marked source xs,
+      gives_shown (take_steps steps) it view (take n xs) (λ p seen from.
+          let r = runs p seen from in
+          taken_shown n p r.1.0 r.1.2.1 r.0 r.1.2.2 view xs (each r.1.0 r.1.0.seen r.1.1)),
+    ),
+  )
 
   pub enumerates_runs : (it : Enumerate S)
       → EachRunFrom (enumerate_steps steps) it (λ p. ((k : ℕ) → IfSome (p.at k) (λ x. x.0 ≡ k))
@@ -259,10 +272,29 @@ module _ {S A : Type 0} (steps : S → Option A → S → Type 0) (source : S) w
       → EnumeratesRuns steps source it
   enumerates_runs it runs p seen from =
       let h = runs p seen from in
-      let q = h.1.0 in
       let r = h.1.2 in
-      let same : p.items ≡ enumerate_from 0 q.items = places_and_items p q r.0 h.0 in
-      (h.0, (q, h.1.1, (r.0, r.1, same, enumerates_front p q r.1 same)))
+      (h.1.0, h.1.1, (r.1, sym r.0.0, places_and_items p h.1.0 r.0 h.0))
+
+  pub enumerates_list : (it : Enumerate S) → EnumeratesRuns steps source it
+      → EnumeratesList steps source it
+  unfolding Lists
+  enumerates_list it runs xs each = (
+    marked source xs,
+    gives_items (enumerate_steps steps) it (enumerate_from 0 xs) (λ p seen from.
+        let r = runs p seen from in
+        enumerated p r.0 r.2.0 r.2.2 xs (each r.0 r.0.seen r.1)),
+  )
+
+-- an iterator that tells its list item by item
+pub meets_list : {S A : Type 0} (steps : S → Option A → S → Type 0) (it : S) → MeetsList steps it
+unfolding Lists
+meets_list steps it xs each = (
+  refl,
+  (λ p seen from.
+      let f = each p seen from in
+      as_items p xs (shows_front p (λ x. x) xs f.0 f.1 f.2)),
+  marked it xs,
+)
 
 module _ {S T A B : Type 0} (steps : S → Option A → S → Type 0) (others : T → Option B → T → Type 0)
     (a : S) (b : T) where
@@ -270,7 +302,21 @@ module _ {S T A B : Type 0} (steps : S → Option A → S → Type 0) (others : 
   zips_runs it runs p seen from =
       let h = runs p seen from in
       let i = h.2 in
-      (h.0, h.1, (i.0, i.1, (i.2, meets_front i.0, zips_front p h.0 i.0 i.2)))
+      let r = i.2 in (
+        h.0,
+        h.1,
+        (
+          i.0,
+          i.1,
+          (
+            r.0.0,
+            r.1.0,
+            paired p.items ∙ ap (λ l. zip l (map (λ x. x.1) p.items)) (sym r.0.1)
+                ∙ ap (zip h.0.items) (sym r.1.1),
+            r.2,
+          ),
+        ),
+      )
 
 pub chains_runs : {S T A : Type 0} (steps : S → Option A → S → Type 0)
     (others : T → Option A → T → Type 0) (a : S) (b : T) (it : Chain S T)
@@ -278,11 +324,79 @@ pub chains_runs : {S T A : Type 0} (steps : S → Option A → S → Type 0)
 chains_runs steps others a b it runs p seen from =
     let h = runs p seen from in
     let i = h.2 in
-    (h.0, h.1, (i.0, i.1, (i.2, meets_front i.0, chains_front p h.0 i.0 i.2)))
+    let r = i.2 in
+    (h.0, h.1, (i.0, i.1, (r.0, r.1, r.2, r.3)))
+
+module _ {S T A B : Type 0} (steps : S → Option A → S → Type 0) (others : T → Option B → T → Type 0)
+    (a : S) (b : T) where
+  pub zips_lists : (it : Zip S T) → ZipsRuns steps others a b it → ZipsLists steps others a b it
+  unfolding Lists
+  zips_lists it runs = (
+    meets_list others b,
+    λ xs first. (
+      marked a xs,
+      λ ys second. (
+        marked b ys,
+        gives_items (zip_steps steps others) it (zip xs ys) (λ p seen from.
+            let r = runs p seen from in
+            let s = r.2 in
+            zipped_fronts p r.0 s.0 s.2 xs ys (first r.0 r.0.seen r.1) (second s.0 s.0.seen s.1)),
+      ),
+    ),
+  )
+
+module _ {S T A : Type 0} (steps : S → Option A → S → Type 0) (others : T → Option A → T → Type 0)
+    (a : S) (b : T) where
+  pub chains_lists : (it : Chain S T) → ChainsRuns steps others a b it
+      → ChainsLists steps others a b it
+  unfolding Lists Shows
+  chains_lists it runs = (
+    meets_list others b,
+    (λ xs first. (
+      marked a xs,
+      λ ys second. (
+        marked b ys,
+        gives_items (chain_steps steps others) it (xs ++ ys) (λ p seen from.
+            let r = runs p seen from in
+            let s = r.2 in
+            as_items p (xs ++ ys) (chained p r.0 s.0 s.2.1 s.2.2 s.2.3 (λ x. x) xs ys
+            (as_shown r.0 xs (first r.0 r.0.seen r.1)) (as_shown s.0 ys (second s.0 s.0.seen s.1)))),
+      ),
+    )),
+    λ view xs first. (
+      marked a xs,
+      λ ys second. (
+        marked b ys,
+        gives_shown (chain_steps steps others) it view (xs ++ ys) (λ p seen from.
+            let r = runs p seen from in
+            let s = r.2 in
+            chained p r.0 s.0 s.2.1 s.2.2 s.2.3 view xs ys (first r.0 r.0.seen r.1) (second s.0 s.0.seen s.1)),
+      ),
+    ),
+  )
+
+pub copies_list : {S T : Type 0} (steps : S → Option (Bor T) → S → Type 0) (source : S)
+    (it : Copied S) → CopiesRuns steps source it → CopiesList steps source it
+unfolding Lists Shows
+copies_list steps source it runs xs each = (
+  marked source xs,
+  gives_items (copied_steps steps) it xs (λ p seen from.
+      let r = runs p seen from in
+      copied_front p r.0 r.2.0 r.2.2 xs (each r.0 r.0.seen r.1)),
+)
+
+pub takes_runs : {S A : Type 0} (steps : S → Option A → S → Type 0) (source : S) (n : ℕ) (it : Take S)
+    → EachRunFrom (take_steps steps) it (λ p. (p.len ≤ n) × SomeRun steps source (λ q.
+    HasSameItems p q × (IsTrue p.whole → p.len < n → IsTrue q.whole)))
+    → TakesRuns steps n source it
+takes_runs steps source n it runs p seen from =
+    let h = runs p seen from in
+    let r = h.1.2 in
+    (h.0, (h.1.0, h.1.1, (r.0.0, r.0.1, r.1)))
 
 pub copies_runs : {S T : Type 0} (steps : S → Option (Bor T) → S → Type 0) (source : S)
     (it : Copied S) → EachRunFrom (copied_steps steps) it (λ p.
     SomeRun steps source (λ q. IsCopiedRun p q (λ y. y.now))) → CopiesRuns steps source it
 copies_runs steps source it runs p seen from =
     let h = runs p seen from in
-    (h.0, h.1, (h.2, copies_front p h.0 h.2))
+    (h.0, h.1, (h.2.0, h.2.1, h.2.2))

@@ -1,6 +1,7 @@
 pub mod Sources
 pub mod SourceLaws
 pub mod SourceRuns
+pub mod SourceLists
 pub mod Walks
 pub mod Calls
 pub mod Parts

@@ -107,7 +107,7 @@ where
 {
     ghost use Rattle.std.proofs.Common.{refl, subst, sym, ap, ◌∙◌};
     ghost use Rattle.std.specs.Slice.Iter.{iter_rest, iter_steps};
-    ghost use Rattle.ne_vec.specs.FrontLaws.{each_shown};
+    ghost use Rattle.ne_vec.specs.FrontLaws.{shows_all, marked};
     ghost use Rattle.ne_iter.specs.SourceLaws.{SameLists-through};
 
     type IntoNEIter = slice::Iter<'a, T>;
@@ -115,9 +115,19 @@ where
     ghost into_nonempty_iter_gives = { λ a s. (s ≡ a.now) × (length a.now ≡ N) };
 
     ghost same_lists = { SameLists-through (⟦<&'a [T; N] as IntoIterator>⟧.into_iter_gives) (⟦<std::slice::Iter<'a, T> as Iterator>⟧.next_gives) (λ a s. (s ≡ a.now) × (length a.now ≡ N)) (⟦<slice::Iter<'a, T> as IntoIterator>⟧.into_iter_gives)
-        (λ a it made. (a.now, (refl, sym (ap length made.0) ∙ made.3), (subst (λ n. 0 < n) (sym made.3 ∙ ap length made.0) ⟦<[T; N] as NonEmptyArray<N>>⟧.has_item, made.0, made.1,
-        each_shown iter_steps (λ y. y.now) iter_rest made.2)))
-        (λ a s it same made. (made.1 ∙ same.0, made.2, (λ p seen. (made.3 p seen).1), ap length (made.1 ∙ same.0) ∙ same.1)) };
+        (λ a it made. (
+          a.now,
+          (refl, sym (ap length made.0) ∙ made.3),
+          (
+            subst (λ n. 0 < n) (sym made.3 ∙ ap length made.0) ⟦<[T; N] as NonEmptyArray<N>>⟧.has_item,
+            made.0,
+            made.1,
+            made.2,
+            shows_all iter_steps (λ y. y.now) iter_rest it a.now made.2 made.0,
+            marked it a.now,
+          ),
+        ))
+        (λ a s it same made. (made.1 ∙ same.0, made.2, made.3, ap length (made.1 ∙ same.0) ∙ same.1)) };
 
     fn into_nonempty_iter(self) -> slice::Iter<'a, T> {
         match NESlice::try_from_slice(self) {

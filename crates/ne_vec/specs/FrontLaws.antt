@@ -5,7 +5,7 @@ use Rattle.std.proofs.lemmas.List.{nil_from_length, length-map}
 use Rattle.std.specs.Prelude.{◌≡◌, ℕ, zero, suc, ◌<◌, ◌≤◌, true, List, [], ◌∷◌, ◌++◌, length, map, Option, Some, refl, slice_index_or, slice_get}
 use Rattle.std.specs.Option.{option_map}
 use Rattle.std.specs.Iterator.Runs.{Run, YieldsRun, EveryRun, ItemsAre, ItemsMapTo}
-use Rattle.ne_vec.specs.Fronts.{IsFront, ShowsFront, GivesFront, GivesShown}
+use Rattle.ne_vec.specs.Fronts.{IsFront, ShowsFront, Lists, Shows, mark}
 
 -- what has the items of xs at its places, and is no longer, begins xs
 begins : {A : Type 0} (us xs : List A) → length us ≤ length xs
@@ -17,6 +17,10 @@ begins (u ∷ us) (x ∷ xs) l same =
     let e : u ≡ x = same 0 u (omega arith) in
     let rest = begins us xs (omega (arith, l)) (λ k d m. same (suc k) d (omega (arith, m))) in
     (rest.0, (let h = rest.1 in cc), λ long. rest.2 (omega (arith, long)))
+
+pub marked : {S A : Type 0} (it : S) (xs : List A) → mark it xs ≡ 0
+unfolding mark
+marked it xs = refl
 
 module _ {S A : Type 0} {steps : S → Option A → S → Type 0} (p : Run steps) where
   -- `at k` is the item at place k
@@ -53,14 +57,19 @@ module _ {S A : Type 0} {steps : S → Option A → S → Type 0} (p : Run steps
     pub is_front : ItemsAre p xs → IsFront p xs
     is_front h = as_items (shows_front (λ x. x) xs h.0 h.1 h.2)
 
-pub each_shown : {S A B : Type 0} (steps : S → Option A → S → Type 0) (view : A → B) (rest : S → List B)
-    → EveryRun steps (λ p. ItemsMapTo p view (rest p.from)) → EveryRun steps (λ p. GivesShown view p (rest p.from))
-each_shown steps view rest every p seen =
+-- an iterator whose clause is std's
+pub shows_all : {S A B : Type 0} (steps : S → Option A → S → Type 0) (view : A → B) (rest : S → List B)
+    (it : S) (xs : List B) → EveryRun steps (λ p. ItemsMapTo p view (rest p.from)) → rest it ≡ xs
+    → Shows steps view it xs
+unfolding Shows
+shows_all steps view rest it xs every same p seen from =
     let h = every p seen in
-    (shows_front p view (rest p.from) h.0 h.1 h.2, h)
+    subst (ShowsFront view p) (ap rest from ∙ same)
+    (shows_front p view (rest p.from) h.0 h.1 h.2)
 
-pub each_front : {S A : Type 0} (steps : S → Option A → S → Type 0) (rest : S → List A)
-    → EveryRun steps (λ p. ItemsAre p (rest p.from)) → EveryRun steps (λ p. GivesFront p (rest p.from))
-each_front steps rest every p seen =
-    let h = every p seen in
-    (is_front p (rest p.from) h, h)
+pub lists_all : {S A : Type 0} (steps : S → Option A → S → Type 0) (rest : S → List A) (it : S)
+    (xs : List A) → EveryRun steps (λ p. ItemsAre p (rest p.from)) → rest it ≡ xs
+    → Lists steps it xs
+unfolding Lists
+lists_all steps rest it xs every same p seen from =
+    subst (IsFront p) (ap rest from ∙ same) (is_front p (rest p.from) (every p seen))

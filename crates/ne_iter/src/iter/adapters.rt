@@ -15,13 +15,15 @@ impl<U, I: IntoIterator, F: FnMut(I::Item) -> U> IntoIterator for Map<I, F> {
     ghost use Rattle.std.specs.Prelude.{◌≡◌};
     ghost use Rattle.std.specs.Iterator.Adapters.{map_source, map_callee};
     ghost use Rattle.ne_iter.specs.SourceRuns.{MapsRuns};
+    ghost use Rattle.ne_iter.specs.SourceLists.{MapsList};
     ghost use Rattle.ne_iter.specs.Parts.{source_of_map, closure_of_map};
 
     type Item = U;
 
     type IntoIter = iter::Map<I::IntoIter, F>;
 
-    ghost into_iter_gives = { λ s it. I.into_iter_gives (source_of_map s) (map_source it) × (map_callee it ≡ closure_of_map s) × MapsRuns I.IntoIter.next_gives F.FnMut (closure_of_map s) (map_source it) it };
+    ghost into_iter_gives = { λ s it. I.into_iter_gives (source_of_map s) (map_source it) × (map_callee it ≡ closure_of_map s) × MapsRuns I.IntoIter.next_gives F.FnMut (closure_of_map s) (map_source it) it
+        × MapsList I.IntoIter.next_gives F.FnMut (closure_of_map s) (map_source it) it };
 
     fn into_iter(self) -> iter::Map<I::IntoIter, F> {
         self.iter.into_iter().map(self.f)
@@ -45,13 +47,15 @@ impl<I: IntoIterator> IntoIterator for Enumerate<I> {
     ghost use Rattle.std.specs.Prelude.{◌≡◌};
     ghost use Rattle.std.specs.Iterator.Adapters.{enumerate_source, enumerate_count};
     ghost use Rattle.ne_iter.specs.SourceRuns.{EnumeratesRuns};
+    ghost use Rattle.ne_iter.specs.SourceLists.{EnumeratesList};
     ghost use Rattle.ne_iter.specs.Parts.{source_of_enumerate};
 
     type Item = (usize, I::Item);
 
     type IntoIter = iter::Enumerate<I::IntoIter>;
 
-    ghost into_iter_gives = { λ s it. I.into_iter_gives (source_of_enumerate s) (enumerate_source it) × (enumerate_count it ≡ 0) × EnumeratesRuns I.IntoIter.next_gives (enumerate_source it) it };
+    ghost into_iter_gives = { λ s it. I.into_iter_gives (source_of_enumerate s) (enumerate_source it) × (enumerate_count it ≡ 0) × EnumeratesRuns I.IntoIter.next_gives (enumerate_source it) it
+        × EnumeratesList I.IntoIter.next_gives (enumerate_source it) it };
 
     fn into_iter(self) -> iter::Enumerate<I::IntoIter> {
         self.iter.into_iter().enumerate()
@@ -76,13 +80,15 @@ impl<I: IntoIterator> IntoIterator for Take<I> {
     ghost use Rattle.std.specs.Prelude.{◌≡◌, ◌<◌};
     ghost use Rattle.std.specs.Iterator.Adapters.{take_source, take_count};
     ghost use Rattle.ne_iter.specs.SourceRuns.{TakesRuns};
+    ghost use Rattle.ne_iter.specs.SourceLists.{TakesList};
     ghost use Rattle.ne_iter.specs.Parts.{source_of_take, count_of_take};
 
     type Item = I::Item;
 
     type IntoIter = iter::Take<I::IntoIter>;
 
-    ghost into_iter_gives = { λ s it. I.into_iter_gives (source_of_take s) (take_source it) × (take_count it ≡ count_of_take s) × TakesRuns I.IntoIter.next_gives (count_of_take s) (take_source it) it };
+    ghost into_iter_gives = { λ s it. I.into_iter_gives (source_of_take s) (take_source it) × (take_count it ≡ count_of_take s) × TakesRuns I.IntoIter.next_gives (count_of_take s) (take_source it) it
+        × TakesList I.IntoIter.next_gives (count_of_take s) (take_source it) it };
 
     fn into_iter(self) -> iter::Take<I::IntoIter> {
         self.iter.into_iter().take(self.n.get())
@@ -108,13 +114,15 @@ impl<A: IntoIterator, B: IntoIterator<Item = A::Item>> IntoIterator for Chain<A,
     ghost use Rattle.std.specs.Prelude.{◌≡◌, false};
     ghost use Rattle.std.specs.Iterator.Adapters.{chain_first, chain_second, chain_first_done, chain_second_done};
     ghost use Rattle.ne_iter.specs.SourceRuns.{ChainsRuns};
+    ghost use Rattle.ne_iter.specs.SourceLists.{ChainsLists};
     ghost use Rattle.ne_iter.specs.Parts.{first_of_chain, second_of_chain};
 
     type Item = A::Item;
 
     type IntoIter = iter::Chain<A::IntoIter, B::IntoIter>;
 
-    ghost into_iter_gives = { λ s it. A.into_iter_gives (first_of_chain s) (chain_first it) × B.into_iter_gives (second_of_chain s) (chain_second it) × (chain_first_done it ≡ false) × (chain_second_done it ≡ false) × ChainsRuns A.IntoIter.next_gives B.IntoIter.next_gives (chain_first it) (chain_second it) it };
+    ghost into_iter_gives = { λ s it. A.into_iter_gives (first_of_chain s) (chain_first it) × B.into_iter_gives (second_of_chain s) (chain_second it) × (chain_first_done it ≡ false) × (chain_second_done it ≡ false) × ChainsRuns A.IntoIter.next_gives B.IntoIter.next_gives (chain_first it) (chain_second it) it
+        × ChainsLists A.IntoIter.next_gives B.IntoIter.next_gives (chain_first it) (chain_second it) it };
 
     fn into_iter(self) -> iter::Chain<A::IntoIter, B::IntoIter> {
         self.a.into_iter().chain(self.b)
@@ -170,14 +178,16 @@ where
     A::Item: Drop,
 {
     ghost use Rattle.std.specs.Iterator.Adapters.{zip_first, zip_second};
-    ghost use Rattle.ne_iter.specs.Parts.{first_of_zip, second_of_zip};
     ghost use Rattle.ne_iter.specs.SourceRuns.{ZipsRuns};
+    ghost use Rattle.ne_iter.specs.Parts.{first_of_zip, second_of_zip};
+    ghost use Rattle.ne_iter.specs.SourceLists.{ZipsLists};
 
     type Item = (A::Item, B::Item);
 
     type IntoIter = iter::Zip<A::IntoIter, B::IntoIter>;
 
-    ghost into_iter_gives = { λ s it. A.into_iter_gives (first_of_zip s) (zip_first it) × B.into_iter_gives (second_of_zip s) (zip_second it) × ZipsRuns A.IntoIter.next_gives B.IntoIter.next_gives (zip_first it) (zip_second it) it };
+    ghost into_iter_gives = { λ s it. A.into_iter_gives (first_of_zip s) (zip_first it) × B.into_iter_gives (second_of_zip s) (zip_second it) × ZipsRuns A.IntoIter.next_gives B.IntoIter.next_gives (zip_first it) (zip_second it) it
+        × ZipsLists A.IntoIter.next_gives B.IntoIter.next_gives (zip_first it) (zip_second it) it };
 
     fn into_iter(self) -> iter::Zip<A::IntoIter, B::IntoIter> {
         self.a.into_iter().zip(self.b)

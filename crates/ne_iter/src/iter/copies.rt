@@ -76,12 +76,14 @@ impl<'a, T: Copy + 'a, I: IntoIterator<Item = &'a T>> IntoIterator for Copied<I>
     ghost use Rattle.std.specs.Iterator.Adapters.{copied_source};
     ghost use Rattle.ne_iter.specs.Parts.{source_of_copied};
     ghost use Rattle.ne_iter.specs.SourceRuns.{CopiesRuns};
+    ghost use Rattle.ne_iter.specs.SourceLists.{CopiesList};
 
     type Item = T;
 
     type IntoIter = iter::Copied<I::IntoIter>;
 
-    ghost into_iter_gives = { λ s it. I.into_iter_gives (source_of_copied s) (copied_source it) × CopiesRuns I.IntoIter.next_gives (copied_source it) it };
+    ghost into_iter_gives = { λ s it. I.into_iter_gives (source_of_copied s) (copied_source it) × CopiesRuns I.IntoIter.next_gives (copied_source it) it
+        × CopiesList I.IntoIter.next_gives (copied_source it) it };
 
     fn into_iter(self) -> iter::Copied<I::IntoIter> {
         self.iter.into_iter().copied()

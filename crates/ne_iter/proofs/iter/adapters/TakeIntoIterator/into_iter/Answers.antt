@@ -1,17 +1,22 @@
 use Rattle.std.proofs.Common.{sym, subst, ◌∙◌}
 use Rattle.std.specs.Iterator.Adapters.{take_source}
 use Rattle.ne_iter.specs.SourceRuns.{TakesRuns}
-use Rattle.ne_iter.proofs.FrontRuns.{takes_runs}
+use Rattle.ne_iter.proofs.FrontRuns.{takes_list, takes_runs}
 use Rattle.ne_iter.proofs.iter.adapters.TakeIntoIterator.into_iter.Goals as goal
 
 pub returns : goal.returns
 returns g c =
     let e = sym c.take.ensures.source in
+    let steps = g.I.IntoIter.Iterator.next_gives in
+    let n = c.get.ensures.value in
+    let runs = subst (λ n. TakesRuns steps n (take_source c.take.result) c.take.result) n
+    (subst (λ u. TakesRuns steps c.get.result u c.take.result) e
+    (takes_runs steps c.into_iter.result c.get.result c.take.result c.take.ensures.runs)) in
     record {
       into_iter_gives = (
         subst (g.I.IntoIterator.into_iter_gives c.args.self.iter) e c.into_iter.ensures.into_iter_gives,
-        c.take.ensures.count ∙ c.get.ensures.value,
-        subst (λ n. TakesRuns g.I.IntoIter.Iterator.next_gives n (take_source c.take.result) c.take.result) c.get.ensures.value
-            (subst (λ u. TakesRuns g.I.IntoIter.Iterator.next_gives c.get.result u c.take.result) e (takes_runs g.I.IntoIter.Iterator.next_gives c.into_iter.result c.get.result c.take.result c.take.ensures.runs)),
+        c.take.ensures.count ∙ n,
+        runs,
+        takes_list steps (take_source c.take.result) _ c.take.result runs,
       );
     }
