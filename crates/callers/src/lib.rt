@@ -5,6 +5,10 @@
 #![tactic(auto)]
 
 #[cfg(test)]
+mod facts;
+#[cfg(test)]
 mod lists;
+#[cfg(test)]
+mod order;
 #[cfg(test)]
 mod tests;

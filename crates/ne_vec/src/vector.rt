@@ -261,8 +261,10 @@ impl<T> NEVec<T> {
     ///
     /// It is there for code that is written for `Vec` too. In the Rust crate it is deprecated.
     pub fn is_empty(&self) -> bool
-        ensures { result ≡ false }
+        ensures never { result ≡ false }
+        ensures nonempty { 0 < length self.now }
     {
+        let _ = &self.inner; // the invariant is known where a field is used
         false
     }
 
@@ -304,6 +306,7 @@ impl<T> NEVec<T> {
     /// The item at the place `index`, or `None`, exactly where `index` is not below the length.
     pub fn get(&self, index: usize) -> Option<&T>
         ensures there { IsSome result ↔ (index < length self.now) }
+        ensures nonempty { 0 < length self.now }
         ensures value { IfSome result (λ x. slice_get self.now index ≡ Some x.now) }
     {
         self.inner.get(index)
@@ -314,6 +317,7 @@ impl<T> NEVec<T> {
     pub fn get_mut(&mut self, index: usize) -> Option<&mut T>
         ensures* writes_back { sem 𝓛 (LendsItemIf T.row self.entry index result) }
         ensures there { IsSome result ↔ (index < length self.old) }
+        ensures nonempty { 0 < length self.old }
         ensures value { IfSome result (λ x. slice_get self.old index ≡ Some x.now) }
     {
         self.inner.get_mut(index)
@@ -325,6 +329,7 @@ impl<T> NEVec<T> {
     pub fn as_mut_slice(&mut self) -> &mut [T]
         ensures* writes_back { sem 𝓛 (LendsItems T.row self.entry result) }
         ensures value { result.now ≡ self.old }
+        ensures nonempty { 0 < length self.old }
     {
         self.inner.as_mut_slice()
     }
