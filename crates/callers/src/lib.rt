@@ -7,6 +7,8 @@
 #[cfg(test)]
 mod facts;
 #[cfg(test)]
+mod generic;
+#[cfg(test)]
 mod lists;
 #[cfg(test)]
 mod order;

@@ -1,6 +1,7 @@
 //! Callers of the vector and the slice.
 ghost use Rattle.std.specs.Prelude.{◌≡◌, ◌+◌, ◌-◌, ◌/◌, ◌<◌, ◌≤◌, List, [], ◌∷◌, ◌++◌, length, map};
-ghost use Rattle.std.specs.Prelude.{nat_lt, slice_set, slice_get, Some, IfOk, MatchResult, IsSorted};
+ghost use Rattle.std.specs.Prelude.{nat_lt, slice_set, slice_get, Some, IfOk, MatchResult};
+ghost use Rattle.std.specs.Prelude.{IsSorted};
 ghost use Rattle.std.specs.List.{filter};
 
 use ne_vec::{NESlice, NEVec, Singleton, nev};

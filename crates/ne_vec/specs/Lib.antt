@@ -2,5 +2,6 @@ pub mod Divisions
 pub mod SliceRuns
 pub mod Kept
 pub mod Chunks
+pub mod Clones
 pub mod Walks
 pub mod Lends

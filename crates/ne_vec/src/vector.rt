@@ -418,11 +418,12 @@ impl<T> NEVec<T> {
     /// Clones of the items, in order, in a vector of their own with the same allocator.
     ///
     /// `AllocError` where there is no memory for them, or where a clone was refused. That the items are the same asks that a clone
-    /// equals its original. In the Rust crate this is `Clone`, whose answer has no place for a refusal.
+    /// equals its original. The trait's call is this one.
     pub fn clone(&self) -> Result<Self, AllocError>
     where
         T: Clone,
         ensures clones { IfOk result (AllZip T.is_clone self.now) }
+        ensures len { IfOk result (λ v. length v ≡ length self.now) }
         ensures same { IfOk result (λ v. ((x y : T) → T.is_clone x y → y ≡ x) → v ≡ self.now) }
     {
         let inner = self.inner.clone()?;
@@ -464,7 +465,7 @@ impl<T> NEVec<T> {
     /// Adds the items of `iter` at the end, in order.
     ///
     /// The condition is that `iter` ends. `AllocError` where the vector has to grow and there is no memory for it; the items that
-    /// were drawn before that are then added, and one that found no room is dropped. In the Rust crate this is `Extend`.
+    /// were drawn before that are then added, and one that found no room is dropped. The trait's call is this one.
     pub fn extend<I: IntoIterator<Item = T>>(&mut self, iter: I) -> Result<(), AllocError>
     where
         T: Drop,

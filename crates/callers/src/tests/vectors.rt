@@ -1,6 +1,7 @@
 //! The calls of `NEVec`.
 
 use super::{is, list, of, part, same};
+use crate::generic;
 use ne_vec::{Error, NEVec, Singleton, nev, vector};
 use std::cmp::Ordering;
 use std::collections::HashSet;
@@ -313,6 +314,26 @@ fn walks_that_consume(rt: HostRuntime) -> Result<(), Fail> {
     same(taken.as_slice(), &[1, 2])?;
     let taken: Vec<u8> = two.into_iter().collect(alloc)?;
     same(taken.as_slice(), &[1, 2])?;
+    Ok(())
+}
+
+#[test]
+fn by_the_traits(rt: HostRuntime) -> Result<(), Fail> {
+    let alloc = rt.alloc();
+    let row = list(alloc, &[1, 2])?;
+    let nested = generic::rows(alloc, row, of(2)?)?;
+    is(generic::clone_nested(&nested)? == nested, true)?;
+    let (mut front, back) = generic::twice(list(alloc, &[3])?)?;
+    same(back.as_slice(), &[3])?;
+    generic::take_all(&mut front, [4, 5])?;
+    same(front.as_slice(), &[3, 4, 5])?;
+    let pages = generic::Pages {
+        first: front,
+        others: vec![in alloc; back]?,
+    };
+    let again = pages.clone()?;
+    same(again.first.as_slice(), &[3, 4, 5])?;
+    is(again.others == pages.others, true)?;
     Ok(())
 }
 

@@ -1,5 +1,5 @@
 //! What an [`NEVec`] implements: conversions, places, comparisons as a list, printing.
-ghost use Rattle.std.specs.Prelude.{◌≡◌, ◌-◌, ◌<◌, ◌≤◌, [], length, Some, MatchResult, slice_get};
+ghost use Rattle.std.specs.Prelude.{◌≡◌, ◌-◌, ◌<◌, ◌≤◌, [], ◌++◌, length, Some, MatchResult, slice_get};
 ghost use Rattle.std.specs.Cmp.Lexicographic.{pointwise, slice_cmp, slice_partial_cmp, lists_equiv, lists_agrees, lists_total, lists_ties, lists_po, lists_per};
 ghost use Rattle.std.specs.Hash as fed;
 ghost use Rattle.std.specs.Hash.{items_Alike};
@@ -73,6 +73,27 @@ impl<T> IndexMut<usize> for NEVec<T> {
         ensures value { slice_get self.old index ≡ Some result.now }
     {
         &mut self.inner[index]
+    }
+}
+
+/// By the inherent call `clone`. It may be refused, as the clone of a `Vec` may be, whatever the
+/// items are.
+impl<T: Clone> Clone for NEVec<T> {
+    ghost use Rattle.ne_vec.specs.Clones.{IsCloneOfList};
+
+    ghost is_clone = { IsCloneOfList T.is_clone };
+
+    fn clone(&self) -> Result<NEVec<T>, AllocError> {
+        NEVec::clone(self)
+    }
+}
+
+/// By the inherent call `extend`.
+impl<T: Drop> Extend<T> for NEVec<T> {
+    ghost extend_gives = { λ v xs w. w ≡ v ++ xs };
+
+    fn extend<I: IntoIterator<Item = T>>(&mut self, iter: I) -> Result<(), AllocError> {
+        NEVec::extend(self, iter)
     }
 }
 
