@@ -5,6 +5,8 @@
 #![tactic(auto)]
 
 #[cfg(test)]
+mod closures;
+#[cfg(test)]
 mod facts;
 #[cfg(test)]
 mod generic;

@@ -6,6 +6,7 @@ ghost use Rattle.std.specs.Cmp.Lexicographic.{pointwise, slice_cmp, slice_partia
 ghost use Rattle.std.specs.declared.cmp.Ordering.TheVariants.{Less, Equal, Greater};
 ghost use Rattle.ne_vec.specs.Divisions.{IsDivision, by_first, by_previous, joined, firsts};
 ghost use Rattle.ne_vec.specs.Kept.{KeepsFirsts};
+ghost use Rattle.ne_vec.specs.Calls.{CallableAtItems};
 ghost use Rattle.ne_vec.specs.Chunks.{chunks};
 ghost use Rattle.ne_vec.specs.SliceRuns.{Cutting, ActsAsAtPair, CutsRun};
 ghost use Rattle.std.specs.Iterator.{Yields};
@@ -131,6 +132,12 @@ pub fn partial_ties_are_passed_over<T: PartialOrd>()
     ensures equal { (v w : List T)
         → ((slice_partial_cmp T.partial_cmp v w ≡ Some Equal)
         ↔ AllZip (λ a b. T.partial_cmp a b ≡ Some Equal) v w) }
+{}
+
+/// A closure that may be called at any item may be called at the items of each list. Generic code
+/// that knows the first of its closure calls this law, and then the calls that ask for the second.
+pub fn always_callable_is_callable_at_items<T, R, F: FnMut(&T) -> R>()
+    ensures { (f : F) (xs : List T) → F.IsAlwaysCallable f → CallableAtItems F.FnMut f xs }
 {}
 
 /// The runs that were taken from the front of a slice, and then the runs of the items that are

@@ -15,6 +15,7 @@ ghost use Rattle.std.specs.Iterator.{ActsAsAt, IsFiniteIterable, ExtendsWithItem
 
 mod dedup;
 mod order;
+mod search;
 mod traits;
 mod walks;
 
@@ -417,8 +418,8 @@ impl<T> NEVec<T> {
 
     /// Clones of the items, in order, in a vector of their own with the same allocator.
     ///
-    /// `AllocError` where there is no memory for them, or where a clone was refused. That the items are the same asks that a clone
-    /// equals its original. The trait's call is this one.
+    /// `AllocError` where there is no memory for them, or where a clone was refused. That the items
+    /// are the same asks that a clone equals its original. The trait's call is this one.
     pub fn clone(&self) -> Result<Self, AllocError>
     where
         T: Clone,
@@ -464,8 +465,9 @@ impl<T> NEVec<T> {
 
     /// Adds the items of `iter` at the end, in order.
     ///
-    /// The condition is that `iter` ends. `AllocError` where the vector has to grow and there is no memory for it; the items that
-    /// were drawn before that are then added, and one that found no room is dropped. The trait's call is this one.
+    /// The condition is that `iter` ends. `AllocError` where the vector has to grow and there is no
+    /// memory for it; the items that were drawn before that are then added, and one that found no
+    /// room is dropped. The trait's call is this one.
     pub fn extend<I: IntoIterator<Item = T>>(&mut self, iter: I) -> Result<(), AllocError>
     where
         T: Drop,

@@ -1,7 +1,7 @@
 //! The calls of `NEVec`.
 
 use super::{is, list, of, part, same};
-use crate::generic;
+use crate::{closures, generic};
 use ne_vec::{Error, NEVec, Singleton, nev, vector};
 use std::cmp::Ordering;
 use std::collections::HashSet;
@@ -238,6 +238,55 @@ fn searched(rt: HostRuntime) -> Result<(), Fail> {
     let parted = list(rt.alloc(), &[1, 2, 3, 3, 5, 6, 7])?;
     is(parted.partition_point(|x| *x < 5), 4)?;
     Ok(())
+}
+
+// A search of the vector, and of its slice by std, answer the same, and show the same items.
+fn searched_alike(v: &NEVec<u8>, wanted: u8) -> Result<(), Fail> {
+    let (mut ours, mut theirs) = (0u32, 0u32);
+    let place = v.binary_search_by(|x| {
+        ours = ours.wrapping_mul(31).wrapping_add(u32::from(*x));
+        x.cmp(&wanted)
+    });
+    let place_by_std = v.as_slice().binary_search_by(|x| {
+        theirs = theirs.wrapping_mul(31).wrapping_add(u32::from(*x));
+        x.cmp(&wanted)
+    });
+    is((place, ours), (place_by_std, theirs))?;
+    is(
+        v.binary_search_by_key(&wanted, |x| x.wrapping_add(1)),
+        v.as_slice()
+            .binary_search_by_key(&wanted, |x| x.wrapping_add(1)),
+    )?;
+    is(
+        v.partition_point(|x| *x < wanted),
+        v.as_slice().partition_point(|x| *x < wanted),
+    )
+}
+
+#[test]
+fn searched_as_by_std(rt: HostRuntime) -> Result<(), Fail> {
+    let alloc = rt.alloc();
+    let rising = [1, 1, 2, 2, 2, 4, 7, 7, 9, 9, 9, 9, 12];
+    let unsorted = [5, 3, 8, 1, 9, 9, 2, 7, 0, 4, 6, 3, 5];
+    for len in 1..=13 {
+        for wanted in 0..15 {
+            searched_alike(&list(alloc, &rising[..len])?, wanted)?;
+            searched_alike(&list(alloc, &unsorted[..len])?, wanted)?;
+        }
+    }
+    is(closures::large_quotients(&list(alloc, &[1, 5, 50])?, 20), 2)?;
+    is(
+        closures::place_of_quotient(&list(alloc, &[10])?, 100),
+        Ok(0),
+    )?;
+    is(
+        closures::place_and_calls(&list(alloc, &[500, 100, 10])?, 10),
+        (Ok(1), 3),
+    )?;
+    is(
+        closures::place(&list(alloc, &[1, 3])?, |x| x.cmp(&2)),
+        Err(1),
+    )
 }
 
 #[test]
