@@ -34,6 +34,30 @@ pub(crate) fn place_and_calls(v: &NEVec<u32>, wanted: u32) -> (Result<usize, usi
     (place, calls)
 }
 
+// A closure of the user's, which counts what it is asked.
+pub(crate) struct Asked {
+    times: u32,
+}
+
+impl Asked {
+    fn quarter(&mut self, x: u32) -> u32 {
+        self.times = self.times.wrapping_add(1);
+        x / 4
+    }
+}
+
+pub(crate) fn place_of_quarter(v: &NEVec<u32>, asked: &mut Asked) -> Result<usize, usize>
+    ensures { IsSearchInRange result (length v.now) }
+{
+    v.binary_search_by(|x| asked.quarter(*x).cmp(&5))
+}
+
+pub(crate) fn small_quarters(v: &NEVec<u32>, asked: &mut Asked) -> usize
+    ensures { result ≤ length v.now }
+{
+    v.partition_point(|x| asked.quarter(*x) < 5)
+}
+
 // And generic code, by the law.
 pub(crate) fn place<T, F: FnMut(&T) -> Ordering>(v: &NEVec<T>, f: F) -> Result<usize, usize>
     requires { F.IsAlwaysCallable f }

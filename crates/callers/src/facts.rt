@@ -1,5 +1,5 @@
 //! What a caller knows of a vector or a slice that it has by reference: that there is an item.
-ghost use Rattle.std.specs.Prelude.{◌≡◌, ◌+◌, ◌<◌, [], ◌∷◌, true, length, slice_get, IsSome};
+ghost use Rattle.std.specs.Prelude.{◌≡◌, ◌+◌, ◌-◌, ◌<◌, [], ◌∷◌, true, length, slice_get, IsSome};
 ghost use Rattle.std.specs.Prelude.{IsSomeAnd, IfOk, IsOkAnd, Some};
 
 use ne_vec::{Error, NESlice, NEVec};
@@ -79,6 +79,34 @@ pub(crate) fn got_mut(v: &mut NEVec<u32>) -> bool
     ensures { result ≡ true }
 {
     v.get_mut(0).is_some()
+}
+
+// By the other places, which the length bounds.
+pub(crate) fn last_by_place(v: &NEVec<u32>) -> u32
+    ensures { slice_get v.now (length v.now - 1) ≡ Some result }
+{
+    v[v.len().get() - 1]
+}
+
+pub(crate) fn last_of_part_by_place(s: &NESlice<'_, u32>) -> u32
+    ensures { slice_get s.now (length s.now - 1) ≡ Some result }
+{
+    s[s.len().get() - 1]
+}
+
+pub(crate) fn at_or_zero(v: &NEVec<u32>, i: usize) -> u32
+    ensures { i < length v.now → slice_get v.now i ≡ Some result }
+{
+    if i < v.len().get() { v[i] } else { 0 }
+}
+
+// Each place in turn.
+pub(crate) fn sum(v: &NEVec<u32>) -> u32 {
+    let mut sum = v[0];
+    for i in 1..v.len().get() {
+        sum = sum.wrapping_add(v[i]);
+    }
+    sum
 }
 
 // A call that says that there is an item.

@@ -191,8 +191,9 @@ impl<T> NEVec<T> {
 
     /// Keeps the items that `f` accepts, in order, or hands the empty vector back, exactly where it accepts none.
     ///
-    /// `f` is asked once for each item, in order, and may be called at any item. `kept` speaks of an `f` whose answer depends on the
-    /// item alone, and `asked` of every other one too.
+    /// `f` is asked once for each item, in order, and may be called at any value of the items' type.
+    /// `kept` speaks of an `f` whose answer depends on the item alone, and `asked` of every other one
+    /// too.
     pub fn retain<F: FnMut(&T) -> bool>(self, f: F) -> Result<Self, Vec<T>>
     where
         T: Drop,
@@ -209,8 +210,9 @@ impl<T> NEVec<T> {
     /// Keeps the items that `f` accepts, in order and as `f` wrote them, or hands the empty vector back, exactly where it accepts
     /// none.
     ///
-    /// `f` is asked once for each item, in order, and may be called at any item. `kept` speaks of an `f` whose answer, and what it
-    /// writes, depend on the item alone, and `asked` of every other one too.
+    /// `f` is asked once for each item, in order, and may be called at any value of the items' type.
+    /// `kept` speaks of an `f` whose answer, and what it writes, depend on the item alone, and `asked`
+    /// of every other one too.
     pub fn retain_mut<F: FnMut(&mut T) -> bool>(self, f: F) -> Result<Self, Vec<T>>
     where
         T: Drop,
