@@ -1,5 +1,5 @@
 //! What a caller knows of a vector or a slice that it has by reference: that there is an item.
-ghost use Rattle.std.specs.Prelude.{◌≡◌, ◌+◌, ◌-◌, ◌<◌, [], ◌∷◌, true, length, slice_get, IsSome};
+ghost use Rattle.std.specs.Prelude.{◌≡◌, ◌+◌, ◌-◌, ◌/◌, ◌<◌, [], ◌∷◌, true, length, slice_get, IsSome};
 ghost use Rattle.std.specs.Prelude.{IsSomeAnd, IfOk, IsOkAnd, Some};
 
 use ne_vec::{Error, NESlice, NEVec};
@@ -33,6 +33,55 @@ pub(crate) fn first_of_vec(v: &NEVec<u32>) -> u32
         Some(x) => *x,
         None => 0,
     }
+}
+
+// By the other calls of the slice, and by the walks.
+pub(crate) fn ends_of_slice(v: &NEVec<u32>) -> (u32, u32)
+    ensures first { slice_get v.now 0 ≡ Some result.0 }
+    ensures last { slice_get v.now (length v.now - 1) ≡ Some result.1 }
+{
+    let slice = v.as_slice();
+    (slice[0], slice[slice.len() - 1])
+}
+
+pub(crate) fn first_by_split(v: &NEVec<u32>) -> u32
+    ensures { slice_get v.now 0 ≡ Some result }
+{
+    match v.as_slice().split_first() {
+        Some((first, _)) => *first,
+        None => 0,
+    }
+}
+
+pub(crate) fn first_of_walk(v: &NEVec<u32>) -> u32
+    ensures { slice_get v.now 0 ≡ Some result }
+{
+    match v.iter().next() {
+        Some(x) => *x,
+        None => 0,
+    }
+}
+
+pub(crate) fn first_of_part_walk(s: &NESlice<'_, u32>) -> u32
+    ensures { slice_get s.now 0 ≡ Some result }
+{
+    match s.iter().next() {
+        Some(x) => *x,
+        None => 0,
+    }
+}
+
+// A share for each item.
+pub(crate) fn share(v: &NEVec<u32>, total: usize) -> usize
+    ensures { result ≡ total / length v.now }
+{
+    total / v.len().get()
+}
+
+pub(crate) fn share_by_slice(v: &NEVec<u32>, total: usize) -> usize
+    ensures { result ≡ total / length v.now }
+{
+    total / v.as_slice().len()
 }
 
 // By place, with no condition of its own.

@@ -36,6 +36,13 @@ pub(crate) struct Report {
     pub(crate) lines: NEVec<u32>,
 }
 
+pub(crate) fn clone_report(report: &Report) -> Result<Report, AllocError>
+    ensures { IfOk result (λ copy. copy ≡ report.now) }
+{
+    report.clone()
+}
+
+// And a generic one.
 #[derive(Clone, Drop)]
 pub(crate) struct Pages<T> {
     pub(crate) first: NEVec<T>,
@@ -47,12 +54,6 @@ pub(crate) fn clone_first<T: Clone>(pages: &Pages<T>) -> Result<NEVec<T>, AllocE
 {
     let copy = pages.clone()?;
     Ok(copy.first)
-}
-
-pub(crate) fn clone_report(report: &Report) -> Result<Report, AllocError>
-    ensures { IfOk result (λ copy. copy ≡ report.now) }
-{
-    report.clone()
 }
 
 // The items of any source at the end of a collection of any kind.

@@ -264,6 +264,14 @@ fn searched_alike(v: &NEVec<u8>, wanted: u8) -> Result<(), Fail> {
 }
 
 #[test]
+fn searched_by_quotients(rt: HostRuntime) -> Result<(), Fail> {
+    let items = nev![rt.alloc(); 500u32, 100, 10]?;
+    is(closures::large_quotients(&items, 20), 0)?;
+    is(closures::place_of_quotient(&items, 10), Ok(1))?;
+    is(closures::place_and_calls(&items, 10), (Ok(1), 3))
+}
+
+#[test]
 fn searched_as_by_std(rt: HostRuntime) -> Result<(), Fail> {
     let alloc = rt.alloc();
     let rising = [1, 1, 2, 2, 2, 4, 7, 7, 9, 9, 9, 9, 12];
@@ -274,15 +282,6 @@ fn searched_as_by_std(rt: HostRuntime) -> Result<(), Fail> {
             searched_alike(&list(alloc, &unsorted[..len])?, wanted)?;
         }
     }
-    is(closures::large_quotients(&list(alloc, &[1, 5, 50])?, 20), 2)?;
-    is(
-        closures::place_of_quotient(&list(alloc, &[10])?, 100),
-        Ok(0),
-    )?;
-    is(
-        closures::place_and_calls(&list(alloc, &[500, 100, 10])?, 10),
-        (Ok(1), 3),
-    )?;
     is(
         closures::place(&list(alloc, &[1, 3])?, |x| x.cmp(&2)),
         Err(1),
