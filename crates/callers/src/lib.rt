@@ -5,6 +5,14 @@
 #![tactic(auto)]
 
 #[cfg(test)]
+mod closures;
+#[cfg(test)]
+mod facts;
+#[cfg(test)]
+mod generic;
+#[cfg(test)]
 mod lists;
+#[cfg(test)]
+mod order;
 #[cfg(test)]
 mod tests;

@@ -1,5 +1,7 @@
 //! Callers of the vector and the slice.
-ghost use Rattle.std.specs.Prelude.{◌≡◌, ◌+◌, ◌-◌, ◌/◌, ◌<◌, ◌≤◌, [], ◌∷◌, ◌++◌, length, map, nat_lt, slice_set, slice_get, IfOk, IfSome, Some, MatchResult, IsSorted, List};
+ghost use Rattle.std.specs.Prelude.{◌≡◌, ◌+◌, ◌-◌, ◌/◌, ◌<◌, ◌≤◌, List, [], ◌∷◌, ◌++◌, length, map};
+ghost use Rattle.std.specs.Prelude.{nat_lt, slice_set, slice_get, Some, IfOk, MatchResult};
+ghost use Rattle.std.specs.Prelude.{IsSorted};
 ghost use Rattle.std.specs.List.{filter};
 
 use ne_vec::{NESlice, NEVec, Singleton, nev};
@@ -86,13 +88,6 @@ pub(crate) fn zero_all(v: &mut NEVec<u8>)
     ensures { length v.new ≡ length v.old }
 {
     v.as_mut_slice().fill(0);
-}
-
-// Out of the type and back: nothing is lost.
-pub(crate) fn out_and_back<T>(v: NEVec<T>) -> Option<NEVec<T>>
-    ensures { IfSome result (λ w. w ≡ v) }
-{
-    NEVec::try_from_vec(Vec::from(v))
 }
 
 pub(crate) fn joined<T: Drop>(a: &mut NEVec<T>, b: NEVec<T>) -> Result<(), AllocError>

@@ -1,6 +1,7 @@
 pub mod Lists
 pub mod Divisions
 pub mod Relations
+pub mod Halving
 pub mod Kept
 pub mod Chunked
 pub mod Compared

@@ -1,8 +1,10 @@
 pub mod Divisions
 pub mod SliceRuns
 pub mod Kept
+pub mod Calls
 pub mod Chunks
 pub mod Fronts
 pub mod FrontLaws
+pub mod Clones
 pub mod Walks
 pub mod Lends

@@ -1,11 +1,12 @@
 //! Laws on what the contracts cite. Each is the contract of a function that does nothing.
 ghost use Rattle.std.specs.Prelude.{◌≡◌, ◌≢◌, ◌<◌, ◌≤◌, ◌↔◌, ◌*◌, ℕ, Bool, true, false, List, [], ◌∷◌, ◌++◌, length, map, take, drop, slice_get, Some};
-ghost use Rattle.std.specs.List.{AllByRecursion};
+ghost use Rattle.std.specs.List.{AllByRecursion, AllZip};
 ghost use Rattle.std.specs.Cmp.{IsPartialEquivalence};
-ghost use Rattle.std.specs.Cmp.Lexicographic.{pointwise, slice_cmp};
-ghost use Rattle.std.specs.declared.cmp.Ordering.TheVariants.{Less, Equal};
+ghost use Rattle.std.specs.Cmp.Lexicographic.{pointwise, slice_cmp, slice_partial_cmp};
+ghost use Rattle.std.specs.declared.cmp.Ordering.TheVariants.{Less, Equal, Greater};
 ghost use Rattle.ne_vec.specs.Divisions.{IsDivision, by_first, by_previous, joined, firsts};
 ghost use Rattle.ne_vec.specs.Kept.{KeepsFirsts};
+ghost use Rattle.ne_vec.specs.Calls.{CallableAtItems};
 ghost use Rattle.ne_vec.specs.Chunks.{chunks};
 ghost use Rattle.ne_vec.specs.SliceRuns.{Cutting, ActsAsAtPair, CutsRun};
 ghost use Rattle.std.specs.Iterator.{Yields};
@@ -73,6 +74,8 @@ pub fn chunks_make_the_whole<T>()
 pub fn vectors_compare_as_lists<T: Ord + Hash>()
     ensures equal { (v w : List T) → ⟦<NEVec<T> as PartialEq>⟧.eq v w ≡ pointwise T.eq v w }
     ensures ordered { (v w : List T) → ⟦<NEVec<T> as Ord>⟧.cmp v w ≡ slice_cmp T.cmp v w }
+    ensures partly_ordered { (v w : List T)
+        → ⟦<NEVec<T> as PartialOrd>⟧.partial_cmp v w ≡ slice_partial_cmp T.partial_cmp v w }
     ensures hashed { (v w : List T) → ⟦<NEVec<T> as PartialEq>⟧.eq v w ≡ true → ⟦<NEVec<T> as Hash>⟧.hash_input v ≡ ⟦<NEVec<T> as Hash>⟧.hash_input w }
 {}
 
@@ -80,6 +83,8 @@ pub fn vectors_compare_as_lists<T: Ord + Hash>()
 pub fn slices_compare_as_lists<'a, T: Ord + Hash + 'a>()
     ensures equal { (v w : List T) → ⟦<NESlice<'a, T> as PartialEq>⟧.eq v w ≡ pointwise T.eq v w }
     ensures ordered { (v w : List T) → ⟦<NESlice<'a, T> as Ord>⟧.cmp v w ≡ slice_cmp T.cmp v w }
+    ensures partly_ordered { (v w : List T)
+        → ⟦<NESlice<'a, T> as PartialOrd>⟧.partial_cmp v w ≡ slice_partial_cmp T.partial_cmp v w }
     ensures hashed { (v w : List T) → ⟦<NESlice<'a, T> as PartialEq>⟧.eq v w ≡ true → ⟦<NESlice<'a, T> as Hash>⟧.hash_input v ≡ ⟦<NESlice<'a, T> as Hash>⟧.hash_input w }
 {}
 
@@ -88,7 +93,51 @@ pub fn slices_compare_as_lists<'a, T: Ord + Hash + 'a>()
 pub fn lists_are_in_lexicographic_order<T: Ord>()
     ensures differs { (front v w : List T) (x y : T) → T.cmp x y ≢ Equal → slice_cmp T.cmp (front ++ x ∷ v) (front ++ y ∷ w) ≡ T.cmp x y }
     ensures shorter { (front w : List T) (y : T) → slice_cmp T.cmp front (front ++ y ∷ w) ≡ Less }
+    ensures longer { (front v : List T) (x : T)
+        → slice_cmp T.cmp (front ++ x ∷ v) front ≡ Greater }
     ensures same { (v : List T) → slice_cmp T.cmp v v ≡ Equal }
+{}
+
+/// And so it is where items compare as equal without being the same: `front` and `other` are as
+/// long, and tie at each place. The first place at which two lists do not tie decides; where all
+/// items of one tie with those in front of the other, the shorter is less and the longer greater;
+/// and lists compare as equal exactly if they are as long and tie at each place.
+pub fn ties_are_passed_over<T: Ord>()
+    ensures differs { (front other v w : List T) (x y : T)
+        → AllZip (λ a b. T.cmp a b ≡ Equal) front other → T.cmp x y ≢ Equal
+        → slice_cmp T.cmp (front ++ x ∷ v) (other ++ y ∷ w) ≡ T.cmp x y }
+    ensures shorter { (front other w : List T) (y : T)
+        → AllZip (λ a b. T.cmp a b ≡ Equal) front other
+        → slice_cmp T.cmp front (other ++ y ∷ w) ≡ Less }
+    ensures longer { (front other v : List T) (x : T)
+        → AllZip (λ a b. T.cmp a b ≡ Equal) front other
+        → slice_cmp T.cmp (front ++ x ∷ v) other ≡ Greater }
+    ensures equal { (v w : List T)
+        → ((slice_cmp T.cmp v w ≡ Equal) ↔ AllZip (λ a b. T.cmp a b ≡ Equal) v w) }
+{}
+
+/// The same of `partial_cmp`, whose answer at the first place at which the lists do not tie may
+/// also be `None`: items there that do not compare leave the lists without an order.
+pub fn partial_ties_are_passed_over<T: PartialOrd>()
+    ensures differs { (front other v w : List T) (x y : T)
+        → AllZip (λ a b. T.partial_cmp a b ≡ Some Equal) front other
+        → T.partial_cmp x y ≢ Some Equal
+        → slice_partial_cmp T.partial_cmp (front ++ x ∷ v) (other ++ y ∷ w) ≡ T.partial_cmp x y }
+    ensures shorter { (front other w : List T) (y : T)
+        → AllZip (λ a b. T.partial_cmp a b ≡ Some Equal) front other
+        → slice_partial_cmp T.partial_cmp front (other ++ y ∷ w) ≡ Some Less }
+    ensures longer { (front other v : List T) (x : T)
+        → AllZip (λ a b. T.partial_cmp a b ≡ Some Equal) front other
+        → slice_partial_cmp T.partial_cmp (front ++ x ∷ v) other ≡ Some Greater }
+    ensures equal { (v w : List T)
+        → ((slice_partial_cmp T.partial_cmp v w ≡ Some Equal)
+        ↔ AllZip (λ a b. T.partial_cmp a b ≡ Some Equal) v w) }
+{}
+
+/// A closure that may be called at any item may be called at the items of each list. Generic code
+/// that knows the first of its closure calls this law, and then the calls that ask for the second.
+pub fn always_callable_is_callable_at_items<T, R, F: FnMut(&T) -> R>()
+    ensures { (f : F) (xs : List T) → F.IsAlwaysCallable f → CallableAtItems F.FnMut f xs }
 {}
 
 /// The runs that were taken from the front of a slice, and then the runs of the items that are

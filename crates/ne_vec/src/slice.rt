@@ -1,5 +1,6 @@
 //! [`NESlice`], a part of a list that is never empty, its chunks, its runs, and the walk over it.
-ghost use Rattle.std.specs.Prelude.{◌≡◌, ◌-◌, ◌<◌, ◌↔◌, [], length, false, Some, None, IfSome, slice_get, ⊤};
+ghost use Rattle.std.specs.Prelude.{◌≡◌, ◌-◌, ◌<◌, ◌≤◌, ◌↔◌, [], length, false, Some, None, IfSome};
+ghost use Rattle.std.specs.Prelude.{slice_get, ⊤};
 ghost use Rattle.std.specs.NonZero.{non_zero_usize_get};
 ghost use Rattle.std.specs.Iterator.{YieldsFirst, item_count, IsFiniteIterable};
 ghost use Rattle.std.specs.Cmp.Lexicographic.{pointwise, slice_cmp, slice_partial_cmp, lists_equiv, lists_agrees, lists_total, lists_ties, lists_po, lists_per};
@@ -78,8 +79,10 @@ impl<'a, T> NESlice<'a, T> {
     ///
     /// It is there for code that is written for slices too. In the Rust crate it is deprecated.
     pub fn is_empty(&self) -> bool
-        ensures { result ≡ false }
+        ensures never { result ≡ false }
+        ensures nonempty { 0 < length self.now }
     {
+        let _ = &self.inner; // the invariant is known where a field is used
         false
     }
 
@@ -161,7 +164,10 @@ impl<'a, T> NESlice<'a, T> {
 impl<'a, T> AsSlice<T> for NESlice<'a, T> {
     ghost items = { λ s. s };
 
-    fn as_slice(&self) -> &[T] {
+    fn as_slice(&self) -> &[T]
+        ensures same { result.now ≡ self.now }
+        ensures nonempty { 0 < length self.now }
+    {
         self.inner
     }
 }
@@ -196,16 +202,17 @@ impl<'a, T> IntoIterator for &'a NESlice<'a, T> {
     }
 }
 
-/// On the condition that the place is below the length; in the Rust crate it panics otherwise.
+/// On the condition that the place is at most the last one, which 0 always is; in the Rust crate it
+/// panics otherwise.
 impl<'a, T> Index<usize> for NESlice<'a, T> {
     type Output = T;
 
-    ghost can_index = { λ s i. i < length s };
+    ghost can_index = { λ s i. i ≤ length s - 1 };
 
     ghost index_gives = { λ s i x. slice_get s i ≡ Some x };
 
     fn index(&self, index: usize) -> &T
-        requires { index < length self.now }
+        requires { index ≤ length self.now - 1 }
         ensures { slice_get self.now index ≡ Some result.now }
     {
         let items = self.inner;

@@ -15,6 +15,7 @@ ghost use Rattle.std.specs.Iterator.{ActsAsAt, IsFiniteIterable, ExtendsWithItem
 
 mod dedup;
 mod order;
+mod search;
 mod traits;
 mod walks;
 
@@ -190,8 +191,9 @@ impl<T> NEVec<T> {
 
     /// Keeps the items that `f` accepts, in order, or hands the empty vector back, exactly where it accepts none.
     ///
-    /// `f` is asked once for each item, in order, and may be called at any item. `kept` speaks of an `f` whose answer depends on the
-    /// item alone, and `asked` of every other one too.
+    /// `f` is asked once for each item, in order, and may be called at any value of the items' type.
+    /// `kept` speaks of an `f` whose answer depends on the item alone, and `asked` of every other one
+    /// too.
     pub fn retain<F: FnMut(&T) -> bool>(self, f: F) -> Result<Self, Vec<T>>
     where
         T: Drop,
@@ -208,8 +210,9 @@ impl<T> NEVec<T> {
     /// Keeps the items that `f` accepts, in order and as `f` wrote them, or hands the empty vector back, exactly where it accepts
     /// none.
     ///
-    /// `f` is asked once for each item, in order, and may be called at any item. `kept` speaks of an `f` whose answer, and what it
-    /// writes, depend on the item alone, and `asked` of every other one too.
+    /// `f` is asked once for each item, in order, and may be called at any value of the items' type.
+    /// `kept` speaks of an `f` whose answer, and what it writes, depend on the item alone, and `asked`
+    /// of every other one too.
     pub fn retain_mut<F: FnMut(&mut T) -> bool>(self, f: F) -> Result<Self, Vec<T>>
     where
         T: Drop,
@@ -261,8 +264,10 @@ impl<T> NEVec<T> {
     ///
     /// It is there for code that is written for `Vec` too. In the Rust crate it is deprecated.
     pub fn is_empty(&self) -> bool
-        ensures { result ≡ false }
+        ensures never { result ≡ false }
+        ensures nonempty { 0 < length self.now }
     {
+        let _ = &self.inner; // the invariant is known where a field is used
         false
     }
 
@@ -304,6 +309,7 @@ impl<T> NEVec<T> {
     /// The item at the place `index`, or `None`, exactly where `index` is not below the length.
     pub fn get(&self, index: usize) -> Option<&T>
         ensures there { IsSome result ↔ (index < length self.now) }
+        ensures nonempty { 0 < length self.now }
         ensures value { IfSome result (λ x. slice_get self.now index ≡ Some x.now) }
     {
         self.inner.get(index)
@@ -314,6 +320,7 @@ impl<T> NEVec<T> {
     pub fn get_mut(&mut self, index: usize) -> Option<&mut T>
         ensures* writes_back { sem 𝓛 (LendsItemIf T.row self.entry index result) }
         ensures there { IsSome result ↔ (index < length self.old) }
+        ensures nonempty { 0 < length self.old }
         ensures value { IfSome result (λ x. slice_get self.old index ≡ Some x.now) }
     {
         self.inner.get_mut(index)
@@ -325,6 +332,7 @@ impl<T> NEVec<T> {
     pub fn as_mut_slice(&mut self) -> &mut [T]
         ensures* writes_back { sem 𝓛 (LendsItems T.row self.entry result) }
         ensures value { result.now ≡ self.old }
+        ensures nonempty { 0 < length self.old }
     {
         self.inner.as_mut_slice()
     }
@@ -415,12 +423,13 @@ impl<T> NEVec<T> {
 
     /// Clones of the items, in order, in a vector of their own with the same allocator.
     ///
-    /// `AllocError` where there is no memory for them, or where a clone was refused. That the items are the same asks that a clone
-    /// equals its original. In the Rust crate this is `Clone`, whose answer has no place for a refusal.
+    /// `AllocError` where there is no memory for them, or where a clone was refused. That the items
+    /// are the same asks that a clone equals its original. The trait's call is this one.
     pub fn clone(&self) -> Result<Self, AllocError>
     where
         T: Clone,
         ensures clones { IfOk result (AllZip T.is_clone self.now) }
+        ensures len { IfOk result (λ v. length v ≡ length self.now) }
         ensures same { IfOk result (λ v. ((x y : T) → T.is_clone x y → y ≡ x) → v ≡ self.now) }
     {
         let inner = self.inner.clone()?;
@@ -461,8 +470,9 @@ impl<T> NEVec<T> {
 
     /// Adds the items of `iter` at the end, in order.
     ///
-    /// The condition is that `iter` ends. `AllocError` where the vector has to grow and there is no memory for it; the items that
-    /// were drawn before that are then added, and one that found no room is dropped. In the Rust crate this is `Extend`.
+    /// The condition is that `iter` ends. `AllocError` where the vector has to grow and there is no
+    /// memory for it; the items that were drawn before that are then added, and one that found no
+    /// room is dropped. The trait's call is this one.
     pub fn extend<I: IntoIterator<Item = T>>(&mut self, iter: I) -> Result<(), AllocError>
     where
         T: Drop,

@@ -1,6 +1,7 @@
 //! The calls of `NEVec`.
 
 use super::{is, list, of, part, same};
+use crate::{closures, generic};
 use ne_vec::{Error, NEVec, Singleton, nev, vector};
 use std::cmp::Ordering;
 use std::collections::HashSet;
@@ -239,6 +240,54 @@ fn searched(rt: HostRuntime) -> Result<(), Fail> {
     Ok(())
 }
 
+// A search of the vector, and of its slice by std, answer the same, and show the same items.
+fn searched_alike(v: &NEVec<u8>, wanted: u8) -> Result<(), Fail> {
+    let (mut ours, mut theirs) = (0u32, 0u32);
+    let place = v.binary_search_by(|x| {
+        ours = ours.wrapping_mul(31).wrapping_add(u32::from(*x));
+        x.cmp(&wanted)
+    });
+    let place_by_std = v.as_slice().binary_search_by(|x| {
+        theirs = theirs.wrapping_mul(31).wrapping_add(u32::from(*x));
+        x.cmp(&wanted)
+    });
+    is((place, ours), (place_by_std, theirs))?;
+    is(
+        v.binary_search_by_key(&wanted, |x| x.wrapping_add(1)),
+        v.as_slice()
+            .binary_search_by_key(&wanted, |x| x.wrapping_add(1)),
+    )?;
+    is(
+        v.partition_point(|x| *x < wanted),
+        v.as_slice().partition_point(|x| *x < wanted),
+    )
+}
+
+#[test]
+fn searched_by_quotients(rt: HostRuntime) -> Result<(), Fail> {
+    let items = nev![rt.alloc(); 500u32, 100, 10]?;
+    is(closures::large_quotients(&items, 20), 0)?;
+    is(closures::place_of_quotient(&items, 10), Ok(1))?;
+    is(closures::place_and_calls(&items, 10), (Ok(1), 3))
+}
+
+#[test]
+fn searched_as_by_std(rt: HostRuntime) -> Result<(), Fail> {
+    let alloc = rt.alloc();
+    let rising = [1, 1, 2, 2, 2, 4, 7, 7, 9, 9, 9, 9, 12];
+    let unsorted = [5, 3, 8, 1, 9, 9, 2, 7, 0, 4, 6, 3, 5];
+    for len in 1..=13 {
+        for wanted in 0..15 {
+            searched_alike(&list(alloc, &rising[..len])?, wanted)?;
+            searched_alike(&list(alloc, &unsorted[..len])?, wanted)?;
+        }
+    }
+    is(
+        closures::place(&list(alloc, &[1, 3])?, |x| x.cmp(&2)),
+        Err(1),
+    )
+}
+
 #[test]
 fn neighbours_dropped(rt: HostRuntime) -> Result<(), Fail> {
     let alloc = rt.alloc();
@@ -313,6 +362,26 @@ fn walks_that_consume(rt: HostRuntime) -> Result<(), Fail> {
     same(taken.as_slice(), &[1, 2])?;
     let taken: Vec<u8> = two.into_iter().collect(alloc)?;
     same(taken.as_slice(), &[1, 2])?;
+    Ok(())
+}
+
+#[test]
+fn by_the_traits(rt: HostRuntime) -> Result<(), Fail> {
+    let alloc = rt.alloc();
+    let row = list(alloc, &[1, 2])?;
+    let nested = generic::rows(alloc, row, of(2)?)?;
+    is(generic::clone_nested(&nested)? == nested, true)?;
+    let (mut front, back) = generic::twice(list(alloc, &[3])?)?;
+    same(back.as_slice(), &[3])?;
+    generic::take_all(&mut front, [4, 5])?;
+    same(front.as_slice(), &[3, 4, 5])?;
+    let pages = generic::Pages {
+        first: front,
+        others: vec![in alloc; back]?,
+    };
+    let again = pages.clone()?;
+    same(again.first.as_slice(), &[3, 4, 5])?;
+    is(again.others == pages.others, true)?;
     Ok(())
 }
 

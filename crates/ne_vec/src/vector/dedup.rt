@@ -11,8 +11,9 @@ impl<T: Drop> NEVec<T> {
     /// Drops each item whose key equals that of the last item kept: of the runs of items whose keys equal their first one's, the
     /// first items stay.
     ///
-    /// `key` is asked of the later item first, and may be called at any item. `firsts` speaks of a key that depends on the item
-    /// alone and writes nothing, and `asked` of every other one too. Of any key at least one item stays.
+    /// `key` is asked of the later item first, and may be called at any value of their type.
+    /// `firsts` speaks of a key that depends on the item alone and writes nothing, and `asked` of
+    /// every other one too. Of any key at least one item stays.
     pub fn dedup_by_key<K: PartialEq + Drop, F: FnMut(&mut T) -> K>(&mut self, key: F)
         requires { F.IsAlwaysCallable key }
         ensures stays { 0 < length self.new }
@@ -25,8 +26,9 @@ impl<T: Drop> NEVec<T> {
     /// Drops each item of which `same_bucket(item, kept)` says `true`, where `kept` is the last item that stayed: of the runs of
     /// items that are the same as their first one, the first items stay.
     ///
-    /// `same_bucket` may be called at any two items. `firsts` speaks of one whose answer depends on them alone and that writes
-    /// nothing, and `asked` of every other one too. Of any one at least one item stays.
+    /// `same_bucket` may be called at any two values of their type. `firsts` speaks of one whose
+    /// answer depends on them alone and that writes nothing, and `asked` of every other one too. Of
+    /// any one at least one item stays.
     pub fn dedup_by<F: FnMut(&mut T, &mut T) -> bool>(&mut self, same_bucket: F)
         requires { F.IsAlwaysCallable same_bucket }
         ensures stays { 0 < length self.new }

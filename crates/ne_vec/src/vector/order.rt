@@ -3,10 +3,11 @@ ghost use Rattle.std.specs.Prelude.{◌≡◌, ◌≤◌, Bool, true, false, len
 ghost use Rattle.std.specs.List.Sorted.{IsStable, IsSortedByClosure, IsStableByClosure, IsSortedByKeyClosure, IsStableByKeyClosure, IsBinarySearchResult, IsSearchInRange, IsPartitionedBy, IsPartitionPoint};
 ghost use Rattle.std.specs.Fn.{ComputesKey};
 ghost use Rattle.std.specs.declared.cmp.Ordering.{Ordering};
+ghost use Rattle.ne_vec.specs.Calls.{CallableAtItems};
 ghost use Rattle.rand.specs.Shuffle.{shuffled};
 ghost use Rattle.rand.specs.Uniform.{usize_single};
 
-use super::NEVec;
+use super::{NEVec, search};
 use rand::seq::{IndexedRandom, SliceRandom};
 use rand_core::Rng;
 use std::alloc::AllocError;
@@ -29,31 +30,32 @@ impl<T> NEVec<T> {
     /// Looks for an item at which `f` answers `Equal`: `Ok` of the place of one, any of them where there are several, else `Err` of
     /// the place between the items at which it answers `Less` and those at which it answers `Greater`.
     ///
-    /// `f` may be called at any item. What the places mean asks that its answer depends on the item alone; `Err` also that the
-    /// vector is sorted by it, first `Less`, then `Equal`, then `Greater`.
+    /// `f` may be called at the vector's items, in any order. What the places mean asks that its
+    /// answer depends on the item alone; `Err` also that the vector is sorted by it, first `Less`,
+    /// then `Equal`, then `Greater`.
     pub fn binary_search_by<F: FnMut(&T) -> Ordering>(&self, f: F) -> Result<usize, usize>
-        requires { F.IsAlwaysCallable f }
+        requires { CallableAtItems F.FnMut f self.now }
         ensures bound { IsSearchInRange result (length self.now) }
         ensures position { (order : T → Ordering) → ComputesKey F.FnMut order f → IsBinarySearchResult order self.now result }
     {
-        self.inner.binary_search_by(f)
+        search::binary_search_by(self.inner.as_slice(), f)
     }
 
     /// Looks for an item whose key, by `f`, equals `b`: `Ok` of the place of one, any of them where there are several, else `Err` of
     /// the place where such an item can be inserted so that the order of the keys stays.
     ///
-    /// `f` may be called at any item. What the places mean asks that the key depends on the item alone; `Err` also that the vector
-    /// is sorted by it.
+    /// `f` may be called at the vector's items, in any order. What the places mean asks that the
+    /// key depends on the item alone; `Err` also that the vector is sorted by it.
     pub fn binary_search_by_key<B: Ord + Drop, F: FnMut(&T) -> B>(
         &self,
         b: &B,
         f: F,
     ) -> Result<usize, usize>
-        requires { F.IsAlwaysCallable f }
+        requires { CallableAtItems F.FnMut f self.now }
         ensures bound { IsSearchInRange result (length self.now) }
         ensures position { (key : T → B) → ComputesKey F.FnMut key f → IsBinarySearchResult (λ y. B.cmp (key y) b.now) self.now result }
     {
-        self.inner.binary_search_by_key(b, f)
+        search::binary_search_by_key(self.inner.as_slice(), b, f)
     }
 
     /// Sorts the items, the least first. Equal ones keep their order.
@@ -73,8 +75,8 @@ impl<T> NEVec<T> {
 
     /// Sorts the items by `f`, the least first. Those that it calls equal keep their order.
     ///
-    /// `f` may be called at any two items. That the items are sorted asks that its answers are a total preorder; else some
-    /// permutation stands. `AllocError` as by `sort`.
+    /// `f` may be called at any two values of the items' type. That the items are sorted asks that
+    /// its answers are a total preorder; else some permutation stands. `AllocError` as by `sort`.
     pub fn sort_by<F: FnMut(&T, &T) -> Ordering>(&mut self, f: F) -> Result<(), AllocError>
         requires { F.IsAlwaysCallable f }
         ensures permutation { IsPermutation self.old self.new }
@@ -88,8 +90,8 @@ impl<T> NEVec<T> {
 
     /// Sorts the items by their keys, by `f`, the least first. Those of equal keys keep their order.
     ///
-    /// `f` may be called at any item. That the items are sorted asks that the key depends on the item alone; else some permutation
-    /// stands. `AllocError` as by `sort`.
+    /// `f` may be called at any value of the items' type. That the items are sorted asks that the
+    /// key depends on the item alone; else some permutation stands. `AllocError` as by `sort`.
     pub fn sort_by_key<K: Ord + Drop, F: FnMut(&T) -> K>(&mut self, f: F) -> Result<(), AllocError>
         requires { F.IsAlwaysCallable f }
         ensures permutation { IsPermutation self.old self.new }
@@ -103,14 +105,15 @@ impl<T> NEVec<T> {
 
     /// How many items at the front meet `pred`.
     ///
-    /// `pred` may be called at any item. What the answer means asks that `pred`'s answer depends on the item alone, and that no item
-    /// which meets it stands behind one that does not.
+    /// `pred` may be called at the vector's items, in any order. What the answer means asks that
+    /// `pred`'s answer depends on the item alone, and that no item which meets it stands behind one
+    /// that does not.
     pub fn partition_point<P: FnMut(&T) -> bool>(&self, pred: P) -> usize
-        requires { P.IsAlwaysCallable pred }
+        requires { CallableAtItems P.FnMut pred self.now }
         ensures bound { result ≤ length self.now }
         ensures partitioned { (meets : T → Bool) → ComputesKey P.FnMut meets pred → IsPartitionedBy meets self.now → IsPartitionPoint (λ y. meets y ≡ true) (λ y. meets y ≡ false) self.now result }
     {
-        self.inner.partition_point(pred)
+        search::partition_point(self.inner.as_slice(), pred)
     }
 
     /// Puts the items in a random order: the permutation that `rand` draws for this list from this source.

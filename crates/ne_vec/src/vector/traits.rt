@@ -1,5 +1,6 @@
 //! What an [`NEVec`] implements: conversions, places, comparisons as a list, printing.
-ghost use Rattle.std.specs.Prelude.{◌≡◌, ◌<◌, [], length, Some, MatchResult, slice_get};
+ghost use Rattle.std.specs.Prelude.{◌≡◌, ◌-◌, ◌<◌, ◌≤◌, [], ◌++◌, length, Some, MatchResult};
+ghost use Rattle.std.specs.Prelude.{slice_get};
 ghost use Rattle.std.specs.Cmp.Lexicographic.{pointwise, slice_cmp, slice_partial_cmp, lists_equiv, lists_agrees, lists_total, lists_ties, lists_po, lists_per};
 ghost use Rattle.std.specs.Hash as fed;
 ghost use Rattle.std.specs.Hash.{items_Alike};
@@ -26,7 +27,8 @@ impl<T> From<NEVec<T>> for Vec<T> {
 /// To read what only a `Vec` has. It cannot be written through; for that there is `as_mut_slice`.
 impl<T> AsRef<Vec<T>> for NEVec<T> {
     fn as_ref(&self) -> &Vec<T>
-        ensures { result.now.items ≡ self.now }
+        ensures same { result.now.items ≡ self.now }
+        ensures nonempty { 0 < length self.now }
     {
         &self.inner
     }
@@ -36,21 +38,25 @@ impl<T> AsRef<Vec<T>> for NEVec<T> {
 impl<T> AsSlice<T> for NEVec<T> {
     ghost items = { λ v. v };
 
-    fn as_slice(&self) -> &[T] {
+    fn as_slice(&self) -> &[T]
+        ensures same { result.now ≡ self.now }
+        ensures nonempty { 0 < length self.now }
+    {
         self.inner.as_slice()
     }
 }
 
-/// On the condition that the place is below the length; in the Rust crate it panics otherwise, and ranges are taken too.
+/// On the condition that the place is at most the last one, which 0 always is; in the Rust crate it
+/// panics otherwise, and ranges are taken too.
 impl<T> Index<usize> for NEVec<T> {
     type Output = T;
 
-    ghost can_index = { λ v i. i < length v };
+    ghost can_index = { λ v i. i ≤ length v - 1 };
 
     ghost index_gives = { λ v i x. slice_get v i ≡ Some x };
 
     fn index(&self, index: usize) -> &T
-        requires { index < length self.now }
+        requires { index ≤ length self.now - 1 }
         ensures { slice_get self.now index ≡ Some result.now }
     {
         &self.inner[index]
@@ -63,11 +69,32 @@ impl<T> IndexMut<usize> for NEVec<T> {
     ghost use Rattle.ne_vec.specs.Lends.{LendsItem};
 
     fn index_mut(&mut self, index: usize) -> &mut T
-        requires { index < length self.old }
+        requires { index ≤ length self.old - 1 }
         ensures* writes_back { sem 𝓛 (LendsItem T.row self.entry index result) }
         ensures value { slice_get self.old index ≡ Some result.now }
     {
         &mut self.inner[index]
+    }
+}
+
+/// By the inherent call `clone`. It may be refused, as the clone of a `Vec` may be, whatever the
+/// items are.
+impl<T: Clone> Clone for NEVec<T> {
+    ghost use Rattle.ne_vec.specs.Clones.{IsCloneOfList};
+
+    ghost is_clone = { IsCloneOfList T.is_clone };
+
+    fn clone(&self) -> Result<NEVec<T>, AllocError> {
+        NEVec::clone(self)
+    }
+}
+
+/// By the inherent call `extend`.
+impl<T: Drop> Extend<T> for NEVec<T> {
+    ghost extend_gives = { λ v xs w. w ≡ v ++ xs };
+
+    fn extend<I: IntoIterator<Item = T>>(&mut self, iter: I) -> Result<(), AllocError> {
+        NEVec::extend(self, iter)
     }
 }
 

@@ -1,4 +1,4 @@
-use Rattle.ne_vec.proofs.Compared.{differs, shorter, same_list}
+use Rattle.ne_vec.proofs.Compared.{differs, shorter, longer, same_list}
 use Rattle.ne_vec.proofs.laws.lists_are_in_lexicographic_order.Goals as goal
 
 pub returns-clause-differs : goal.returns-clause-differs
@@ -6,6 +6,9 @@ returns-clause-differs g c front v w x y n = differs g.T.Ord.cmp g.met.T.Ord.tot
 
 pub returns-clause-shorter : goal.returns-clause-shorter
 returns-clause-shorter g c front w y = shorter g.T.Ord.cmp g.met.T.Ord.total front w y
+
+pub returns-clause-longer : goal.returns-clause-longer
+returns-clause-longer g c front v x = longer g.T.Ord.cmp g.met.T.Ord.total front v x
 
 pub returns-clause-same : goal.returns-clause-same
 returns-clause-same g c v = same_list g.T.Ord.cmp g.met.T.Ord.total v

@@ -1,0 +1,169 @@
+-- What a search by halving knows, and what it asks of its closure.
+use Rattle.std.proofs.Common.{◌≡◌, ◌⊎◌, inl, inr, ℕ, zero, suc, ◌+◌, ◌<◌, ◌≤◌, Bool, true}
+use Rattle.std.proofs.Common.{false}
+use Rattle.std.proofs.Common.{List, [], ◌∷◌, length, refl, sym, ap, subst, arith}
+use Rattle.std.specs.Prelude.{slice_index_or, All, Contains}
+use Rattle.std.specs.Borrow.{Bor}
+use Rattle.std.specs.Fn.{Mut, Called, CalledAt, AlwaysReturns}
+use Rattle.std.specs.List.{FoldsTo, AllWithin, HoldsAt}
+use Rattle.std.specs.List.Sorted.{IsPartitionedBy, IsPartitionPoint, IsNonDecreasingBy}
+use Rattle.std.specs.Ordering.{is_gt, ordering_index}
+use Rattle.std.specs.declared.cmp.Ordering.{Ordering}
+use Rattle.std.specs.declared.cmp.Ordering.TheVariants.{Less, Equal, Greater}
+use denote.Param.Always.{always_mut, mut_next}
+use Rattle.ne_vec.specs.Calls.{CallableAtItems}
+
+all_cons : {A : Type 0} (P : A → Type 0) (x : A) (xs : List A) → P x → All P xs → All P (x ∷ xs)
+all_cons P x xs first rest zero d h = first
+all_cons P x xs first rest (suc k) d h = rest k d (omega arith)
+
+module _ {F A R : Type 0} (calls : Mut F (Bor A × Unit {0}) R) (xs : List A) where
+  -- it stays so when it was called at an item
+  pub items_next : (f : F) (i : ℕ) (x : A) (r : R) (g : F) → i < length xs
+      → x ≡ slice_index_or xs i x → CalledAt calls f x r g
+      → CallableAtItems calls f xs → CallableAtItems calls g xs
+  items_next f i x r g inside read called callable shown h among folds =
+      callable (x ∷ shown) h (all_cons (Contains xs) x shown (i, inside, sym read) among)
+      (g, (r, called), folds)
+
+  -- it may be called at the item at a place
+  pub items_take : (f : F) (i : ℕ) (x : Bor A) → i < length xs
+      → x.now ≡ slice_index_or xs i x.now → CallableAtItems calls f xs → calls.pre f (x, tt)
+  items_take f i x inside read callable =
+      callable [] f (λ k d h. absurd (omega arith)) refl i x.now inside x read
+
+  stays_callable : (shown : List A) (f g : F)
+      → FoldsTo (λ p x q. (r : R) × CalledAt calls p x r q) f shown g
+      → always_mut calls f → always_mut calls g
+  stays_callable [] f g same always = subst (always_mut calls) same always
+  stays_callable (x ∷ shown) f g (j, (r, called), later) always =
+      stays_callable shown j g later
+      (mut_next calls f (called.shown, tt) r j j called.called refl always)
+
+  -- it may be where it may be called at any item
+  pub items_always : (f : F) → always_mut calls f → CallableAtItems calls f xs
+  items_always f always shown g among folds k d inside y read =
+      ((stays_callable shown f g folds always).at ((y, tt) ∷ [])).0
+
+module _ {F X R : Type 0} (calls : Mut F X R) (P : X → R → Type 0) where
+  pub answers_next : (f : F) (a : X) (r : R) (g : F) → Called calls f a r g
+      → AlwaysReturns calls P f → P a r × AlwaysReturns calls P g
+  answers_next f a r g called always =
+      ((always.at (a ∷ []) r g called).0, record { at = λ xs. (always.at (a ∷ xs) r g called).1 })
+
+not_both : (b : Bool) → b ≡ true → b ≡ false → ⊥
+not_both true p q = absurd cc
+not_both false p q = absurd cc
+
+is_false : (b : Bool) → (b ≡ true → ⊥) → b ≡ false
+is_false true h = absurd (h refl)
+is_false false h = refl
+
+-- ---- by a test
+
+module _ {A : Type 0} (meets : A → Bool) (xs : List A) where
+  -- The answer is not before base, nor behind base + size.
+  pub record Halved (base size : ℕ) : Type 0 where
+    pub low : (base ≡ 0) ⊎ HoldsAt (λ y. meets y ≡ true) xs base
+    pub high : IsPartitionedBy meets xs
+        → AllWithin (λ y. meets y ≡ false) xs (base + size) (length xs)
+
+  past_failing : (m low : ℕ) → m ≤ low → HoldsAt (λ y. meets y ≡ false) xs m
+      → IsPartitionedBy meets xs → AllWithin (λ y. meets y ≡ false) xs low (length xs)
+  past_failing m low h fails parted k d a b =
+      is_false _ (λ t. not_both _ (parted m k d (omega arith) b t) (fails d))
+
+  pub failed : (base size mid left : ℕ) → mid ≤ base + left → Halved base size
+      → HoldsAt (λ y. meets y ≡ false) xs mid → Halved base left
+  failed base size mid left h n fails =
+      record { low = n.low; high = past_failing mid (base + left) h fails }
+
+  pub passed : (base size mid left : ℕ) → base + size ≤ mid + left → Halved base size
+      → HoldsAt (λ y. meets y ≡ true) xs mid → Halved mid left
+  passed base size mid left h n passes =
+      record { low = inr passes; high = λ parted k d a b. n.high parted k d (omega arith) b }
+
+  pub after_passing : (base size : ℕ) → size ≤ 1 → base < length xs → Halved base size
+      → HoldsAt (λ y. meets y ≡ true) xs base → IsPartitionedBy meets xs
+      → IsPartitionPoint (λ y. meets y ≡ true) (λ y. meets y ≡ false) xs (base + 1)
+  after_passing base size one inside n passes parted = (
+    λ k d a b. parted k base d (omega arith) inside (passes d),
+    λ k d a b. n.high parted k d (omega arith) b,
+  )
+
+  before : (base : ℕ) → (base ≡ 0) ⊎ HoldsAt (λ y. meets y ≡ true) xs base
+      → HoldsAt (λ y. meets y ≡ false) xs base → AllWithin (λ y. meets y ≡ true) xs 0 base
+  before base (inl e) fails k d a b = absurd (omega arith)
+  before base (inr passes) fails k d a b = absurd (not_both _ (passes d) (fails d))
+
+  pub at_failing : (base size : ℕ) → Halved base size
+      → HoldsAt (λ y. meets y ≡ false) xs base → IsPartitionedBy meets xs
+      → IsPartitionPoint (λ y. meets y ≡ true) (λ y. meets y ≡ false) xs base
+  at_failing base size n fails parted =
+      (before base n.low fails, past_failing base base (omega arith) fails parted)
+
+-- ---- by an order
+
+top : (o : Ordering) → 2 ≤ ordering_index o → o ≡ Greater
+top Less h = absurd (omega arith)
+top Equal h = absurd (omega arith)
+top Greater h = refl
+
+bottom : (o : Ordering) → ordering_index o ≤ 0 → o ≡ Less
+bottom Less h = refl
+bottom Equal h = absurd (omega arith)
+bottom Greater h = absurd (omega arith)
+
+greater : (o : Ordering) → is_gt o ≡ true → o ≡ Greater
+greater Less h = absurd cc
+greater Equal h = absurd cc
+greater Greater h = refl
+
+module _ {A : Type 0} (order : A → Ordering) (xs : List A) where
+  -- the items of rising order
+  abbrev Rises : Type 0
+  Rises = IsNonDecreasingBy (λ y. ordering_index (order y)) xs
+
+  pub record Narrowed (base size : ℕ) : Type 0 where
+    pub low : (base ≡ 0) ⊎ HoldsAt (λ y. is_gt (order y) ≡ false) xs base
+    pub high : IsNonDecreasingBy (λ y. ordering_index (order y)) xs
+        → AllWithin (λ y. order y ≡ Greater) xs (base + size) (length xs)
+
+  past_greater : (m low : ℕ) → m ≤ low → HoldsAt (λ y. order y ≡ Greater) xs m → Rises
+      → AllWithin (λ y. order y ≡ Greater) xs low (length xs)
+  past_greater m low h is rises k d a b =
+      let P : Ordering → Type 0 =
+      λ o. ordering_index o ≤ ordering_index (order (slice_index_or xs k d)) in
+      top _ (subst P (is d) (rises m k d (omega arith) b))
+
+  pub lower : (base size mid left : ℕ) → mid ≤ base + left → Narrowed base size
+      → HoldsAt (λ y. is_gt (order y) ≡ true) xs mid → Narrowed base left
+  lower base size mid left h n is =
+      record { low = n.low; high = past_greater mid (base + left) h (λ d. greater _ (is d)) }
+
+  pub upper : (base size mid left : ℕ) → base + size ≤ mid + left → Narrowed base size
+      → HoldsAt (λ y. is_gt (order y) ≡ false) xs mid → Narrowed mid left
+  upper base size mid left h n is =
+      record { low = inr is; high = λ rises k d a b. n.high rises k d (omega arith) b }
+
+  pub after_less : (base size : ℕ) → size ≤ 1 → base < length xs → Narrowed base size
+      → HoldsAt (λ y. order y ≡ Less) xs base → Rises
+      → IsPartitionPoint (λ y. order y ≡ Less) (λ y. order y ≡ Greater) xs (base + 1)
+  after_less base size one inside n is rises = (
+    λ k d a b.
+        let P : Ordering → Type 0 =
+        λ o. ordering_index (order (slice_index_or xs k d)) ≤ ordering_index o in
+        bottom _ (subst P (is d) (rises k base d (omega arith) inside)),
+    λ k d a b. n.high rises k d (omega arith) b,
+  )
+
+  in_front : (base : ℕ) → (base ≡ 0) ⊎ HoldsAt (λ y. is_gt (order y) ≡ false) xs base
+      → HoldsAt (λ y. order y ≡ Greater) xs base → AllWithin (λ y. order y ≡ Less) xs 0 base
+  in_front base (inl e) is k d a b = absurd (omega arith)
+  in_front base (inr not) is k d a b = absurd (not_both _ (ap is_gt (is d)) (not d))
+
+  pub at_greater : (base size : ℕ) → Narrowed base size
+      → HoldsAt (λ y. order y ≡ Greater) xs base → Rises
+      → IsPartitionPoint (λ y. order y ≡ Less) (λ y. order y ≡ Greater) xs base
+  at_greater base size n is rises =
+      (in_front base n.low is, past_greater base base (omega arith) is rises)

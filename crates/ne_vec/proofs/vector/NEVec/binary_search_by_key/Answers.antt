@@ -1,0 +1,6 @@
+use Rattle.ne_vec.proofs.vector.NEVec.binary_search_by_key.Goals as goal
+
+pub binary_search_by_key-requires-clause-callable :
+    goal.binary_search_by_key-requires-clause-callable
+binary_search_by_key-requires-clause-callable g c =
+    rw (c.as_slice.ensures.value, c.self.view_is) c.requires

@@ -1,0 +1,18 @@
+use Rattle.std.proofs.Common.{◌<◌, ◌≤◌, ◌+◌, length}
+use Rattle.std.specs.declared.cmp.Ordering.{Ordering}
+use Rattle.std.specs.Fn.{ComputesKey}
+use Rattle.ne_vec.specs.Calls.{CallableAtItems}
+use Rattle.ne_vec.proofs.Halving.{Narrowed}
+use Rattle.ne_vec.proofs.vector.search.binary_search_by.Given as goal
+
+abbrev pub invariant-loop-size : goal.invariant-loop-size
+invariant-loop-size g l = record {
+  some : 0 < l.size;
+  inside : l.base + l.size ≤ length l.items;
+  callable : CallableAtItems g.F.FnMut l.f l.items;
+  narrowed : (order : g.row.T.Denot → Ordering) → ComputesKey g.F.FnMut order l.fn.f
+      → ComputesKey g.F.FnMut order l.f × Narrowed order l.items l.base l.size;
+}
+
+abbrev pub decreases-loop-size : goal.decreases-loop-size
+decreases-loop-size g l = l.size
