@@ -1,5 +1,5 @@
 //! What a caller knows of a vector or a slice that it has by reference: that there is an item.
-ghost use Rattle.std.specs.Prelude.{◌≡◌, ◌+◌, ◌-◌, ◌/◌, ◌<◌, [], ◌∷◌, true, length, slice_get, IsSome};
+ghost use Rattle.std.specs.Prelude.{◌≡◌, ◌+◌, ◌-◌, ◌/◌, ◌<◌, [], ◌∷◌, true, length, slice_get};
 ghost use Rattle.std.specs.Prelude.{IsSomeAnd, IfOk, IsOkAnd, Some};
 
 use ne_vec::{Error, NESlice, NEVec};
