@@ -20,7 +20,7 @@ returns c =
     let run = c.args.run.now in
     let first = c.first-first.result.now in
     let whole = subst (λ items. run ≡ first ∷ take (length items - 1) (drop 1 items))
-    (sym c.as_slice.ensures) (first_and_rest run _ c.first-first.ensures) in
+    (sym c.as_slice.ensures.same) (first_and_rest run _ c.first-first.ensures) in
     subst (λ row. OnOk c.push.result
     (string_bytes c.push.new.self ≡ string_bytes c.args.text.now ++ row_text row)) (sym whole)
     (row_ended c.push.result _ _ _ _ _ _ c.loop-number.number-index c.in_ok-write.ensures.bytes

@@ -13,4 +13,4 @@ returns c = IfOk-weaker c.collect.result _ _ (λ v h.
     scanned.0 scanned.3 in
     let given = sym c.into_nonempty_iter.ensures.into_nonempty_iter_gives in
     let all = given ∙ vector.1 ∙ ap (λ l. scanned.0 ++ l) (vector.2 refl) ∙ append-nil scanned.0 in
-    h.2 ∙ values.0 ∙ ap (λ l. scan add add 0 l) (sym all)) c.collect.ensures
+    h.2 ∙ values.0 ∙ ap (λ l. scan add add 0 l) (sym all)) c.collect.ensures.gives

@@ -19,4 +19,4 @@ returns g c = IfOk-weaker c.collect.result _ _ (λ v h.
       flat.3,
       subst (λ l. CallsWithState g.F.FnMut f init l h.0 scanned.1 scanned.2) flat.4 scanned.4,
       h.2,
-    )) c.collect.ensures
+    )) c.collect.ensures.gives

@@ -20,4 +20,4 @@ returns g c = IfOk-weaker c.collect.result _ _ (λ v h test acts.
       subst (λ rs. IsDivision (by_previous test) c.args.items.now rs) all
           (subst (λ s. IsDivision (by_previous test) s.left runs.0) holds runs.1),
       h.2 ∙ lengths.0,
-    )) c.collect.ensures
+    )) c.collect.ensures.gives

@@ -1,0 +1,116 @@
+//! Each consumer.
+ghost use Rattle.std.specs.Prelude.{
+  ◌≡◌,
+  ◌/◌,
+  ◌<◌,
+  ◌≤◌,
+  ◌^◌,
+  map,
+  sum,
+  length,
+  slice_get,
+  Some,
+  IfOk,
+  IfSome,
+  IsTrue,
+  nat_eq,
+};
+ghost use Rattle.std.specs.List.{All, Contains, fold, reduce as list_reduce};
+ghost use Rattle.std.specs.Int.NonZero.{non_zero_usize_get};
+ghost use Rattle.ne_iter.specs.Collected.{IsMapOf};
+
+use nonempty_collections::{IntoNonEmptyIterator, NEVec, NonEmptyIterator};
+use std::alloc::{AllocError, Global};
+use std::collections::BTreeMap;
+use std::num::NonZeroUsize;
+
+/// How many items there are.
+pub fn how_many(items: &NEVec<u32>) -> NonZeroUsize
+    ensures { non_zero_usize_get result ≡ length items.now }
+{
+    items.nonempty_iter().count()
+}
+
+/// The sum of halves.
+pub fn sum_of_halves(items: NEVec<u32>) -> u32
+    requires { sum (map (λ x. x / 2) items) < 2 ^ 32 }
+    ensures { result ≡ sum (map (λ x. x / 2) items) }
+{
+    items.into_nonempty_iter().map(|x| x / 2).sum()
+}
+
+/// The greatest item.
+pub fn greatest(items: &NEVec<u32>) -> u32
+    ensures among { Contains items.now result }
+    ensures bound { All (λ x. x ≤ result) items.now }
+{
+    items.nonempty_iter().copied().max()
+}
+
+/// The least item.
+pub fn least(items: &NEVec<u32>) -> u32
+    ensures among { Contains items.now result }
+    ensures bound { All (λ x. result ≤ x) items.now }
+{
+    items.nonempty_iter().copied().min()
+}
+
+/// The greatest half.
+pub fn greatest_half(items: &NEVec<u32>) -> u32
+    ensures among { Contains (map (λ x. x / 2) items.now) result }
+    ensures bound { All (λ x. x ≤ result) (map (λ x. x / 2) items.now) }
+{
+    items.nonempty_iter().map(|x| *x / 2).max()
+}
+
+/// A fold to a total.
+pub fn folded(items: NEVec<u32>) -> u32
+    ensures { result ≡ fold (λ a x. x / 2) 0 items }
+{
+    items.into_nonempty_iter().fold(0, |a, x| x / 2)
+}
+
+/// A fold from the first item.
+pub fn reduced(items: NEVec<u32>) -> u32
+    ensures { Some result ≡ list_reduce (λ a x. x / 2) items }
+{
+    items.into_nonempty_iter().reduce(|a, x| x / 2)
+}
+
+/// Whether all items are below 10.
+pub fn all_small(items: NEVec<u32>) -> bool
+    ensures { IsTrue result → All (λ x. x < 10) items }
+{
+    items.into_nonempty_iter().all(|x| x < 10)
+}
+
+/// An item below 10.
+pub fn some_small(items: NEVec<u32>) -> Option<u32>
+    ensures { IfSome result (λ x. Contains items x × (x < 10)) }
+{
+    items.into_nonempty_iter().find(|x| *x < 10)
+}
+
+/// The item at a place.
+pub fn item_at(items: NEVec<u32>, n: usize) -> Option<u32>
+    ensures { result ≡ slice_get items n }
+{
+    items.into_nonempty_iter().nth(n)
+}
+
+/// The items, and their halves.
+pub fn parted(alloc: Global, items: NEVec<u32>) -> Result<(NEVec<u32>, NEVec<u32>), AllocError>
+    ensures { IfOk result (λ r. (r.0 ≡ items) × (r.1 ≡ map (λ x. x / 2) items)) }
+{
+    items.into_nonempty_iter().map(|x| (x, x / 2)).unzip(alloc)
+}
+
+/// Half of each item, by the item.
+pub fn table(alloc: Global, items: NEVec<u32>) -> Result<BTreeMap<u32, u32>, AllocError>
+    ensures { IfOk result (λ m. IsMapOf nat_eq (map (λ x. (x, x / 2)) items) m.entries) }
+{
+    items
+        .into_nonempty_iter()
+        .map(|x| (x, x / 2))
+        .collect(alloc)
+}

@@ -1,0 +1,41 @@
+//! Each kind of source, collected or used up.
+ghost use Rattle.std.specs.Prelude.{◌≡◌, ◌<◌, ◌^◌, sum, IfOk, [], ◌∷◌};
+
+use nonempty_collections::{IntoNonEmptyIterator, NESlice, NEVec, NonEmptyIterator, iter};
+use std::alloc::{AllocError, Global};
+
+/// The items of a vector, by value.
+pub fn of_a_vector(alloc: Global, items: NEVec<u32>) -> Result<NEVec<u32>, AllocError>
+    ensures { IfOk result (λ v. v ≡ items) }
+{
+    items.into_nonempty_iter().collect(alloc)
+}
+
+/// The items of a vector, by reference.
+pub fn of_a_reference(alloc: Global, items: &NEVec<u32>) -> Result<NEVec<u32>, AllocError>
+    ensures { IfOk result (λ v. v ≡ items.now) }
+{
+    items.nonempty_iter().copied().collect(alloc)
+}
+
+/// The sum of a slice.
+pub fn of_a_slice(items: &NESlice<u32>) -> u32
+    requires { sum items.now < 2 ^ 32 }
+    ensures { result ≡ sum items.now }
+{
+    items.nonempty_iter().copied().sum()
+}
+
+/// The items of a literal array.
+pub fn of_an_array(alloc: Global) -> Result<NEVec<u32>, AllocError>
+    ensures { IfOk result (λ v. v ≡ 1 ∷ 2 ∷ 3 ∷ []) }
+{
+    [1u32, 2, 3].into_nonempty_iter().collect(alloc)
+}
+
+/// One item.
+pub fn of_one_item(alloc: Global, x: u32) -> Result<NEVec<u32>, AllocError>
+    ensures { IfOk result (λ v. v ≡ x ∷ []) }
+{
+    iter::once(x).collect(alloc)
+}

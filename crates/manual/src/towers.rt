@@ -1,0 +1,117 @@
+//! Several adapters, one on another.
+ghost use Rattle.std.specs.Prelude.{
+  ◌≡◌,
+  ◌/◌,
+  ◌+◌,
+  ◌<◌,
+  ◌^◌,
+  ◌++◌,
+  map,
+  filter,
+  sum,
+  length,
+  take,
+  IfOk,
+  ltb,
+};
+ghost use Rattle.std.specs.List.{enumerate_from, zip};
+ghost use Rattle.std.specs.Int.NonZero.{non_zero_usize_get};
+
+use nonempty_collections::{IntoNonEmptyIterator, NEVec, NonEmptyIterator};
+use std::alloc::{AllocError, Global};
+use std::num::NonZeroUsize;
+
+/// `map`, and then `filter`.
+pub fn small_halves(alloc: Global, items: NEVec<u32>) -> Result<Vec<u32>, AllocError>
+    ensures { IfOk result (λ v. v.items ≡ filter (λ x. ltb x 10) (map (λ x. x / 2) items)) }
+{
+    items
+        .into_nonempty_iter()
+        .map(|x| x / 2)
+        .filter(|x| *x < 10)
+        .collect(alloc)
+}
+
+/// `copied`, and then `take`.
+pub fn first_shown(
+    alloc: Global,
+    items: &NEVec<u32>,
+    n: NonZeroUsize,
+) -> Result<NEVec<u32>, AllocError>
+    ensures { IfOk result (λ v. v ≡ take (non_zero_usize_get n) items.now) }
+{
+    items.nonempty_iter().copied().take(n).collect(alloc)
+}
+
+/// `map`, and then `zip`.
+pub fn halves_and_others(
+    alloc: Global,
+    items: NEVec<u32>,
+    others: NEVec<u32>,
+) -> Result<NEVec<(u32, u32)>, AllocError>
+    ensures { IfOk result (λ v. v ≡ zip (map (λ x. x / 2) items) others) }
+{
+    items
+        .into_nonempty_iter()
+        .map(|x| x / 2)
+        .zip(others)
+        .collect(alloc)
+}
+
+/// `take`, and then `sum`.
+pub fn sum_of_first(items: NEVec<u32>, n: NonZeroUsize) -> u32
+    requires { sum (take (non_zero_usize_get n) items) < 2 ^ 32 }
+    ensures { result ≡ sum (take (non_zero_usize_get n) items) }
+{
+    items.into_nonempty_iter().take(n).sum()
+}
+
+/// `map`, `chain` and `enumerate`.
+pub fn numbered_halves(
+    alloc: Global,
+    items: NEVec<u32>,
+    others: Vec<u32>,
+) -> Result<NEVec<(usize, u32)>, AllocError>
+    requires { length items + length others.items < 2 ^ 64 }
+    ensures { IfOk result (λ v.
+        v ≡ enumerate_from 0 (map (λ x. x / 2) items ++ others.items)) }
+{
+    items
+        .into_nonempty_iter()
+        .map(|x| x / 2)
+        .chain(others)
+        .enumerate()
+        .collect(alloc)
+}
+
+/// `take`, `map` and `chain`, from references.
+pub fn first_halves_and_others(
+    alloc: Global,
+    items: &NEVec<u32>,
+    others: Vec<u32>,
+    n: NonZeroUsize,
+) -> Result<NEVec<u32>, AllocError>
+    ensures { IfOk result (λ v.
+        v ≡ map (λ x. x / 2) (take (non_zero_usize_get n) items.now) ++ others.items) }
+{
+    items
+        .nonempty_iter()
+        .take(n)
+        .map(|x| *x / 2)
+        .chain(others)
+        .collect(alloc)
+}
+
+/// `copied`, `map`, `chain` and `map`.
+pub fn thirds(alloc: Global, items: &NEVec<u32>, others: Vec<u32>) -> Result<NEVec<u32>, AllocError>
+    ensures { IfOk result (λ v.
+        v ≡ map (λ x. x / 3) (map (λ x. x / 2) items.now ++ others.items)) }
+{
+    items
+        .nonempty_iter()
+        .copied()
+        .map(|x| x / 2)
+        .chain(others)
+        .map(|x| x / 3)
+        .collect(alloc)
+}
