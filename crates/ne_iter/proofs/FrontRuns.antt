@@ -1,17 +1,16 @@
 -- A front of the source's list, taken through one adapter.
 use Rattle.std.proofs.Common.{arith, refl, sym, subst, ap, ◌∙◌, ◌⊎◌, inl, inr}
-use Rattle.std.proofs.lemmas.List.{map-append, append_assoc, append-nil, nil_from_length, length-map}
+use Rattle.std.proofs.lemmas.List.{map-append, append_assoc, nil_from_length, length-map}
 use Rattle.std.proofs.lemmas.Simd.{map-map}
 use Rattle.std.proofs.Math.Nat.{eq-or-lt_of_le}
 use Rattle.std.proofs.Math.Seq.{take-append-add}
 use Rattle.std.proofs.iter.runs.Made.{at-is}
-use Rattle.std.specs.Prelude.{None, Some, ◌≡◌, ℕ, zero, suc, ◌+◌, ◌-◌, ◌<◌, ◌≤◌, Bool, true, false, List, [], ◌∷◌, ◌++◌, length, map, take, Option, IsTrue, IfSome, slice_get}
+use Rattle.std.specs.Prelude.{None, Some, ◌≡◌, ℕ, zero, suc, ◌+◌, ◌-◌, ◌<◌, ◌≤◌, true, List, [], ◌∷◌, ◌++◌, length, map, take, Option, IsTrue, IfSome, slice_get}
 use Rattle.std.specs.Fn.{Mut}
 use Rattle.std.specs.Borrow.{Bor}
-use Rattle.std.specs.Iterator.{ActsAs}
 use Rattle.std.specs.Iterator.Adapters.{map_steps, enumerate_steps, take_steps, copied_steps, chain_steps, zip_steps}
 use Rattle.std.specs.Iterator.Adapters as std
-use Rattle.std.specs.Iterator.Runs.{Run, EachRunFrom, SomeRun, IsMapRun, HasSameItems, IsCopiedRun, IsChainRun, IsZipRun, ProjectsRun}
+use Rattle.std.specs.Iterator.Runs.{Run, EachRunFrom, SomeRun, HasSameItems, IsCopiedRun, ProjectsRun}
 use Rattle.std.specs.List.{enumerate_from, zip}
 use Rattle.ne_vec.specs.Fronts.{IsFront, ShowsFront, Lists, Shows}
 use Rattle.ne_vec.specs.FrontLaws.{shows_front, as_items, as_shown, marked}

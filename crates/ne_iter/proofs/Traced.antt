@@ -1,9 +1,9 @@
 -- What a source reads, as a run in std's words.
-use Rattle.std.proofs.Common.{refl, subst, sym, ◌∙◌, ap, arith, ◌⊎◌, inl, inr}
-use Rattle.std.proofs.iter.runs.Made.{run, at-is, took}
-use Rattle.std.proofs.lemmas.Option.{slice_get_within, get_or_from_slice_get, same_Some}
-use Rattle.std.specs.Prelude.{◌≡◌, ℕ, zero, suc, ◌+◌, ◌<◌, ◌≤◌, Bool, true, false, List, [], ◌∷◌, length, map, Option, Some, None, IsSomeAnd, IfSome, slice_get, slice_index_or}
-use Rattle.std.specs.Iterator.Runs.{Run, EachRunFrom, SomeRun, ProjectsRun, AllItems, AnyItem}
+use Rattle.std.proofs.Common.{refl, subst, sym, ap, arith}
+use Rattle.std.proofs.iter.runs.Made.{run, took}
+use Rattle.std.proofs.lemmas.Option.{slice_get_within, get_or_from_slice_get}
+use Rattle.std.specs.Prelude.{◌≡◌, ℕ, zero, suc, ◌<◌, Bool, true, false, List, [], ◌∷◌, length, map, Option, Some, None, IsSomeAnd, IfSome, slice_get, slice_index_or}
+use Rattle.std.specs.Iterator.Runs.{Run, AllItems, AnyItem}
 use Rattle.std.specs.List.{IsFirstBest}
 use Rattle.std.specs.Option.{option_map}
 use Rattle.ne_iter.specs.Sources.{Reads}

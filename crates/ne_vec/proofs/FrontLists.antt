@@ -12,18 +12,30 @@ module _ {S A : Type 0} (steps : S → Option A → S → Type 0) (it : S) where
   pub gives_shown : {B : Type 0} (view : A → B) (xs : List B)
       → EachRunFrom steps it (λ p. ShowsFront view p xs) → GivesShown steps view it xs
   unfolding ShowsFront Shows
-  gives_shown view xs each = (marked it xs, each, λ p seen from.
-    let h = each p seen from in
-    let l = lists p view xs h.0 (λ w. ap length (h.2 w)) h.1 in
-    (l.0, l.1, l.6))
+  gives_shown view xs each = (
+    marked it xs,
+    each,
+    λ p seen from.
+        let h = each p seen from in
+        let l = lists p view xs h.0 (λ w. ap length (h.2 w)) h.1 in
+        (l.0, l.1, l.6),
+  )
 
   pub gives_items : (xs : List A)
       → EachRunFrom steps it (λ p. IsFront p xs) → GivesItems steps it xs
   unfolding IsFront ShowsFront Lists
-  gives_items xs each = (marked it xs, each, λ p seen from.
-    let h = as_shown p xs (each p seen from) in
-    let f = each p seen from in
-    let l = as_is p xs (lists p (λ x. x) xs h.0 (λ w. ap length (h.2 w)) h.1) in
-    (l.0, l.4, l.5, λ k m.
-      at-is p k ∙ sym (nth_left p.items f.0 k (omega (arith, m, p.long)))
-      ∙ ap (λ l. slice_get l k) (sym f.1)))
+  gives_items xs each = (
+    marked it xs,
+    each,
+    λ p seen from.
+        let h = as_shown p xs (each p seen from) in
+        let f = each p seen from in
+        let l = as_is p xs (lists p (λ x. x) xs h.0 (λ w. ap length (h.2 w)) h.1) in (
+          l.0,
+          l.4,
+          l.5,
+          λ k m.
+              at-is p k ∙ sym (nth_left p.items f.0 k (omega (arith, m, p.long)))
+              ∙ ap (λ l. slice_get l k) (sym f.1),
+        ),
+  )

@@ -2,7 +2,7 @@
 use Rattle.std.proofs.Common.{arith, subst, sym, ap, ◌∙◌, map-id}
 use Rattle.std.proofs.lemmas.Option.{same_Some, slice_get-get_or, slice_get-map}
 use Rattle.std.proofs.lemmas.List.{nil_from_length, length-map}
-use Rattle.std.specs.Prelude.{◌≡◌, ℕ, zero, suc, ◌<◌, ◌≤◌, true, List, [], ◌∷◌, ◌++◌, length, map, Option, Some, refl, slice_index_or, slice_get}
+use Rattle.std.specs.Prelude.{◌≡◌, ℕ, suc, ◌<◌, ◌≤◌, true, List, [], ◌∷◌, ◌++◌, length, map, Option, Some, refl, slice_index_or, slice_get}
 use Rattle.std.specs.Option.{option_map}
 use Rattle.std.specs.Iterator.Runs.{Run, YieldsRun, EveryRun, ItemsAre, ItemsMapTo}
 use Rattle.ne_vec.specs.Fronts.{IsFront, ShowsFront, Lists, Shows, mark}
@@ -41,8 +41,8 @@ module _ {S A : Type 0} {steps : S → Option A → S → Type 0} (p : Run steps
     shows_front within whole places =
         let long : length (map view p.items) ≡ p.len = omega (arith, p.long, length-map p.items view) in
         let b = begins (map view p.items) xs (omega (arith, long, within)) (λ k d l.
-            let m : k < p.len = omega (arith, l, long) in
-            same_Some _ _ (sym (read k d m) ∙ places k d m)) in
+        let m : k < p.len = omega (arith, l, long) in
+        same_Some _ _ (sym (read k d m) ∙ places k d m)) in
         (b.0, b.1, λ w. b.2 (omega (arith, long, whole w)))
 
   module _ (xs : List A) where
