@@ -19,7 +19,8 @@ use Rattle.ne_vec.specs.Fronts.{Lists, Shows, GivesItems, GivesShown, mark}
 
 -- The items of a run are the first of xs, and all of them if the run is whole: how a std iterator's
 -- own clause says it.
-abbrev pub FrontOf : {S A : Type 0} {steps : S → Option A → S → Type 0} → Run steps → List A → Type 0
+abbrev pub FrontOf : {S A : Type 0} {steps : S → Option A → S → Type 0}
+    → Run steps → List A → Type 0
 FrontOf {A = A} p xs = (p.len ≤ length xs) × (p.whole ≡ true → p.len ≡ length xs)
     × ((k : ℕ) (d : A) → k < p.len → option_map (λ y. y) (p.at k) ≡ Some (slice_index_or xs k d))
 

@@ -14,7 +14,8 @@ use Rattle.std.specs.declared.iter.Take.{Take}
 use Rattle.std.specs.declared.iter.Copied.{Copied}
 use Rattle.std.specs.declared.iter.Flatten.{Flatten}
 
-module _ {U S A : Type 0} (becomes : U → S → Type 0) (steps : S → Option A → S → Type 0) (u : U) (P : Run steps → Type 0) where
+module _ {U S A : Type 0} (becomes : U → S → Type 0) (steps : S → Option A → S → Type 0)
+    (u : U) (P : Run steps → Type 0) where
   -- P holds of some run of an iterator that u becomes
   abbrev pub RunsSome : Type 0
   RunsSome = (it : S) × becomes u it × SomeRun steps it P

@@ -9,7 +9,7 @@ use Rattle.std.specs.declared.vec.IntoIter.{IntoIter}
 use Rattle.std.proofs.iter.runs.Sources.{iter_runs, from_front, as_is}
 use Rattle.std.proofs.iter.runs.Cuts.{iter_mut_runs}
 use Rattle.ne_vec.specs.Fronts.{Lists, Shows}
-use Rattle.ne_vec.specs.FrontLaws.{shows_all, lists_all}
+use Rattle.ne_vec.specs.FrontLaws.{shows_all, lists_all, marked}
 
 pub iter_shows : {X : Type 0} (it : Iter X) (xs : List X) → iter_rest it ≡ xs
     → Shows iter_steps (λ y. y.now) it xs
@@ -26,3 +26,6 @@ pub into_iter_lists : {X Z : Type 0} (it : IntoIter X Z) (xs : List X) → into_
 into_iter_lists it xs same = lists_all into_iter_steps into_iter_items it xs (λ p seen.
     as_is p (into_iter_items p.from) (from_front into_iter_steps (λ x. x) into_iter_items
     (λ s t h. sym s.rest.ok.0 ∙ h.0) (λ s x t h. h.0) p seen)) same
+
+-- what the functions that make such an iterator need
+pub ruleset walks = (iter_shows, iter_mut_shows, into_iter_lists, marked)

@@ -29,17 +29,20 @@ module _ {S A : Type 0} {steps : S → Option A → S → Type 0} (p : Run steps
   at-is = p.gave.1
 
   module _ {B : Type 0} (view : A → B) (xs : List B) where
-    read : (k : ℕ) (d : B) → k < p.len → option_map view (p.at k) ≡ Some (slice_index_or (map view p.items) k d)
+    long : length (map view p.items) ≡ p.len
+    long = omega (arith, p.long, length-map p.items view)
+
+    read : (k : ℕ) (d : B) → k < p.len
+        → option_map view (p.at k) ≡ Some (slice_index_or (map view p.items) k d)
     read k d l =
         ap (option_map view) (at-is k) ∙ sym (slice_get-map view p.items k)
-        ∙ slice_get-get_or (map view p.items) k d (omega (arith, l, p.long, length-map p.items view))
+        ∙ slice_get-get_or (map view p.items) k d (omega (arith, l, long))
 
     pub shows_front : p.len ≤ length xs → (p.whole ≡ true → p.len ≡ length xs)
         → ((k : ℕ) (d : B) → k < p.len → option_map view (p.at k) ≡ Some (slice_index_or xs k d))
         → ShowsFront view p xs
     unfolding ShowsFront
     shows_front within whole places =
-        let long : length (map view p.items) ≡ p.len = omega (arith, p.long, length-map p.items view) in
         let b = begins (map view p.items) xs (omega (arith, long, within)) (λ k d l.
         let m : k < p.len = omega (arith, l, long) in
         same_Some _ _ (sym (read k d m) ∙ places k d m)) in
@@ -58,8 +61,8 @@ module _ {S A : Type 0} {steps : S → Option A → S → Type 0} (p : Run steps
     is_front h = as_items (shows_front (λ x. x) xs h.0 h.1 h.2)
 
 -- an iterator whose clause is std's
-pub shows_all : {S A B : Type 0} (steps : S → Option A → S → Type 0) (view : A → B) (rest : S → List B)
-    (it : S) (xs : List B) → EveryRun steps (λ p. ItemsMapTo p view (rest p.from)) → rest it ≡ xs
+pub shows_all : {S A B : Type 0} (steps : S → Option A → S → Type 0) (view : A → B)
+    (rest : S → List B) (it : S) (xs : List B) → EveryRun steps (λ p. ItemsMapTo p view (rest p.from)) → rest it ≡ xs
     → Shows steps view it xs
 unfolding Shows
 shows_all steps view rest it xs every same p seen from =

@@ -87,7 +87,7 @@ impl<'a, T> NESlice<'a, T> {
     }
 
     /// Std's walk over the items, in order.
-    #[tactic(auto, using(crate::proofs::WalkRuns::iter_shows, crate::specs::FrontLaws::marked))]
+    #[tactic(auto, using(crate::proofs::WalkRuns::walks))]
     pub fn iter(&self) -> slice::Iter<'_, T>
         ensures { Walks self.now result }
     {
@@ -181,7 +181,7 @@ impl<'a, T> IntoIterator for NESlice<'a, T> {
 
     ghost into_iter_gives = { λ s it. Walks s it };
 
-    #[tactic(auto, using(crate::proofs::WalkRuns::iter_shows, crate::specs::FrontLaws::marked))]
+    #[tactic(auto, using(crate::proofs::WalkRuns::walks))]
     fn into_iter(self) -> slice::Iter<'a, T> {
         self.inner.iter()
     }
@@ -196,7 +196,7 @@ impl<'a, T> IntoIterator for &'a NESlice<'a, T> {
 
     ghost into_iter_gives = { λ s it. Walks s.now it };
 
-    #[tactic(auto, using(crate::proofs::WalkRuns::iter_shows, crate::specs::FrontLaws::marked))]
+    #[tactic(auto, using(crate::proofs::WalkRuns::walks))]
     fn into_iter(self) -> slice::Iter<'a, T> {
         self.inner.iter()
     }
@@ -321,7 +321,7 @@ impl<'a, T> IntoIterator for Iter<'a, T> {
 
     ghost into_iter_gives = { λ v it. Walks v it };
 
-    #[tactic(auto, using(crate::proofs::WalkRuns::iter_shows, crate::specs::FrontLaws::marked))]
+    #[tactic(auto, using(crate::proofs::WalkRuns::walks))]
     fn into_iter(self) -> slice::Iter<'a, T> {
         self.inner.iter()
     }

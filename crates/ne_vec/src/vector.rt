@@ -338,7 +338,7 @@ impl<T> NEVec<T> {
     }
 
     /// Std's walk over the items, in order.
-    #[tactic(auto, using(crate::proofs::WalkRuns::iter_shows, crate::specs::FrontLaws::marked))]
+    #[tactic(auto, using(crate::proofs::WalkRuns::walks))]
     pub fn iter(&self) -> slice::Iter<'_, T>
         ensures { Walks self.now result }
     {
@@ -346,7 +346,7 @@ impl<T> NEVec<T> {
     }
 
     /// Std's walk over the items, in order, for writing.
-    #[tactic(auto, using(crate::proofs::WalkRuns::iter_mut_shows, crate::specs::FrontLaws::marked))]
+    #[tactic(auto, using(crate::proofs::WalkRuns::walks))]
     pub fn iter_mut(&mut self) -> slice::IterMut<'_, T>
         ensures* writes_back { sem 𝓛 (LendsWalk T.row self.entry result) }
         ensures rest { WalksMut self.old result }
@@ -364,7 +364,7 @@ impl<T> NEVec<T> {
     }
 
     /// The same, for writing.
-    #[tactic(auto, using(crate::proofs::WalkRuns::iter_mut_shows, crate::specs::FrontLaws::marked))]
+    #[tactic(auto, using(crate::proofs::WalkRuns::walks))]
     pub fn nonempty_iter_mut(&mut self) -> IterMut<'_, T>
         ensures* writes_back { sem 𝓛 (LendsWalk T.row self.entry (std_walk result)) }
         ensures rest { WalksMut self.old (std_walk result) }

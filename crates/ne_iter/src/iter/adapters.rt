@@ -22,7 +22,9 @@ impl<U, I: IntoIterator, F: FnMut(I::Item) -> U> IntoIterator for Map<I, F> {
 
     type IntoIter = iter::Map<I::IntoIter, F>;
 
-    ghost into_iter_gives = { λ s it. I.into_iter_gives (source_of_map s) (map_source it) × (map_callee it ≡ closure_of_map s) × MapsRuns I.IntoIter.next_gives F.FnMut (closure_of_map s) (map_source it) it
+    ghost into_iter_gives = { λ s it. I.into_iter_gives (source_of_map s) (map_source it)
+        × (map_callee it ≡ closure_of_map s)
+        × MapsRuns I.IntoIter.next_gives F.FnMut (closure_of_map s) (map_source it) it
         × MapsList I.IntoIter.next_gives F.FnMut (closure_of_map s) (map_source it) it };
 
     fn into_iter(self) -> iter::Map<I::IntoIter, F> {
@@ -54,7 +56,9 @@ impl<I: IntoIterator> IntoIterator for Enumerate<I> {
 
     type IntoIter = iter::Enumerate<I::IntoIter>;
 
-    ghost into_iter_gives = { λ s it. I.into_iter_gives (source_of_enumerate s) (enumerate_source it) × (enumerate_count it ≡ 0) × EnumeratesRuns I.IntoIter.next_gives (enumerate_source it) it
+    ghost into_iter_gives = { λ s it.
+        I.into_iter_gives (source_of_enumerate s) (enumerate_source it) × (enumerate_count it ≡ 0)
+        × EnumeratesRuns I.IntoIter.next_gives (enumerate_source it) it
         × EnumeratesList I.IntoIter.next_gives (enumerate_source it) it };
 
     fn into_iter(self) -> iter::Enumerate<I::IntoIter> {
@@ -87,7 +91,9 @@ impl<I: IntoIterator> IntoIterator for Take<I> {
 
     type IntoIter = iter::Take<I::IntoIter>;
 
-    ghost into_iter_gives = { λ s it. I.into_iter_gives (source_of_take s) (take_source it) × (take_count it ≡ count_of_take s) × TakesRuns I.IntoIter.next_gives (count_of_take s) (take_source it) it
+    ghost into_iter_gives = { λ s it. I.into_iter_gives (source_of_take s) (take_source it)
+        × (take_count it ≡ count_of_take s)
+        × TakesRuns I.IntoIter.next_gives (count_of_take s) (take_source it) it
         × TakesList I.IntoIter.next_gives (count_of_take s) (take_source it) it };
 
     fn into_iter(self) -> iter::Take<I::IntoIter> {
@@ -121,8 +127,13 @@ impl<A: IntoIterator, B: IntoIterator<Item = A::Item>> IntoIterator for Chain<A,
 
     type IntoIter = iter::Chain<A::IntoIter, B::IntoIter>;
 
-    ghost into_iter_gives = { λ s it. A.into_iter_gives (first_of_chain s) (chain_first it) × B.into_iter_gives (second_of_chain s) (chain_second it) × (chain_first_done it ≡ false) × (chain_second_done it ≡ false) × ChainsRuns A.IntoIter.next_gives B.IntoIter.next_gives (chain_first it) (chain_second it) it
-        × ChainsLists A.IntoIter.next_gives B.IntoIter.next_gives (chain_first it) (chain_second it) it };
+    ghost into_iter_gives = { λ s it. A.into_iter_gives (first_of_chain s) (chain_first it)
+        × B.into_iter_gives (second_of_chain s) (chain_second it) × (chain_first_done it ≡ false)
+        × (chain_second_done it ≡ false)
+        × ChainsRuns A.IntoIter.next_gives B.IntoIter.next_gives
+        (chain_first it) (chain_second it) it
+        × ChainsLists A.IntoIter.next_gives B.IntoIter.next_gives
+        (chain_first it) (chain_second it) it };
 
     fn into_iter(self) -> iter::Chain<A::IntoIter, B::IntoIter> {
         self.a.into_iter().chain(self.b)
@@ -152,7 +163,8 @@ impl<T: Drop> IntoIterator for Once<T> {
 
     type IntoIter = iter::Once<T>;
 
-    ghost into_iter_gives = { λ s it. (once_item it ≡ Some (item_of_once s)) × OnceYieldsItsItem T };
+    ghost into_iter_gives = { λ s it. (once_item it ≡ Some (item_of_once s))
+        × OnceYieldsItsItem T };
 
     fn into_iter(self) -> iter::Once<T> {
         iter::once(self.item)
@@ -186,7 +198,9 @@ where
 
     type IntoIter = iter::Zip<A::IntoIter, B::IntoIter>;
 
-    ghost into_iter_gives = { λ s it. A.into_iter_gives (first_of_zip s) (zip_first it) × B.into_iter_gives (second_of_zip s) (zip_second it) × ZipsRuns A.IntoIter.next_gives B.IntoIter.next_gives (zip_first it) (zip_second it) it
+    ghost into_iter_gives = { λ s it. A.into_iter_gives (first_of_zip s) (zip_first it)
+        × B.into_iter_gives (second_of_zip s) (zip_second it)
+        × ZipsRuns A.IntoIter.next_gives B.IntoIter.next_gives (zip_first it) (zip_second it) it
         × ZipsLists A.IntoIter.next_gives B.IntoIter.next_gives (zip_first it) (zip_second it) it };
 
     fn into_iter(self) -> iter::Zip<A::IntoIter, B::IntoIter> {

@@ -24,7 +24,12 @@ impl<U: IntoNonEmptyIterator, I: IntoIterator, F: FnMut(I::Item) -> U> IntoItera
 
     type IntoIter = iter::FlatMap<I::IntoIter, U, F>;
 
-    ghost into_iter_gives = { λ s it. I.into_iter_gives (source_of_flat_map s) (map_source (flatten_source it)) × (map_callee (flatten_source it) ≡ closure_of_flat_map s) × (flatten_front it ≡ None) × (flatten_back it ≡ None) × (flatten_done it ≡ false) × FlatMapsRuns I.IntoIter.next_gives U.into_iter_gives U.IntoIter.next_gives F.FnMut (closure_of_flat_map s) (map_source (flatten_source it)) it };
+    ghost into_iter_gives = { λ s it.
+        I.into_iter_gives (source_of_flat_map s) (map_source (flatten_source it))
+        × (map_callee (flatten_source it) ≡ closure_of_flat_map s) × (flatten_front it ≡ None)
+        × (flatten_back it ≡ None) × (flatten_done it ≡ false)
+        × FlatMapsRuns I.IntoIter.next_gives U.into_iter_gives U.IntoIter.next_gives F.FnMut
+        (closure_of_flat_map s) (map_source (flatten_source it)) it };
 
     fn into_iter(self) -> iter::FlatMap<I::IntoIter, U, F> {
         self.iter.into_iter().flat_map(self.f)

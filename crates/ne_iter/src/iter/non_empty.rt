@@ -62,7 +62,9 @@ pub trait NonEmptyIterator: IntoIterator {
         ensures drawn { FirstAndRest Self.into_iter_gives Self.IntoIter.next_gives self (peekable_first result) (peekable_rest result) }
         ensures goes_on { (it : Self.IntoIter) × Self.into_iter_gives self it × MakesProgress Self.IntoIter.can_next Self.IntoIter.remaining it (Some (peekable_first result)) (peekable_rest result) }
         ensures gives { PeekableGives (⟦<Self as Source>⟧.reads) (⟦<Peekable<Self::IntoIter> as Source>⟧.reads) self result }
-        ensures runs { (it : Self.IntoIter) × Self.into_iter_gives self it × BeginsRuns Self.IntoIter.next_gives (peekable_first result) (peekable_rest result) it }
+        ensures runs { (it : Self.IntoIter) × Self.into_iter_gives self it
+            × BeginsRuns Self.IntoIter.next_gives (peekable_first result)
+            (peekable_rest result) it }
     {
         let (first, rest) = self.next();
         Peekable { first, rest }
@@ -75,7 +77,9 @@ pub trait NonEmptyIterator: IntoIterator {
         requires runs { ⟦<Self as Source>⟧.ends self }
         requires callable { (it : Self.IntoIter) → Self.into_iter_gives self it → CallableWhile Self.IntoIter.next_gives F.FnMut true it f }
         ensures gives { TellsAll (⟦<Self as Source>⟧.reads) F.FnMut self f result }
-        ensures runs { RunsSome Self.into_iter_gives Self.IntoIter.next_gives self (λ p. MatchBool result (IsTrue p.whole × AllItemsGive p F.FnMut f true) (AnyItemGives p F.FnMut f false)) }
+        ensures runs { RunsSome Self.into_iter_gives Self.IntoIter.next_gives self (λ p.
+            MatchBool result (IsTrue p.whole × AllItemsGive p F.FnMut f true)
+            (AnyItemGives p F.FnMut f false)) }
     {
         self.into_iter().all(f)
     }
@@ -87,7 +91,9 @@ pub trait NonEmptyIterator: IntoIterator {
         requires runs { ⟦<Self as Source>⟧.ends self }
         requires callable { (it : Self.IntoIter) → Self.into_iter_gives self it → CallableWhile Self.IntoIter.next_gives F.FnMut false it f }
         ensures gives { TellsAny (⟦<Self as Source>⟧.reads) F.FnMut self f result }
-        ensures runs { RunsSome Self.into_iter_gives Self.IntoIter.next_gives self (λ p. MatchBool result (AnyItemGives p F.FnMut f true) (IsTrue p.whole × AllItemsGive p F.FnMut f false)) }
+        ensures runs { RunsSome Self.into_iter_gives Self.IntoIter.next_gives self (λ p.
+            MatchBool result (AnyItemGives p F.FnMut f true)
+            (IsTrue p.whole × AllItemsGive p F.FnMut f false)) }
     {
         self.into_iter().any(f)
     }
@@ -126,8 +132,11 @@ pub trait NonEmptyIterator: IntoIterator {
     where
         Self: Sized,
         requires { ⟦<Self as Source>⟧.ends self }
-        ensures gives { IfOk result (λ c. (xs : List Self.Item) × ⟦<Self as Source>⟧.reads (B.is_complete c) self xs × B.collected xs c) }
-        ensures runs { IfOk result (λ c. RunsSome Self.into_iter_gives Self.IntoIter.next_gives self (λ p. (p.whole ≡ B.is_complete c) × B.collected p.items c)) }
+        ensures gives { IfOk result (λ c. (xs : List Self.Item)
+            × ⟦<Self as Source>⟧.reads (B.is_complete c) self xs × B.collected xs c) }
+        ensures runs { IfOk result (λ c.
+            RunsSome Self.into_iter_gives Self.IntoIter.next_gives self (λ p.
+            (p.whole ≡ B.is_complete c) × B.collected p.items c)) }
     {
         B::from_nonempty_iter(alloc, self)
     }
@@ -150,8 +159,10 @@ pub trait NonEmptyIterator: IntoIterator {
         Self: Sized,
         Self::Item: Drop,
         requires { (it : Self.IntoIter) → Self.into_iter_gives self it → Self.IntoIter.can_next it × IsFinite (Self.IntoIter.remaining it) × CountFits Self.IntoIter.next_gives Self.IntoIter.remaining 0 it }
-        ensures gives { (xs : List Self.Item) × ⟦<Self as Source>⟧.reads true self xs × (non_zero_usize_get result ≡ length xs) }
-        ensures runs { RunsWhole Self.into_iter_gives Self.IntoIter.next_gives self (λ p. non_zero_usize_get result ≡ p.len) }
+        ensures gives { (xs : List Self.Item) × ⟦<Self as Source>⟧.reads true self xs
+            × (non_zero_usize_get result ≡ length xs) }
+        ensures runs { RunsWhole Self.into_iter_gives Self.IntoIter.next_gives self (λ p.
+            non_zero_usize_get result ≡ p.len) }
     {
         match NonZeroUsize::new(self.into_iter().count()) {
             Some(n) => n,
@@ -179,7 +190,9 @@ pub trait NonEmptyIterator: IntoIterator {
         Self::Item: Drop,
         ensures holds { Self.into_iter_gives self (filter_source result) × (filter_callee result ≡ predicate) }
         ensures gives { FilterGives (⟦<Self as Source>⟧.reads) (⟦<iter::Filter<Self::IntoIter, P> as Source>⟧.reads) P.FnMut self predicate result }
-        ensures runs { (it : Self.IntoIter) × Self.into_iter_gives self it × EachRunFrom (filter_steps Self.IntoIter.next_gives P.FnMut) result (λ u. SomeRun Self.IntoIter.next_gives it (λ q. IsFilterRun u q P.FnMut predicate)) }
+        ensures runs { (it : Self.IntoIter) × Self.into_iter_gives self it
+            × EachRunFrom (filter_steps Self.IntoIter.next_gives P.FnMut) result (λ u.
+            SomeRun Self.IntoIter.next_gives it (λ q. IsFilterRun u q P.FnMut predicate)) }
     {
         self.into_iter().filter(predicate)
     }
@@ -193,7 +206,9 @@ pub trait NonEmptyIterator: IntoIterator {
         Self: Sized,
         ensures holds { Self.into_iter_gives self (filter_map_source result) × (filter_map_callee result ≡ f) }
         ensures gives { FilterMapGives (⟦<Self as Source>⟧.reads) (⟦<iter::FilterMap<Self::IntoIter, F> as Source>⟧.reads) F.FnMut self f result }
-        ensures runs { (it : Self.IntoIter) × Self.into_iter_gives self it × EachRunFrom (filter_map_steps Self.IntoIter.next_gives F.FnMut) result (λ p. SomeRun Self.IntoIter.next_gives it (λ q. IsFilterMapRun p q F.FnMut f)) }
+        ensures runs { (it : Self.IntoIter) × Self.into_iter_gives self it
+            × EachRunFrom (filter_map_steps Self.IntoIter.next_gives F.FnMut) result (λ p.
+            SomeRun Self.IntoIter.next_gives it (λ q. IsFilterMapRun p q F.FnMut f)) }
     {
         self.into_iter().filter_map(f)
     }
@@ -206,7 +221,9 @@ pub trait NonEmptyIterator: IntoIterator {
         requires runs { ⟦<Self as Source>⟧.ends self }
         requires callable { (it : Self.IntoIter) → Self.into_iter_gives self it → CallableWhileAt Self.IntoIter.next_gives P.FnMut false it predicate }
         ensures gives { FindsFirst (⟦<Self as Source>⟧.reads) P.FnMut self predicate result }
-        ensures runs { RunsSome Self.into_iter_gives Self.IntoIter.next_gives self (λ u. MatchOption result (IsTrue u.whole × NoItemPasses u P.FnMut predicate) (EndsAtFirstPassing u P.FnMut predicate)) }
+        ensures runs { RunsSome Self.into_iter_gives Self.IntoIter.next_gives self (λ u.
+            MatchOption result (IsTrue u.whole × NoItemPasses u P.FnMut predicate)
+            (EndsAtFirstPassing u P.FnMut predicate)) }
     {
         self.into_iter().find(predicate)
     }
@@ -255,7 +272,9 @@ pub trait NonEmptyIterator: IntoIterator {
         requires runs { ⟦<Self as Source>⟧.ends self }
         requires callable { (it : Self.IntoIter) → Self.into_iter_gives self it → CallableInFold Self.IntoIter.next_gives F.FnMut it f init }
         ensures gives { FoldsAll (⟦<Self as Source>⟧.reads) F.FnMut self f init result }
-        ensures runs { RunsWhole Self.into_iter_gives Self.IntoIter.next_gives self (λ p. (h : B → Self.Item → B) → ActsAsOnTwo F.FnMut f h → result ≡ list_fold h init p.items) }
+        ensures runs { RunsWhole Self.into_iter_gives Self.IntoIter.next_gives self (λ p.
+            (h : B → Self.Item → B) → ActsAsOnTwo F.FnMut f h
+            → result ≡ list_fold h init p.items) }
     {
         self.into_iter().fold(init, f)
     }
@@ -279,7 +298,8 @@ pub trait NonEmptyIterator: IntoIterator {
         Self: Sized,
         Self::Item: Drop,
         ensures holds { (source_of_group_by result ≡ self) × (closure_of_group_by result ≡ f) }
-        ensures ends { ⟦<Self as Source>⟧.ends self → F.IsAlwaysCallable f → ⟦<NEGroupBy<Self, F> as Source>⟧.ends result }
+        ensures ends { ⟦<Self as Source>⟧.ends self → F.IsAlwaysCallable f
+            → ⟦<NEGroupBy<Self, F> as Source>⟧.ends result }
         ensures gives { GroupByGives (⟦<Self as Source>⟧.reads) F.FnMut K.eq (⟦<NEGroupBy<Self, F> as Source>⟧.reads) self f result }
         ensures stops { GroupByStops (⟦<Self as Source>⟧.reads) F.FnMut K.eq (⟦<NEGroupBy<Self, F> as Source>⟧.reads) self f result }
     {
@@ -330,8 +350,11 @@ pub trait NonEmptyIterator: IntoIterator {
         Self: Sized,
         Self::Item: Ord + Drop,
         requires { ⟦<Self as Source>⟧.ends self }
-        ensures gives { (xs : List Self.Item) × ⟦<Self as Source>⟧.reads true self xs × IsFirstGreatest (less_by Self.Item.cmp) xs result }
-        ensures runs { RunsWhole Self.into_iter_gives Self.IntoIter.next_gives self (λ p. AnyItem p (λ x. x ≡ result) × AllItems p (λ x. less_by Self.Item.cmp result x ≡ false)) }
+        ensures gives { (xs : List Self.Item) × ⟦<Self as Source>⟧.reads true self xs
+            × IsFirstGreatest (less_by Self.Item.cmp) xs result }
+        ensures runs { RunsWhole Self.into_iter_gives Self.IntoIter.next_gives self (λ p.
+            AnyItem p (λ x. x ≡ result)
+            × AllItems p (λ x. less_by Self.Item.cmp result x ≡ false)) }
     {
         let (first, rest) = self.next();
         let mut best = first;
@@ -395,8 +418,11 @@ pub trait NonEmptyIterator: IntoIterator {
         Self: Sized,
         Self::Item: Ord + Drop,
         requires { ⟦<Self as Source>⟧.ends self }
-        ensures gives { (xs : List Self.Item) × ⟦<Self as Source>⟧.reads true self xs × IsFirstLeast (less_by Self.Item.cmp) xs result }
-        ensures runs { RunsWhole Self.into_iter_gives Self.IntoIter.next_gives self (λ p. AnyItem p (λ x. x ≡ result) × AllItems p (λ x. less_by Self.Item.cmp x result ≡ false)) }
+        ensures gives { (xs : List Self.Item) × ⟦<Self as Source>⟧.reads true self xs
+            × IsFirstLeast (less_by Self.Item.cmp) xs result }
+        ensures runs { RunsWhole Self.into_iter_gives Self.IntoIter.next_gives self (λ p.
+            AnyItem p (λ x. x ≡ result)
+            × AllItems p (λ x. less_by Self.Item.cmp x result ≡ false)) }
     {
         let (first, rest) = self.next();
         let mut best = first;
@@ -467,8 +493,14 @@ pub trait NonEmptyIterator: IntoIterator {
         Self::Item: Drop,
         requires runs { ⟦<Self as Source>⟧.ends self }
         requires callable { F.IsAlwaysCallable f }
-        ensures gives { IfOk result (λ ys. (xs : List Self.Item) × ⟦<Self as Source>⟧.reads true self xs × IsPermutation xs ys × IsSortedByKeyClosure F.FnMut K.cmp f ys × IsStableByKeyClosure F.FnMut K.cmp f xs ys) }
-        ensures runs { IfOk result (λ ys. RunsWhole Self.into_iter_gives Self.IntoIter.next_gives self (λ p. IsPermutation p.items ys × IsSortedByKeyClosure F.FnMut K.cmp f ys × IsStableByKeyClosure F.FnMut K.cmp f p.items ys)) }
+        ensures gives { IfOk result (λ ys. (xs : List Self.Item)
+            × ⟦<Self as Source>⟧.reads true self xs × IsPermutation xs ys
+            × IsSortedByKeyClosure F.FnMut K.cmp f ys
+            × IsStableByKeyClosure F.FnMut K.cmp f xs ys) }
+        ensures runs { IfOk result (λ ys.
+            RunsWhole Self.into_iter_gives Self.IntoIter.next_gives self (λ p.
+            IsPermutation p.items ys × IsSortedByKeyClosure F.FnMut K.cmp f ys
+            × IsStableByKeyClosure F.FnMut K.cmp f p.items ys)) }
     {
         let mut items: NEVec<Self::Item> = self.collect(alloc)?;
         items.sort_by_key(f)?;
@@ -482,7 +514,9 @@ pub trait NonEmptyIterator: IntoIterator {
         Self::Item: Drop,
         requires { ⟦<Self as Source>⟧.starts self }
         ensures gives { GivesNth (⟦<Self as Source>⟧.reads) self n result }
-        ensures runs { RunsSome Self.into_iter_gives Self.IntoIter.next_gives self (λ p. MatchOption result (IsTrue p.whole × (p.len ≤ n)) (λ x. (p.len ≡ n + 1) × (p.at n ≡ Some x))) }
+        ensures runs { RunsSome Self.into_iter_gives Self.IntoIter.next_gives self (λ p.
+            MatchOption result (IsTrue p.whole × (p.len ≤ n))
+            (λ x. (p.len ≡ n + 1) × (p.at n ≡ Some x))) }
     {
         self.into_iter().nth(n)
     }
@@ -523,7 +557,9 @@ pub trait NonEmptyIterator: IntoIterator {
         Self::Item: Drop,
         ensures holds { Self.into_iter_gives self (skip_source result) × (skip_count result ≡ n) }
         ensures gives { SkipGives (⟦<Self as Source>⟧.reads) (⟦<iter::Skip<Self::IntoIter> as Source>⟧.reads) n self result }
-        ensures runs { (it : Self.IntoIter) × Self.into_iter_gives self it × EachRunFrom (skip_steps Self.IntoIter.next_gives) result (λ p. SomeRun Self.IntoIter.next_gives it (λ q. IsSkipRun p q n)) }
+        ensures runs { (it : Self.IntoIter) × Self.into_iter_gives self it
+            × EachRunFrom (skip_steps Self.IntoIter.next_gives) result (λ p.
+            SomeRun Self.IntoIter.next_gives it (λ q. IsSkipRun p q n)) }
     {
         self.into_iter().skip(n)
     }
@@ -539,7 +575,9 @@ pub trait NonEmptyIterator: IntoIterator {
         Self::Item: Drop,
         ensures holds { Self.into_iter_gives self (skip_while_source result) × (skip_while_callee result ≡ pred) × (skip_while_done_skipping result ≡ false) }
         ensures gives { SkipWhileGives (⟦<Self as Source>⟧.reads) (⟦<iter::SkipWhile<Self::IntoIter, P> as Source>⟧.reads) P.FnMut self pred result }
-        ensures runs { (it : Self.IntoIter) × Self.into_iter_gives self it × EachRunFrom (skip_while_steps Self.IntoIter.next_gives P.FnMut) result (λ u. SomeRun Self.IntoIter.next_gives it (λ q. IsSkipWhileRun u q P.FnMut pred)) }
+        ensures runs { (it : Self.IntoIter) × Self.into_iter_gives self it
+            × EachRunFrom (skip_while_steps Self.IntoIter.next_gives P.FnMut) result (λ u.
+            SomeRun Self.IntoIter.next_gives it (λ q. IsSkipWhileRun u q P.FnMut pred)) }
     {
         self.into_iter().skip_while(pred)
     }
@@ -550,8 +588,12 @@ pub trait NonEmptyIterator: IntoIterator {
         Self: Sized,
         requires runs { ⟦<Self as Source>⟧.ends self }
         requires fits { (it : Self.IntoIter) → Self.into_iter_gives self it → EachRunFrom Self.IntoIter.next_gives it (λ p. S.can_sum p.items) }
-        ensures gives { (xs : List Self.Item) × (S.is_complete result → ⟦<Self as Source>⟧.reads true self xs) × S.sum_gives xs result }
-        ensures runs { (it : Self.IntoIter) × Self.into_iter_gives self it × (S.is_complete result → WholeRun Self.IntoIter.next_gives it (λ p. S.sum_gives p.items result)) }
+        ensures gives { (xs : List Self.Item)
+            × (S.is_complete result → ⟦<Self as Source>⟧.reads true self xs)
+            × S.sum_gives xs result }
+        ensures runs { (it : Self.IntoIter) × Self.into_iter_gives self it
+            × (S.is_complete result
+            → WholeRun Self.IntoIter.next_gives it (λ p. S.sum_gives p.items result)) }
     {
         self.into_iter().sum()
     }
@@ -577,7 +619,9 @@ pub trait NonEmptyIterator: IntoIterator {
         Self::Item: Drop,
         ensures holds { Self.into_iter_gives self (take_while_source result) × (take_while_callee result ≡ pred) × (take_while_done result ≡ false) }
         ensures gives { TakeWhileGives (⟦<Self as Source>⟧.reads) (⟦<iter::TakeWhile<Self::IntoIter, P> as Source>⟧.reads) P.FnMut self pred result }
-        ensures runs { (it : Self.IntoIter) × Self.into_iter_gives self it × EachRunFrom (take_while_steps Self.IntoIter.next_gives P.FnMut) result (λ u. SomeRun Self.IntoIter.next_gives it (λ q. IsTakeWhileRun u q P.FnMut pred)) }
+        ensures runs { (it : Self.IntoIter) × Self.into_iter_gives self it
+            × EachRunFrom (take_while_steps Self.IntoIter.next_gives P.FnMut) result (λ u.
+            SomeRun Self.IntoIter.next_gives it (λ q. IsTakeWhileRun u q P.FnMut pred)) }
     {
         self.into_iter().take_while(pred)
     }
@@ -588,8 +632,12 @@ pub trait NonEmptyIterator: IntoIterator {
         Self: Sized,
         requires runs { ⟦<Self as Source>⟧.ends self }
         requires fits { (it : Self.IntoIter) → Self.into_iter_gives self it → EachRunFrom Self.IntoIter.next_gives it (λ p. P.can_product p.items) }
-        ensures gives { (xs : List Self.Item) × (P.is_complete result → ⟦<Self as Source>⟧.reads true self xs) × P.product_gives xs result }
-        ensures runs { (it : Self.IntoIter) × Self.into_iter_gives self it × (P.is_complete result → WholeRun Self.IntoIter.next_gives it (λ p. P.product_gives p.items result)) }
+        ensures gives { (xs : List Self.Item)
+            × (P.is_complete result → ⟦<Self as Source>⟧.reads true self xs)
+            × P.product_gives xs result }
+        ensures runs { (it : Self.IntoIter) × Self.into_iter_gives self it
+            × (P.is_complete result
+            → WholeRun Self.IntoIter.next_gives it (λ p. P.product_gives p.items result)) }
     {
         self.into_iter().product()
     }
@@ -622,8 +670,14 @@ pub trait NonEmptyIterator: IntoIterator {
     where
         Self: Sized + IntoIterator<Item = (A, B)>,
         requires { ⟦<Self as Source>⟧.ends self }
-        ensures gives { IfOk result (λ r. (ps : List (A × B)) × ⟦<Self as Source>⟧.reads true self ps × FromA.collected (map (λ p. p.0) ps) r.0 × FromB.collected (map (λ p. p.1) ps) r.1) }
-        ensures runs { IfOk result (λ r. RunsWhole Self.into_iter_gives Self.IntoIter.next_gives self (λ p. FromA.collected (map (λ x. x.0) p.items) r.0 × FromB.collected (map (λ x. x.1) p.items) r.1 × IndexesMappedItems p (λ x. x.0) × IndexesMappedItems p (λ x. x.1))) }
+        ensures gives { IfOk result (λ r. (ps : List (A × B))
+            × ⟦<Self as Source>⟧.reads true self ps × FromA.collected (map (λ p. p.0) ps) r.0
+            × FromB.collected (map (λ p. p.1) ps) r.1) }
+        ensures runs { IfOk result (λ r.
+            RunsWhole Self.into_iter_gives Self.IntoIter.next_gives self (λ p.
+            FromA.collected (map (λ x. x.0) p.items) r.0
+            × FromB.collected (map (λ x. x.1) p.items) r.1
+            × IndexesMappedItems p (λ x. x.0) × IndexesMappedItems p (λ x. x.1))) }
     {
         let ((a, b), rest) = self.next();
         let mut firsts = FromA::singleton(alloc, a)?;
@@ -642,7 +696,8 @@ pub trait NonEmptyIterator: IntoIterator {
         requires runs { ⟦<Self as Source>⟧.ends self }
         requires callable { (it : Self.IntoIter) → Self.into_iter_gives self it → AfterFirst Self.IntoIter.next_gives it (λ x rest. CallableInFold Self.IntoIter.next_gives F.FnMut rest f x) }
         ensures gives { ReducesAll (⟦<Self as Source>⟧.reads) F.FnMut self f result }
-        ensures runs { RunsWhole Self.into_iter_gives Self.IntoIter.next_gives self (λ p. IsReduceRun p F.FnMut f result) }
+        ensures runs { RunsWhole Self.into_iter_gives Self.IntoIter.next_gives self (λ p.
+            IsReduceRun p F.FnMut f result) }
     {
         match self.into_iter().reduce(f) {
             Some(x) => x,

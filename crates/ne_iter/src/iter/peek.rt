@@ -50,7 +50,10 @@ where
 
     type IntoIter = iter::Chain<iter::Once<I::Item>, I>;
 
-    ghost into_iter_gives = { λ s it. (once_item (chain_first it) ≡ Some (peekable_first s)) × (chain_second it ≡ peekable_rest s) × (chain_first_done it ≡ false) × (chain_second_done it ≡ false) × OnceYieldsItsItem I.Item × ChainsRuns once_steps I.next_gives (chain_first it) (peekable_rest s) it };
+    ghost into_iter_gives = { λ s it. (once_item (chain_first it) ≡ Some (peekable_first s))
+        × (chain_second it ≡ peekable_rest s) × (chain_first_done it ≡ false)
+        × (chain_second_done it ≡ false) × OnceYieldsItsItem I.Item
+        × ChainsRuns once_steps I.next_gives (chain_first it) (peekable_rest s) it };
 
     fn into_iter(self) -> iter::Chain<iter::Once<I::Item>, I> {
         iter::once(self.first).chain(self.rest)

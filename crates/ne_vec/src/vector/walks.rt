@@ -1,5 +1,5 @@
 //! The walks over an [`NEVec`], which know that there is an item, and how a vector and they become std's.
-#![tactic(auto, using(crate::proofs::WalkRuns::iter_shows, crate::proofs::WalkRuns::iter_mut_shows, crate::proofs::WalkRuns::into_iter_lists, crate::specs::FrontLaws::marked))]
+#![tactic(auto, using(crate::proofs::WalkRuns::walks))]
 
 ghost use Rattle.std.specs.Prelude.{◌≡◌, ◌<◌, length, ⊤};
 ghost use Rattle.std.specs.Slice.Iter.{iter_mut_rest};
