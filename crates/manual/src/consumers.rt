@@ -2,6 +2,8 @@
 ghost use Rattle.std.specs.Prelude.{
   ◌≡◌,
   ◌/◌,
+  ◌+◌,
+  ◌++◌,
   ◌<◌,
   ◌≤◌,
   ◌^◌,
@@ -112,5 +114,53 @@ pub fn table(alloc: Global, items: NEVec<u32>) -> Result<BTreeMap<u32, u32>, All
     items
         .into_nonempty_iter()
         .map(|x| (x, x / 2))
+        .collect(alloc)
+}
+
+/// How many items two vectors have.
+pub fn how_many_of_both(items: NEVec<u32>, others: NEVec<u32>) -> NonZeroUsize
+    requires { length items + length others < 2 ^ 64 }
+    ensures { non_zero_usize_get result ≡ length items + length others }
+{
+    items.into_nonempty_iter().chain(others).count()
+}
+
+/// The sum of two vectors.
+pub fn sum_of_both(items: NEVec<u32>, others: NEVec<u32>) -> u32
+    requires { sum (items ++ others) < 2 ^ 32 }
+    ensures { result ≡ sum (items ++ others) }
+{
+    items.into_nonempty_iter().chain(others).sum()
+}
+
+/// The greatest item of two vectors.
+pub fn greatest_of_both(items: NEVec<u32>, others: NEVec<u32>) -> u32
+    ensures among { Contains (items ++ others) result }
+    ensures bound { All (λ x. x ≤ result) (items ++ others) }
+{
+    items.into_nonempty_iter().chain(others).max()
+}
+
+/// The first item.
+pub fn first_of(items: NEVec<u32>) -> u32
+    ensures { Contains items result }
+{
+    items.into_nonempty_iter().next().0
+}
+
+/// Whether an item is 3.
+pub fn any_three(items: NEVec<u32>) -> bool
+    ensures { IsTrue result → Contains items 3 }
+{
+    items.into_nonempty_iter().any(|x| x == 3)
+}
+
+/// The items, or the first that is 10 or more.
+pub fn checked(alloc: Global, items: NEVec<u32>) -> Result<Result<NEVec<u32>, u32>, AllocError>
+    ensures { IfOk result (λ r. IfOk r (λ v. length v ≡ length items)) }
+{
+    items
+        .into_nonempty_iter()
+        .map(|x| if x < 10 { Ok(x) } else { Err(x) })
         .collect(alloc)
 }

@@ -1,7 +1,7 @@
 //! Each kind of source, collected or used up.
 ghost use Rattle.std.specs.Prelude.{◌≡◌, ◌<◌, ◌^◌, sum, IfOk, [], ◌∷◌};
 
-use nonempty_collections::{IntoNonEmptyIterator, NESlice, NEVec, NonEmptyIterator, iter};
+use nonempty_collections::{IntoNonEmptyIterator, NESlice, NEVec, NonEmptyIterator, iter, nev};
 use std::alloc::{AllocError, Global};
 
 /// The items of a vector, by value.
@@ -38,4 +38,39 @@ pub fn of_one_item(alloc: Global, x: u32) -> Result<NEVec<u32>, AllocError>
     ensures { IfOk result (λ v. v ≡ x ∷ []) }
 {
     iter::once(x).collect(alloc)
+}
+
+/// The items of an array, by reference.
+pub fn of_an_array_reference(alloc: Global, items: &[u32; 3]) -> Result<NEVec<u32>, AllocError>
+    ensures { IfOk result (λ v. v ≡ items.now) }
+{
+    items.into_nonempty_iter().copied().collect(alloc)
+}
+
+/// The first item, and then the others.
+pub fn of_first_and_rest(alloc: Global, items: NEVec<u32>) -> Result<NEVec<u32>, AllocError>
+    ensures { IfOk result (λ v. v ≡ items) }
+{
+    let (first, rest) = items.into_nonempty_iter().next();
+    iter::once(first).chain(rest).collect(alloc)
+}
+
+/// A literal array through an adapter.
+pub fn of_a_literal(alloc: Global) -> Result<NEVec<u32>, AllocError>
+    ensures { IfOk result (λ v. v ≡ 1 ∷ 0 ∷ 1 ∷ []) }
+{
+    [3u32, 1, 2]
+        .into_nonempty_iter()
+        .map(|x| x / 2)
+        .collect(alloc)
+}
+
+/// A literal vector through an adapter.
+pub fn of_a_literal_vector(alloc: Global) -> Result<NEVec<u32>, AllocError>
+    ensures { IfOk result (λ v. v ≡ 1 ∷ 0 ∷ 1 ∷ []) }
+{
+    nev![alloc; 3, 1, 2]?
+        .into_nonempty_iter()
+        .map(|x| x / 2)
+        .collect(alloc)
 }

@@ -6,6 +6,7 @@ ghost use Rattle.std.specs.Prelude.{
   ◌<◌,
   ◌^◌,
   ◌++◌,
+  ◌∷◌,
   map,
   filter,
   sum,
@@ -17,7 +18,7 @@ ghost use Rattle.std.specs.Prelude.{
 ghost use Rattle.std.specs.List.{enumerate_from, zip};
 ghost use Rattle.std.specs.Int.NonZero.{non_zero_usize_get};
 
-use nonempty_collections::{IntoNonEmptyIterator, NEVec, NonEmptyIterator};
+use nonempty_collections::{IntoNonEmptyIterator, NEVec, NonEmptyIterator, iter};
 use std::alloc::{AllocError, Global};
 use std::num::NonZeroUsize;
 
@@ -113,5 +114,73 @@ pub fn thirds(alloc: Global, items: &NEVec<u32>, others: Vec<u32>) -> Result<NEV
         .map(|x| x / 2)
         .chain(others)
         .map(|x| x / 3)
+        .collect(alloc)
+}
+
+/// `map`, and then `take`.
+pub fn first_halves(
+    alloc: Global,
+    items: NEVec<u32>,
+    n: NonZeroUsize,
+) -> Result<NEVec<u32>, AllocError>
+    ensures { IfOk result (λ v. v ≡ take (non_zero_usize_get n) (map (λ x. x / 2) items)) }
+{
+    items
+        .into_nonempty_iter()
+        .map(|x| x / 2)
+        .take(n)
+        .collect(alloc)
+}
+
+/// `map` of references, and then `enumerate`.
+pub fn numbered_shown(alloc: Global, items: &NEVec<u32>) -> Result<NEVec<(usize, u32)>, AllocError>
+    ensures { IfOk result (λ v. v ≡ enumerate_from 0 (map (λ x. x / 2) items.now)) }
+{
+    items
+        .nonempty_iter()
+        .map(|x| *x / 2)
+        .enumerate()
+        .collect(alloc)
+}
+
+/// `chain`, and `chain` again.
+pub fn three_joined(
+    alloc: Global,
+    items: NEVec<u32>,
+    others: NEVec<u32>,
+    more: Vec<u32>,
+) -> Result<NEVec<u32>, AllocError>
+    ensures { IfOk result (λ v. v ≡ items ++ others ++ more.items) }
+{
+    items
+        .into_nonempty_iter()
+        .chain(others)
+        .chain(more)
+        .collect(alloc)
+}
+
+/// `once`, and then a `chain` with a `map` of references.
+pub fn item_and_halves(alloc: Global, x: u32, items: &NEVec<u32>) -> Result<NEVec<u32>, AllocError>
+    ensures { IfOk result (λ v. v ≡ x ∷ map (λ x. x / 2) items.now) }
+{
+    iter::once(x)
+        .chain(items.nonempty_iter().map(|x| *x / 2))
+        .collect(alloc)
+}
+
+/// `take`, `map` and `filter`.
+pub fn small_first_halves(
+    alloc: Global,
+    items: NEVec<u32>,
+    n: NonZeroUsize,
+) -> Result<Vec<u32>, AllocError>
+    ensures { IfOk result (λ v.
+        v.items ≡ filter (λ x. ltb x 10) (map (λ x. x / 2) (take (non_zero_usize_get n) items))) }
+{
+    items
+        .into_nonempty_iter()
+        .take(n)
+        .map(|x| x / 2)
+        .filter(|x| *x < 10)
         .collect(alloc)
 }
