@@ -20,3 +20,9 @@ pub mod Grouped
 pub mod Divided
 pub mod SliceDivisions
 pub mod Collects
+pub mod ListFronts
+pub mod FunctionCalls
+pub mod Extremes
+pub mod Unrefused
+pub mod RunLists
+pub mod FirstRuns

@@ -7,6 +7,7 @@ pub mod Calls
 pub mod Parts
 pub mod Scanned
 pub mod Interspersed
+pub mod Separated
 pub mod Gives
 pub mod Peeks
 pub mod PeekLends

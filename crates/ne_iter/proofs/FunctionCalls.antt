@@ -1,0 +1,62 @@
+-- What the calls of a closure answer, where it acts as a function.
+use Rattle.std.proofs.Common.{arith, sym, subst, ap}
+use Rattle.std.specs.Prelude.{Bool, false, zero, suc, ◌≡◌, List, [], ◌∷◌, map, refl}
+use Rattle.std.specs.Borrow.{Bor}
+use Rattle.std.specs.Fn.{Mut}
+use Rattle.std.specs.Iterator.{ActsAs, ActsAsAt, ActsAsOnTwo, FoldTurn}
+use Rattle.std.specs.List.{AllByRecursion, All, FoldsTo, fold}
+use Rattle.ne_iter.specs.Calls.{AnswersEach, AnswersEachAt, Folds, ShownEach}
+use Rattle.ne_iter.specs.Gives.{FailsFirst}
+use Rattle.ne_iter.specs.Keys.{items_of}
+use Rattle.ne_iter.proofs.ListFronts.{FailsTest}
+
+pub All-from_recursion : {A : Type 0} (P : A → Type 0) (xs : List A) → AllByRecursion P xs → All P xs
+All-from_recursion P [] h k d within = absurd (omega (arith, within))
+All-from_recursion P (x ∷ xs) h zero d within = h.0
+All-from_recursion P (x ∷ xs) h (suc k) d within =
+    All-from_recursion P xs h.1 k d (omega (arith, within))
+
+pub shown_values : {F A B : Type 0} (calls : Mut F (Bor A × Unit {0}) B) (f : F) (h : A → B)
+    (ps : List (A × B)) (g : F) → ActsAsAt calls f h → ShownEach calls f ps g
+    → (ps ≡ map (λ x. (x, h x)) (items_of ps)) × (g ≡ f)
+shown_values calls f h [] g acts e = (refl, sym e)
+shown_values calls f h ((x, y) ∷ ps) g acts (q, call, rest) =
+    let one = acts x y q call in
+    let more = shown_values calls f h ps g acts (subst (λ q. ShownEach calls q ps g) one.0 rest) in
+    (let a = one.1 in let b = more.0 in cc, more.1)
+
+pub same_answers : {F A B : Type 0} (calls : Mut F (A × Unit {0}) B) (f : F) (h : A → B) (y : B)
+    (xs : List A) (g : F) → ActsAs calls f h → AnswersEach calls y f xs g
+    → AllByRecursion (λ x. h x ≡ y) xs × (g ≡ f)
+same_answers calls f h y [] g acts e = (tt, sym e)
+same_answers calls f h y (x ∷ xs) g acts (q, call, rest) =
+    let one = acts x y q call in
+    let more = same_answers calls f h y xs g acts
+    (subst (λ q. AnswersEach calls y q xs g) one.0 rest) in
+    ((sym one.1, more.0), more.1)
+
+pub same_answers_at : {F A B : Type 0} (calls : Mut F (Bor A × Unit {0}) B) (f : F) (h : A → B)
+    (y : B) (xs : List A) (g : F) → ActsAsAt calls f h → AnswersEachAt calls y f xs g
+    → AllByRecursion (λ x. h x ≡ y) xs × (g ≡ f)
+same_answers_at calls f h y [] g acts e = (tt, sym e)
+same_answers_at calls f h y (x ∷ xs) g acts (q, call, rest) =
+    let one = acts x y q call in
+    let more = same_answers_at calls f h y xs g acts
+    (subst (λ q. AnswersEachAt calls y q xs g) one.0 rest) in
+    ((sym one.1, more.0), more.1)
+
+pub folded_value : {F A B : Type 0} (calls : Mut F (B × (A × Unit {0})) B) (f : F)
+    (h : B → A → B) (init r : B) (xs : List A) (g : F) → ActsAsOnTwo calls f h
+    → Folds calls f init xs r g → (r ≡ fold h init xs) × (g ≡ f)
+folded_value calls f h init r [] g acts e = (sym (ap (λ p. p.1) e), sym (ap (λ p. p.0) e))
+folded_value {F = F} {B = B} calls f h init r (x ∷ xs) g acts (q, call, rest) =
+    let one = acts init x q.1 q.0 call in
+    let from_f = subst (λ p. FoldsTo {P = F × B} (FoldTurn calls) (p, q.1) xs (g, r)) one.0 rest in
+    let from_next = subst (λ a. FoldsTo {P = F × B} (FoldTurn calls) (f, a) xs (g, r)) one.1 from_f in
+    folded_value calls f h (h init x) r xs g acts from_next
+
+-- a first item at which the answer may be false does not pass
+pub fails_test : {F A : Type 0} (calls : Mut F (Bor A × Unit {0}) Bool) (f : F) (test : A → Bool)
+    (ys : List A) → ActsAsAt calls f test → FailsFirst calls f ys → FailsTest test ys
+fails_test calls f test [] acts h = tt
+fails_test calls f test (y ∷ ys) acts (q, call) = sym (acts y false q call).1

@@ -1,0 +1,290 @@
+-- Fronts of lists: what a list function makes of the first items of a list stands at the front of
+-- what it makes of the list, and is all of that where they are all.
+use Rattle.std.proofs.Common.{arith, sym, ap, ap₂, ◌∙◌, append_assoc}
+use Rattle.std.proofs.lemmas.Bool.{lt-ltb, and_from, or_left, or_right}
+use Rattle.std.proofs.lemmas.List.{append-nil, map-append}
+use Rattle.std.proofs.lemmas.List.Elements.{filter-append, filter_map-append}
+use Rattle.std.proofs.lemmas.List.Sums.{take_while-cons}
+use Rattle.std.proofs.lemmas.Grind.{flat_map-append}
+use Rattle.std.specs.Prelude.{zero, suc, ◌≡◌, ℕ, ◌+◌, ◌-◌, ◌≤◌, ◌<◌, Bool, true, false, ◌||◌, ◌&&◌, ltb, cond, List, [], ◌∷◌, ◌++◌, length, take, drop, map, filter, zip, refl, ⊤, Option, IsTrue}
+use Rattle.std.specs.List.{AllByRecursion, cons_option, enumerate_from, filter_map, flat_map, prefix_len, scan, take_while}
+use Rattle.ne_vec.specs.Divisions.{joined}
+use Rattle.ne_iter.specs.Gives.{GivesList, ReadsEach}
+use Rattle.ne_iter.specs.Peeks.{with_head}
+use Rattle.ne_iter.specs.Separated.{separated}
+
+-- ys are the first of xs, and all of them where `whole` is true
+abbrev pub Fronts : {A : Type 0} → Bool → List A → List A → Type 0
+Fronts {A} whole xs ys = (more : List A) × (xs ≡ ys ++ more) × (whole ≡ true → more ≡ [])
+
+-- a front that is whole is the list
+pub whole_front : {A : Type 0} (xs ys : List A) → Fronts true xs ys → ys ≡ xs
+whole_front xs ys h = sym (h.1 ∙ ap (λ l. ys ++ l) (h.2 refl) ∙ append-nil ys)
+
+pub map_front : {A B : Type 0} (h : A → B) (whole : Bool) (xs us : List A)
+    → Fronts whole xs us → Fronts whole (map h xs) (map h us)
+map_front h whole xs us f = (
+  map h f.0,
+  ap (map h) f.1 ∙ map-append h us f.0,
+  λ w. ap (map h) (f.2 w),
+)
+
+pub filter_front : {A : Type 0} (test : A → Bool) (whole : Bool) (xs us : List A)
+    → Fronts whole xs us → Fronts whole (filter test xs) (filter test us)
+filter_front test whole xs us f = (
+  filter test f.0,
+  ap (filter test) f.1 ∙ filter-append test us f.0,
+  λ w. ap (filter test) (f.2 w),
+)
+
+pub filter_map_front : {A B : Type 0} (h : A → Option B) (whole : Bool) (xs us : List A)
+    → Fronts whole xs us → Fronts whole (filter_map h xs) (filter_map h us)
+filter_map_front h whole xs us f = (
+  filter_map h f.0,
+  ap (filter_map h) f.1 ∙ filter_map-append h us f.0,
+  λ w. ap (filter_map h) (f.2 w),
+)
+
+enumerate_append : {A : Type 0} (k : ℕ) (us more : List A)
+    → enumerate_from k (us ++ more) ≡ enumerate_from k us ++ enumerate_from (k + length us) more
+enumerate_append k [] more = let e : k ≡ k + 0 = omega arith in ap (λ n. enumerate_from n more) e
+enumerate_append k (u ∷ us) more =
+    let e : k + 1 + length us ≡ k + suc (length us) = omega arith in
+    ap (λ l. (k, u) ∷ l) (enumerate_append (k + 1) us more
+    ∙ ap (λ n. enumerate_from (k + 1) us ++ enumerate_from n more) e)
+
+pub enumerate_front : {A : Type 0} (whole : Bool) (xs us : List A)
+    → Fronts whole xs us → Fronts whole (enumerate_from 0 xs) (enumerate_from 0 us)
+enumerate_front whole xs us f = (
+  enumerate_from (0 + length us) f.0,
+  ap (enumerate_from 0) f.1 ∙ enumerate_append 0 us f.0,
+  λ w. ap (enumerate_from (0 + length us)) (f.2 w),
+)
+
+take_append : {A : Type 0} (n : ℕ) (ys more : List A) → length ys ≤ n
+    → take n (ys ++ more) ≡ ys ++ take (n - length ys) more
+take_append n [] more h = let e : n ≡ n - 0 = omega arith in ap (λ k. take k more) e
+take_append zero (y ∷ ys) more h = absurd (omega (arith, h))
+take_append (suc n) (y ∷ ys) more h =
+    let e : n - length ys ≡ suc n - suc (length ys) = omega arith in
+    ap (λ l. y ∷ l) (take_append n ys more (omega (arith, h)) ∙ ap (λ k. ys ++ take k more) e)
+
+take_nil : {A : Type 0} (k : ℕ) → take {A = A} k [] ≡ []
+take_nil zero = refl
+take_nil (suc k) = refl
+
+none_taken : {A : Type 0} (n len : ℕ) (whole : Bool) (more : List A) → len ≤ n
+    → ((whole && ltb len n) ≡ true → more ≡ []) → whole ≡ true → take (n - len) more ≡ []
+none_taken n len whole [] h all full = take_nil (n - len)
+none_taken n len whole (x ∷ more) h all full =
+    let tests = λ (less : len < n). all (and_from whole _ full (lt-ltb len n less)) in
+    let less : ¬ (len < n) = λ l. let e = tests l in cc in
+    let e : n - len ≡ 0 = omega (arith, less) in
+    ap (λ k. take k (x ∷ more)) e
+
+pub take_front : {A : Type 0} (n : ℕ) (whole : Bool) (xs us : List A) → length us ≤ n
+    → Fronts (whole && ltb (length us) n) xs us → Fronts whole (take n xs) us
+take_front n whole xs us short f = (
+  take (n - length us) f.0,
+  ap (take n) f.1 ∙ take_append n us f.0 short,
+  none_taken n (length us) whole f.0 short f.2,
+)
+
+-- the first list is read to its end before the second gives an item
+pub append_front : {A : Type 0} (whole : Bool) (xs ys us vs : List A)
+    → Fronts (whole || ltb 0 (length vs)) xs us → Fronts whole ys vs
+    → Fronts whole (xs ++ ys) (us ++ vs)
+append_front whole xs ys us [] f g = (
+  f.0 ++ g.0,
+  ap (λ l. l ++ ys) f.1 ∙ ap (λ l. (us ++ f.0) ++ l) g.1 ∙ append_assoc us f.0 g.0
+      ∙ ap (λ l. l ++ (f.0 ++ g.0)) (sym (append-nil us)),
+  λ w. ap (λ l. l ++ g.0) (f.2 (or_left whole false w)) ∙ g.2 w,
+)
+append_front whole xs ys us (v ∷ vs) f g =
+    let all = f.2 (or_right whole _ (lt-ltb 0 (length (v ∷ vs)) (omega arith))) in (
+      g.0,
+      ap (λ l. l ++ ys) (f.1 ∙ ap (λ l. us ++ l) all ∙ append-nil us)
+          ∙ ap (λ l. us ++ l) g.1 ∙ sym (append_assoc us (v ∷ vs) g.0),
+      g.2,
+    )
+
+zip_nil : {A B : Type 0} (xs : List A) → zip {X = B} xs [] ≡ []
+zip_nil [] = refl
+zip_nil (x ∷ xs) = refl
+
+zip_append : {A B : Type 0} (us : List A) (vs : List B) (more : List A) (rest : List B)
+    → length us ≡ length vs → zip (us ++ more) (vs ++ rest) ≡ zip us vs ++ zip more rest
+zip_append [] [] more rest e = refl
+zip_append [] (v ∷ vs) more rest e = absurd (omega (arith, e))
+zip_append (u ∷ us) [] more rest e = absurd (omega (arith, e))
+zip_append (u ∷ us) (v ∷ vs) more rest e =
+    ap (λ l. (u, v) ∷ l) (zip_append us vs more rest (omega (arith, e)))
+
+zip_ended : {A B : Type 0} (a b : Bool) (more : List A) (rest : List B)
+    → (a ≡ true → more ≡ []) → (b ≡ true → rest ≡ []) → (a || b) ≡ true → zip more rest ≡ []
+zip_ended true b more rest f g w = ap (λ l. zip l rest) (f refl)
+zip_ended false true more rest f g w = ap (zip more) (g refl) ∙ zip_nil more
+zip_ended false false more rest f g w = let w = w in cc
+
+pub zip_front : {A B : Type 0} (whole a b : Bool) (xs : List A) (ys : List B) (us : List A)
+    (vs : List B) → length us ≡ length vs → (whole ≡ true → IsTrue (a || b))
+    → Fronts a xs us → Fronts b ys vs → Fronts whole (zip xs ys) (zip us vs)
+zip_front whole a b xs ys us vs same ended f g = (
+  zip f.0 g.0,
+  ap₂ zip f.1 g.1 ∙ zip_append us vs f.0 g.0 same,
+  λ w. zip_ended a b f.0 g.0 f.2 g.2 (ended w),
+)
+
+-- lists given by sources, one after another
+pub joined_front : {U A : Type 0} (reads : Bool → U → List A → Type 0) (lists : U → List A)
+    → ((u : U) → GivesList reads u (lists u))
+    → (whole : Bool) (us : List U) (yss : List (List A)) → ReadsEach reads whole us yss
+    → Fronts whole (flat_map lists us) (joined yss)
+joined_front reads lists gives whole [] [] h = ([], refl, λ _. refl)
+joined_front reads lists gives whole [] (ys ∷ yss) h = absurd h
+joined_front reads lists gives whole (u ∷ us) [] h = absurd h
+joined_front reads lists gives whole (u ∷ []) (ys ∷ zs ∷ yss) h = absurd h.1
+joined_front reads lists gives whole (u ∷ []) (ys ∷ []) h =
+    let first = gives u _ ys h.0 in (
+      first.0,
+      append-nil (lists u) ∙ first.1 ∙ ap (λ l. l ++ first.0) (sym (append-nil ys)),
+      λ w. first.2 (or_left whole false w),
+    )
+joined_front reads lists gives whole (u ∷ v ∷ us) (ys ∷ yss) h =
+    let first = gives u _ ys h.0 in
+    let others = joined_front reads lists gives whole (v ∷ us) yss h.1 in
+    let ended = first.2 (or_right whole _ (lt-ltb 0 (length (v ∷ us)) (omega arith))) in
+    let all = first.1 ∙ ap (λ l. ys ++ l) ended ∙ append-nil ys in (
+      others.0,
+      ap (λ l. l ++ flat_map lists (v ∷ us)) all ∙ ap (λ l. ys ++ l) others.1
+          ∙ sym (append_assoc ys (joined yss) others.0),
+      others.2,
+    )
+
+-- the same, of the first sources of a list
+pub joined_fronts : {U A : Type 0} (reads : Bool → U → List A → Type 0) (lists : U → List A)
+    → ((u : U) → GivesList reads u (lists u))
+    → (whole : Bool) (all us : List U) (yss : List (List A)) → Fronts whole all us
+    → ReadsEach reads whole us yss → Fronts whole (flat_map lists all) (joined yss)
+joined_fronts reads lists gives whole all us yss f h =
+    let g = joined_front reads lists gives whole us yss h in (
+      g.0 ++ flat_map lists f.0,
+      ap (flat_map lists) f.1 ∙ flat_map-append lists us f.0
+          ∙ ap (λ l. l ++ flat_map lists f.0) g.1
+          ∙ append_assoc (joined yss) g.0 (flat_map lists f.0),
+      λ w. let a = g.2 w in let b = f.2 w in
+          ap (λ l. l ++ flat_map lists f.0) a ∙ ap (flat_map lists) b,
+    )
+
+pub scan_front : {S A B : Type 0} (next : S → A → S) (out : S → A → B) (init : S) (whole : Bool)
+    (us more : List A) → (whole ≡ true → more ≡ [])
+    → Fronts whole (scan next out init (us ++ more)) (scan next out init us)
+scan_front next out init whole [] more ended =
+    (scan next out init more, refl, λ w. ap (scan next out init) (ended w))
+scan_front next out init whole (u ∷ us) more ended =
+    let f = scan_front next out (next init u) whole us more ended in
+    (f.0, ap (λ l. out init u ∷ l) f.1, f.2)
+
+pub separated_front : {A : Type 0} (s : A) (us more : List A)
+    → (tail : List A) × (separated s (us ++ more) ≡ separated s us ++ tail)
+    × (more ≡ [] → tail ≡ [])
+separated_front s [] more = (separated s more, refl, λ e. ap (separated s) e)
+separated_front s (u ∷ []) [] = ([], refl, λ _. refl)
+separated_front s (u ∷ []) (x ∷ more) = (s ∷ separated s (x ∷ more), refl, λ e. let e = e in cc)
+separated_front s (u ∷ v ∷ us) more =
+    let f = separated_front s (v ∷ us) more in (f.0, ap (λ l. u ∷ s ∷ l) f.1, f.2)
+
+-- the first item, with another in its place
+pub head_front : {A : Type 0} (first w : A) (whole : Bool) (xs zs : List A)
+    → zs ≡ with_head w zs → Fronts whole xs (with_head first zs) → Fronts whole (with_head w xs) zs
+head_front first w whole xs [] same f =
+    (with_head w f.0, ap (with_head w) f.1, λ e. ap (with_head w) (f.2 e))
+head_front first w whole xs (z ∷ zs) same f =
+    (f.0, ap (with_head w) f.1 ∙ ap (λ l. l ++ f.0) (sym same), f.2)
+
+pub drop_front : {A : Type 0} (n : ℕ) (whole : Bool) (us more : List A)
+    → (whole ≡ true → more ≡ []) → Fronts whole (drop n (us ++ more)) (drop n us)
+drop_front zero whole us more ended = (more, refl, ended)
+drop_front (suc n) whole [] more ended = (drop (suc n) more, refl, λ w. ap (drop (suc n)) (ended w))
+drop_front (suc n) whole (u ∷ us) more ended = drop_front n whole us more ended
+
+-- the first of ys, if there is one, does not pass
+abbrev pub FailsTest : {A : Type 0} → (A → Bool) → List A → Type 0
+FailsTest test [] = ⊤
+FailsTest test (y ∷ ys) = test y ≡ false
+
+module _ {A : Type 0} (test : A → Bool) where
+  prefix_pass : (u : A) (l : List A) → test u ≡ true
+      → prefix_len test (u ∷ l) ≡ suc (prefix_len test l)
+  prefix_pass u l e =
+      let one : 1 + prefix_len test l ≡ suc (prefix_len test l) = omega arith in
+      ap (λ b. cond b (1 + prefix_len test l) 0) e ∙ one
+
+  -- items that pass are passed over
+  drop_passed : (us l : List A) → AllByRecursion (λ x. test x ≡ true) us
+      → drop (prefix_len test (us ++ l)) (us ++ l) ≡ drop (prefix_len test l) l
+  drop_passed [] l h = refl
+  drop_passed (u ∷ us) l h =
+      ap (λ n. drop n (u ∷ (us ++ l))) (prefix_pass u (us ++ l) h.0) ∙ drop_passed us l h.1
+
+  -- up to the first item that does not pass, if it came
+  pub drop_passed_front : (whole : Bool) (xs us ys : List A)
+      → AllByRecursion (λ x. test x ≡ true) us → FailsTest test ys
+      → Fronts whole xs (us ++ ys) → Fronts whole (drop (prefix_len test xs) xs) ys
+  drop_passed_front whole xs us [] h fails f =
+      let same = ap (λ l. drop (prefix_len test l) l)
+      (f.1 ∙ ap (λ l. l ++ f.0) (append-nil us)) ∙ drop_passed us f.0 h in
+      (drop (prefix_len test f.0) f.0, same, λ w. ap (λ l. drop (prefix_len test l) l) (f.2 w))
+  drop_passed_front whole xs us (y ∷ ys) h fails f =
+      let same = ap (λ l. drop (prefix_len test l) l)
+      (f.1 ∙ append_assoc us (y ∷ ys) f.0) ∙ drop_passed us ((y ∷ ys) ++ f.0) h in
+      let none = ap (λ b. cond b (1 + prefix_len test (ys ++ f.0)) 0) fails in
+      (f.0, same ∙ ap (λ n. drop n ((y ∷ ys) ++ f.0)) none, f.2)
+
+  take_passed : (us l : List A) → AllByRecursion (λ x. test x ≡ true) us
+      → take_while test (us ++ l) ≡ us ++ take_while test l
+  take_passed [] l h = refl
+  take_passed (u ∷ us) l h =
+      take_while-cons test u (us ++ l)
+      ∙ ap (λ b. cond b (u ∷ take_while test (us ++ l)) []) h.0
+      ∙ ap (λ l. u ∷ l) (take_passed us l h.1)
+
+  pub take_passed_front : (whole : Bool) (xs us : List A)
+      → AllByRecursion (λ x. test x ≡ true) us
+      → Fronts whole xs us → Fronts whole (take_while test xs) us
+  take_passed_front whole xs us h f = (
+    take_while test f.0,
+    ap (take_while test) f.1 ∙ take_passed us f.0 h,
+    λ w. ap (take_while test) (f.2 w),
+  )
+
+  -- an item x came that does not pass
+  pub take_passed_stopped : (whole : Bool) (xs us : List A) (x : A)
+      → AllByRecursion (λ x. test x ≡ true) us → test x ≡ false
+      → Fronts false xs (us ++ x ∷ []) → Fronts whole (take_while test xs) us
+  take_passed_stopped whole xs us x h fails f = (
+    [],
+    ap (take_while test) (f.1 ∙ append_assoc us (x ∷ []) f.0) ∙ take_passed us (x ∷ f.0) h
+        ∙ ap (λ l. us ++ l) (take_while-cons test x f.0
+        ∙ ap (λ b. cond b (x ∷ take_while test f.0) []) fails),
+    λ _. refl,
+  )
+
+  abbrev pub Kept : List A → Type 0
+  Kept us =
+      let ps : List (A × Bool) = map (λ x. (x, test x)) us in
+      map (λ (p : A × Bool). p.0) (filter (λ (p : A × Bool). p.1) ps) ≡ filter test us
+
+  kept : (u : A) (us : List A) (b : Bool) → test u ≡ b → Kept us → Kept (u ∷ us)
+  kept u us true e more = rw e (ap (λ l. u ∷ l) more)
+  kept u us false e more = rw e more
+
+  -- the items whose answer beside them is true
+  pub filter_answered : (us : List A) → Kept us
+  filter_answered [] = refl
+  filter_answered (u ∷ us) = kept u us (test u) refl (filter_answered us)
+
+pub filter_map_answered : {A B : Type 0} (h : A → Option B) (us : List A)
+    → filter_map (λ o. o) (map h us) ≡ filter_map h us
+filter_map_answered h [] = refl
+filter_map_answered h (u ∷ us) = ap (cons_option (h u)) (filter_map_answered h us)
