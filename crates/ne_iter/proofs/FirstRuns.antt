@@ -5,7 +5,7 @@ use Rattle.std.specs.Prelude.{◌≡◌, ◌≢◌, Bool, true, List, [], ◌∷
 use Rattle.ne_vec.specs.Divisions.{IsDivision}
 use Rattle.ne_iter.specs.Gives.{and_held}
 use Rattle.ne_iter.specs.Keys.{items_of}
-use Rattle.ne_iter.proofs.ListFronts.{Fronts}
+use Rattle.ne_iter.specs.Firsts.{AreFirst}
 use Rattle.ne_iter.proofs.Readers.{division_of_none}
 
 module _ {A : Type 0} (goes_on : List A → A → Bool)
@@ -16,7 +16,7 @@ module _ {A : Type 0} (goes_on : List A → A → Bool)
     → (rest : List (List A)) × (all ≡ rs ++ rest)) where
   -- the items of ps were drawn, of which one is held where the source has not ended
   module _ {K : Type 0} (xs : List A) (all rs : List (List A)) (divides : IsDivision goes_on xs all)
-      (ended : Bool) (ps : List (A × K)) (front : Fronts ended xs (items_of ps)) where
+      (ended : Bool) (ps : List (A × K)) (front : AreFirst ended xs (items_of ps)) where
     all_drawn : IsDivision goes_on (items_of ps) rs → ended ≡ true → all ≡ rs
     all_drawn drawn w =
         let same = front.1 ∙ ap (λ l. items_of ps ++ l) (front.2 w) ∙ append-nil (items_of ps) in
@@ -26,7 +26,7 @@ module _ {A : Type 0} (goes_on : List A → A → Bool)
         → IsDivision goes_on (items_of ps) (and_held rs held)
         → MatchOption held ((ended ≡ true) ⊎ (ps ≡ [])) (λ _. rs ≢ [])
         → (whole ≡ true → (ended ≡ true) × (held ≡ None))
-        → Fronts whole all rs
+        → AreFirst whole all rs
     first_of_all whole (Some x) drawn state over =
         let rest = longer (items_of ps) front.0 rs all (x ∷ []) drawn
         (subst (λ l. IsDivision goes_on l all) front.1 divides) in

@@ -10,7 +10,8 @@ use Rattle.ne_iter.specs.Gives.{FailsFirst}
 use Rattle.ne_iter.specs.Keys.{items_of}
 use Rattle.ne_iter.proofs.ListFronts.{FailsTest}
 
-pub All-from_recursion : {A : Type 0} (P : A → Type 0) (xs : List A) → AllByRecursion P xs → All P xs
+pub All-from_recursion : {A : Type 0} (P : A → Type 0) (xs : List A) → AllByRecursion P xs
+    → All P xs
 All-from_recursion P [] h k d within = absurd (omega (arith, within))
 All-from_recursion P (x ∷ xs) h zero d within = h.0
 All-from_recursion P (x ∷ xs) h (suc k) d within =
@@ -52,7 +53,8 @@ folded_value calls f h init r [] g acts e = (sym (ap (λ p. p.1) e), sym (ap (λ
 folded_value {F = F} {B = B} calls f h init r (x ∷ xs) g acts (q, call, rest) =
     let one = acts init x q.1 q.0 call in
     let from_f = subst (λ p. FoldsTo {P = F × B} (FoldTurn calls) (p, q.1) xs (g, r)) one.0 rest in
-    let from_next = subst (λ a. FoldsTo {P = F × B} (FoldTurn calls) (f, a) xs (g, r)) one.1 from_f in
+    let from_next = subst (λ a. FoldsTo {P = F × B} (FoldTurn calls) (f, a) xs (g, r)) one.1
+    from_f in
     folded_value calls f h (h init x) r xs g acts from_next
 
 -- a first item at which the answer may be false does not pass

@@ -9,20 +9,17 @@ use Rattle.std.proofs.lemmas.Grind.{flat_map-append}
 use Rattle.std.specs.Prelude.{zero, suc, ◌≡◌, ℕ, ◌+◌, ◌-◌, ◌≤◌, ◌<◌, Bool, true, false, ◌||◌, ◌&&◌, ltb, cond, List, [], ◌∷◌, ◌++◌, length, take, drop, map, filter, zip, refl, ⊤, Option, IsTrue}
 use Rattle.std.specs.List.{AllByRecursion, cons_option, enumerate_from, filter_map, flat_map, prefix_len, scan, take_while}
 use Rattle.ne_vec.specs.Divisions.{joined}
+use Rattle.ne_iter.specs.Firsts.{AreFirst}
 use Rattle.ne_iter.specs.Gives.{GivesList, ReadsEach}
 use Rattle.ne_iter.specs.Peeks.{with_head}
 use Rattle.ne_iter.specs.Separated.{separated}
 
--- ys are the first of xs, and all of them where `whole` is true
-abbrev pub Fronts : {A : Type 0} → Bool → List A → List A → Type 0
-Fronts {A} whole xs ys = (more : List A) × (xs ≡ ys ++ more) × (whole ≡ true → more ≡ [])
-
 -- a front that is whole is the list
-pub whole_front : {A : Type 0} (xs ys : List A) → Fronts true xs ys → ys ≡ xs
+pub whole_front : {A : Type 0} (xs ys : List A) → AreFirst true xs ys → ys ≡ xs
 whole_front xs ys h = sym (h.1 ∙ ap (λ l. ys ++ l) (h.2 refl) ∙ append-nil ys)
 
 pub map_front : {A B : Type 0} (h : A → B) (whole : Bool) (xs us : List A)
-    → Fronts whole xs us → Fronts whole (map h xs) (map h us)
+    → AreFirst whole xs us → AreFirst whole (map h xs) (map h us)
 map_front h whole xs us f = (
   map h f.0,
   ap (map h) f.1 ∙ map-append h us f.0,
@@ -30,7 +27,7 @@ map_front h whole xs us f = (
 )
 
 pub filter_front : {A : Type 0} (test : A → Bool) (whole : Bool) (xs us : List A)
-    → Fronts whole xs us → Fronts whole (filter test xs) (filter test us)
+    → AreFirst whole xs us → AreFirst whole (filter test xs) (filter test us)
 filter_front test whole xs us f = (
   filter test f.0,
   ap (filter test) f.1 ∙ filter-append test us f.0,
@@ -38,7 +35,7 @@ filter_front test whole xs us f = (
 )
 
 pub filter_map_front : {A B : Type 0} (h : A → Option B) (whole : Bool) (xs us : List A)
-    → Fronts whole xs us → Fronts whole (filter_map h xs) (filter_map h us)
+    → AreFirst whole xs us → AreFirst whole (filter_map h xs) (filter_map h us)
 filter_map_front h whole xs us f = (
   filter_map h f.0,
   ap (filter_map h) f.1 ∙ filter_map-append h us f.0,
@@ -54,7 +51,7 @@ enumerate_append k (u ∷ us) more =
     ∙ ap (λ n. enumerate_from (k + 1) us ++ enumerate_from n more) e)
 
 pub enumerate_front : {A : Type 0} (whole : Bool) (xs us : List A)
-    → Fronts whole xs us → Fronts whole (enumerate_from 0 xs) (enumerate_from 0 us)
+    → AreFirst whole xs us → AreFirst whole (enumerate_from 0 xs) (enumerate_from 0 us)
 enumerate_front whole xs us f = (
   enumerate_from (0 + length us) f.0,
   ap (enumerate_from 0) f.1 ∙ enumerate_append 0 us f.0,
@@ -83,7 +80,7 @@ none_taken n len whole (x ∷ more) h all full =
     ap (λ k. take k (x ∷ more)) e
 
 pub take_front : {A : Type 0} (n : ℕ) (whole : Bool) (xs us : List A) → length us ≤ n
-    → Fronts (whole && ltb (length us) n) xs us → Fronts whole (take n xs) us
+    → AreFirst (whole && ltb (length us) n) xs us → AreFirst whole (take n xs) us
 take_front n whole xs us short f = (
   take (n - length us) f.0,
   ap (take n) f.1 ∙ take_append n us f.0 short,
@@ -92,8 +89,8 @@ take_front n whole xs us short f = (
 
 -- the first list is read to its end before the second gives an item
 pub append_front : {A : Type 0} (whole : Bool) (xs ys us vs : List A)
-    → Fronts (whole || ltb 0 (length vs)) xs us → Fronts whole ys vs
-    → Fronts whole (xs ++ ys) (us ++ vs)
+    → AreFirst (whole || ltb 0 (length vs)) xs us → AreFirst whole ys vs
+    → AreFirst whole (xs ++ ys) (us ++ vs)
 append_front whole xs ys us [] f g = (
   f.0 ++ g.0,
   ap (λ l. l ++ ys) f.1 ∙ ap (λ l. (us ++ f.0) ++ l) g.1 ∙ append_assoc us f.0 g.0
@@ -128,7 +125,7 @@ zip_ended false false more rest f g w = let w = w in cc
 
 pub zip_front : {A B : Type 0} (whole a b : Bool) (xs : List A) (ys : List B) (us : List A)
     (vs : List B) → length us ≡ length vs → (whole ≡ true → IsTrue (a || b))
-    → Fronts a xs us → Fronts b ys vs → Fronts whole (zip xs ys) (zip us vs)
+    → AreFirst a xs us → AreFirst b ys vs → AreFirst whole (zip xs ys) (zip us vs)
 zip_front whole a b xs ys us vs same ended f g = (
   zip f.0 g.0,
   ap₂ zip f.1 g.1 ∙ zip_append us vs f.0 g.0 same,
@@ -139,7 +136,7 @@ zip_front whole a b xs ys us vs same ended f g = (
 pub joined_front : {U A : Type 0} (reads : Bool → U → List A → Type 0) (lists : U → List A)
     → ((u : U) → GivesList reads u (lists u))
     → (whole : Bool) (us : List U) (yss : List (List A)) → ReadsEach reads whole us yss
-    → Fronts whole (flat_map lists us) (joined yss)
+    → AreFirst whole (flat_map lists us) (joined yss)
 joined_front reads lists gives whole [] [] h = ([], refl, λ _. refl)
 joined_front reads lists gives whole [] (ys ∷ yss) h = absurd h
 joined_front reads lists gives whole (u ∷ us) [] h = absurd h
@@ -164,8 +161,8 @@ joined_front reads lists gives whole (u ∷ v ∷ us) (ys ∷ yss) h =
 -- the same, of the first sources of a list
 pub joined_fronts : {U A : Type 0} (reads : Bool → U → List A → Type 0) (lists : U → List A)
     → ((u : U) → GivesList reads u (lists u))
-    → (whole : Bool) (all us : List U) (yss : List (List A)) → Fronts whole all us
-    → ReadsEach reads whole us yss → Fronts whole (flat_map lists all) (joined yss)
+    → (whole : Bool) (all us : List U) (yss : List (List A)) → AreFirst whole all us
+    → ReadsEach reads whole us yss → AreFirst whole (flat_map lists all) (joined yss)
 joined_fronts reads lists gives whole all us yss f h =
     let g = joined_front reads lists gives whole us yss h in (
       g.0 ++ flat_map lists f.0,
@@ -178,7 +175,7 @@ joined_fronts reads lists gives whole all us yss f h =
 
 pub scan_front : {S A B : Type 0} (next : S → A → S) (out : S → A → B) (init : S) (whole : Bool)
     (us more : List A) → (whole ≡ true → more ≡ [])
-    → Fronts whole (scan next out init (us ++ more)) (scan next out init us)
+    → AreFirst whole (scan next out init (us ++ more)) (scan next out init us)
 scan_front next out init whole [] more ended =
     (scan next out init more, refl, λ w. ap (scan next out init) (ended w))
 scan_front next out init whole (u ∷ us) more ended =
@@ -196,14 +193,15 @@ separated_front s (u ∷ v ∷ us) more =
 
 -- the first item, with another in its place
 pub head_front : {A : Type 0} (first w : A) (whole : Bool) (xs zs : List A)
-    → zs ≡ with_head w zs → Fronts whole xs (with_head first zs) → Fronts whole (with_head w xs) zs
+    → zs ≡ with_head w zs → AreFirst whole xs (with_head first zs)
+    → AreFirst whole (with_head w xs) zs
 head_front first w whole xs [] same f =
     (with_head w f.0, ap (with_head w) f.1, λ e. ap (with_head w) (f.2 e))
 head_front first w whole xs (z ∷ zs) same f =
     (f.0, ap (with_head w) f.1 ∙ ap (λ l. l ++ f.0) (sym same), f.2)
 
 pub drop_front : {A : Type 0} (n : ℕ) (whole : Bool) (us more : List A)
-    → (whole ≡ true → more ≡ []) → Fronts whole (drop n (us ++ more)) (drop n us)
+    → (whole ≡ true → more ≡ []) → AreFirst whole (drop n (us ++ more)) (drop n us)
 drop_front zero whole us more ended = (more, refl, ended)
 drop_front (suc n) whole [] more ended = (drop (suc n) more, refl, λ w. ap (drop (suc n)) (ended w))
 drop_front (suc n) whole (u ∷ us) more ended = drop_front n whole us more ended
@@ -230,7 +228,7 @@ module _ {A : Type 0} (test : A → Bool) where
   -- up to the first item that does not pass, if it came
   pub drop_passed_front : (whole : Bool) (xs us ys : List A)
       → AllByRecursion (λ x. test x ≡ true) us → FailsTest test ys
-      → Fronts whole xs (us ++ ys) → Fronts whole (drop (prefix_len test xs) xs) ys
+      → AreFirst whole xs (us ++ ys) → AreFirst whole (drop (prefix_len test xs) xs) ys
   drop_passed_front whole xs us [] h fails f =
       let same = ap (λ l. drop (prefix_len test l) l)
       (f.1 ∙ ap (λ l. l ++ f.0) (append-nil us)) ∙ drop_passed us f.0 h in
@@ -251,7 +249,7 @@ module _ {A : Type 0} (test : A → Bool) where
 
   pub take_passed_front : (whole : Bool) (xs us : List A)
       → AllByRecursion (λ x. test x ≡ true) us
-      → Fronts whole xs us → Fronts whole (take_while test xs) us
+      → AreFirst whole xs us → AreFirst whole (take_while test xs) us
   take_passed_front whole xs us h f = (
     take_while test f.0,
     ap (take_while test) f.1 ∙ take_passed us f.0 h,
@@ -261,7 +259,7 @@ module _ {A : Type 0} (test : A → Bool) where
   -- an item x came that does not pass
   pub take_passed_stopped : (whole : Bool) (xs us : List A) (x : A)
       → AllByRecursion (λ x. test x ≡ true) us → test x ≡ false
-      → Fronts false xs (us ++ x ∷ []) → Fronts whole (take_while test xs) us
+      → AreFirst false xs (us ++ x ∷ []) → AreFirst whole (take_while test xs) us
   take_passed_stopped whole xs us x h fails f = (
     [],
     ap (take_while test) (f.1 ∙ append_assoc us (x ∷ []) f.0) ∙ take_passed us (x ∷ f.0) h

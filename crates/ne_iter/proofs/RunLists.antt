@@ -6,7 +6,7 @@ use Rattle.std.specs.Option.{option_map}
 use Rattle.std.specs.Iterator.{DrainsIf}
 use Rattle.std.specs.Iterator.Runs.{Run, Trigger, YieldsRun}
 use Rattle.ne_vec.specs.Fronts.{IsFront, Lists}
-use Rattle.ne_iter.proofs.ListFronts.{Fronts}
+use Rattle.ne_iter.specs.Firsts.{AreFirst}
 
 module _ {S A : Type 0} (steps : S → Option A → S → Type 0) where
   run_drains : (p : Run steps) → DrainsIf steps (p.whole ≡ true) p.from p.items
@@ -38,14 +38,14 @@ module _ {S A : Type 0} (steps : S → Option A → S → Type 0) where
   }
 
   pub Lists-from_fronts : (it : S) (xs : List A)
-      → ((whole : Bool) (ys : List A) → DrainsIf steps (whole ≡ true) it ys → Fronts whole xs ys)
+      → ((whole : Bool) (ys : List A) → DrainsIf steps (whole ≡ true) it ys → AreFirst whole xs ys)
       → Lists steps it xs
   unfolding Lists IsFront
   Lists-from_fronts it xs fronts p _ from = fronts p.whole p.items
       (subst (λ s. DrainsIf steps (p.whole ≡ true) s p.items) from (run_drains p))
 
   pub fronts-from_Lists : (it : S) (xs : List A) → Lists steps it xs
-      → (whole : Bool) (ys : List A) → DrainsIf steps (whole ≡ true) it ys → Fronts whole xs ys
+      → (whole : Bool) (ys : List A) → DrainsIf steps (whole ≡ true) it ys → AreFirst whole xs ys
   unfolding Lists IsFront run_of
   fronts-from_Lists it xs lists whole ys given =
       lists (run_of it whole ys given) (seen (length ys)) refl

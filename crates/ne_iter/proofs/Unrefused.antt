@@ -1,14 +1,15 @@
 -- What is cloned where no clone can be refused and each equals its original.
-use Rattle.std.proofs.Common.{rules, sym, ap, subst, ◌∙◌, append_assoc}
+use Rattle.std.proofs.Common.{sym, ap, subst, ◌∙◌, append_assoc}
 use Rattle.std.proofs.lemmas.Bool.{and_from}
-use Rattle.std.proofs.lemmas.List.{append-nil, map-append}
+use Rattle.std.proofs.lemmas.List.{map-append}
 use Rattle.std.specs.Prelude.{◌≡◌, Bool, true, ◌&&◌, List, [], ◌∷◌, ◌++◌, Result, Ok, Err, MatchResult, is_ok, map, refl}
 use Rattle.std.specs.Borrow.{Bor}
 use Rattle.std.specs.List.{AllZip, list_all}
 use Rattle.ne_iter.specs.Clones.{TriesClone}
 use Rattle.ne_iter.specs.Interspersed.{Interspersed}
 use Rattle.ne_iter.specs.Separated.{separated}
-use Rattle.ne_iter.proofs.ListFronts.{Fronts, separated_front}
+use Rattle.ne_iter.specs.Firsts.{AreFirst}
+use Rattle.ne_iter.proofs.ListFronts.{separated_front}
 
 module _ {T E : Type 0} (clones : T → T → Type 0) (infallible : T → Type 0) where
   pub only_ok : (x : T) → infallible x → ((y : T) → clones x y → y ≡ x)
@@ -45,15 +46,16 @@ module _ {T E : Type 0} (came : Result T E → Type 0) (s : T)
   spaced (x ∷ y ∷ xs) zs h =
       let clone = only h.0 h.2 in
       let others = spaced (y ∷ xs) h.1
-      (subst (λ c. MatchResult c (λ _. Interspersed came (y ∷ xs) h.1) (λ _. h.1 ≡ [])) clone h.4) in
+      (subst (λ c. MatchResult c (λ _. Interspersed came (y ∷ xs) h.1) (λ _. h.1 ≡ []))
+      clone h.4) in
       let whole = h.3 in
       cc
 
   -- what came so far stands at the front of the whole
   pub spaced_front : (whole : Bool) (xs us : List T) (more zs : List (Result T E))
       → Interspersed came us (zs ++ more) → (whole ≡ true → more ≡ [])
-      → Fronts (whole && list_all is_ok zs) xs us
-      → Fronts whole (map Ok (separated s xs)) zs
+      → AreFirst (whole && list_all is_ok zs) xs us
+      → AreFirst whole (map Ok (separated s xs)) zs
   spaced_front whole xs us more zs spread ended f =
       let all = spaced us (zs ++ more) spread in
       let tail = separated_front s us f.0 in (

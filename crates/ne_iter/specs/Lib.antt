@@ -8,6 +8,7 @@ pub mod Parts
 pub mod Scanned
 pub mod Interspersed
 pub mod Separated
+pub mod Firsts
 pub mod Gives
 pub mod Peeks
 pub mod PeekLends

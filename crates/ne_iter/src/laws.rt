@@ -9,6 +9,7 @@ mod closures;
 mod collected;
 mod ends;
 mod extremes;
+mod firsts;
 mod readers;
 mod selections;
 mod sources;
@@ -23,7 +24,9 @@ pub use closures::{
     answers_of_a_function, calls_of_a_function, folds_of_a_function, keys_of_a_function,
     scans_of_a_function,
 };
-pub use collected::{interspersed_lists_have_their_places, results_make_a_vector};
+pub use collected::{
+    interspersed_lists_have_their_places, results_are_read_whole, results_make_a_vector,
+};
 pub use ends::{
     chain_ends, cloned_ends, copied_ends, enumerate_ends, flat_map_ends, flatten_ends,
     group_by_ends, map_ends, once_ends, peekable_ends, scan_ends, take_ends, zip_ends,
@@ -32,6 +35,7 @@ pub use extremes::{
     first_extremes_are_extremes, first_greatest_is_the_greatest_number,
     first_least_is_the_least_number, numbers_have_one_greatest, numbers_have_one_least,
 };
+pub use firsts::first_items_stay_first;
 pub use readers::{
     readers_stand_at_any_moment, runs_by_a_function, runs_make_the_whole,
     stopped_reader_has_the_first_runs, whole_reading_gives_the_division,
@@ -40,9 +44,10 @@ pub use selections::{
     list_of_filter, list_of_filter_map, list_of_skip, list_of_skip_while, list_of_take_while,
 };
 pub use sources::{
-    arrays_give_their_items, chunks_give_themselves, lists_are_read_whole, lists_of_iterators,
-    lists_stay_the_same, looked_sources_give_their_list, no_list_becomes_empty, no_list_is_empty,
-    once_gives_its_item, slice_runs_are_the_division, slices_show_their_items,
-    sources_give_what_is_left, sources_show_what_is_left, std_vectors_give_their_items,
-    vectors_give_their_items, writing_walks_show_their_items,
+    arrays_give_their_items, chunks_give_themselves, lists_are_read_whole,
+    lists_follow_one_another, lists_of_iterators, lists_stay_the_same,
+    looked_sources_give_their_list, no_list_becomes_empty, no_list_is_empty, once_gives_its_item,
+    slice_runs_are_the_division, slices_show_their_items, sources_give_what_is_left,
+    sources_show_what_is_left, std_vectors_give_their_items, vectors_give_their_items,
+    writing_walks_show_their_items,
 };

@@ -1,4 +1,7 @@
 //! What each adapter gives where its source gives a list, by the adapter's clause `gives`.
+//!
+//! Each law takes the source, and the closure, by reference, since their types may have no name:
+//! `list_of_map(&source, &f)` and then `source.map(f)`.
 ghost use Rattle.std.specs.Prelude.{◌≡◌, ◌++◌, [], ℕ, Bool, true, List, Option, Result, Ok, length, map, take};
 ghost use Rattle.std.specs.Borrow.{Bor};
 ghost use Rattle.std.specs.Iterator.{ActsAs, ActsAsAt};
@@ -19,78 +22,79 @@ use std::alloc::AllocError;
 
 /// `map` gives the function's values at the items of its source, in order, where its closure acts
 /// as a function.
-pub fn list_of_map<S: IntoIterator, B, F: FnMut(S::Item) -> B>(f: &F)
-    ensures { (source : S) (mapped : _) (h : S.Item → B) (xs : List S.Item)
+pub fn list_of_map<S: IntoIterator, B, F: FnMut(S::Item) -> B>(source: &S, f: &F)
+    ensures { (mapped : _) (h : S.Item → B) (xs : List S.Item)
         → MapGives (⟦<S as Source>⟧.reads) (⟦<Map<S, F> as Source>⟧.reads) F.FnMut
-        source f.now mapped
-        → ActsAs F.FnMut f.now h → GivesList (⟦<S as Source>⟧.reads) source xs
+        source.now f.now mapped
+        → ActsAs F.FnMut f.now h → GivesList (⟦<S as Source>⟧.reads) source.now xs
         → GivesList (⟦<Map<S, F> as Source>⟧.reads) mapped (map h xs) }
 {}
 
 /// `map` over references gives the function's values at what they show, in order, where its
 /// closure acts as a function of that.
 pub fn list_of_map_of_references<'a, T: 'a, S: IntoIterator<Item = &'a T>, B, F: FnMut(&'a T) -> B>(
+    source: &S,
     f: &F,
 )
-    ensures { (source : S) (mapped : _) (h : T → B) (xs : List T)
+    ensures { (mapped : _) (h : T → B) (xs : List T)
         → MapGives (⟦<S as Source>⟧.reads) (⟦<Map<S, F> as Source>⟧.reads) F.FnMut
-        source f.now mapped
-        → ActsAs F.FnMut f.now (λ x. h x.now) → ShowsList (⟦<S as Source>⟧.reads) source xs
+        source.now f.now mapped
+        → ActsAs F.FnMut f.now (λ x. h x.now) → ShowsList (⟦<S as Source>⟧.reads) source.now xs
         → GivesList (⟦<Map<S, F> as Source>⟧.reads) mapped (map h xs) }
 {}
 
 /// `copied` gives what the references of its source show, in order.
-pub fn list_of_copied<'a, T: Copy + 'a, S: IntoIterator<Item = &'a T>>()
-    ensures { (source : S) (copied : _) (xs : List T)
-        → CopiedGives (⟦<S as Source>⟧.reads) (⟦<Copied<S> as Source>⟧.reads) source copied
-        → ShowsList (⟦<S as Source>⟧.reads) source xs
+pub fn list_of_copied<'a, T: Copy + 'a, S: IntoIterator<Item = &'a T>>(source: &S)
+    ensures { (copied : _) (xs : List T)
+        → CopiedGives (⟦<S as Source>⟧.reads) (⟦<Copied<S> as Source>⟧.reads) source.now copied
+        → ShowsList (⟦<S as Source>⟧.reads) source.now xs
         → GivesList (⟦<Copied<S> as Source>⟧.reads) copied xs }
 {}
 
 /// `cloned` gives what the references of its source show, each in `Ok`, where no clone can be
 /// refused and each equals its original.
-pub fn list_of_cloned<'a, T: Clone + 'a, S: IntoIterator<Item = &'a T>>()
-    ensures { (source : S) (cloned : _) (xs : List T)
+pub fn list_of_cloned<'a, T: Clone + 'a, S: IntoIterator<Item = &'a T>>(source: &S)
+    ensures { (cloned : _) (xs : List T)
         → ClonedGives (⟦<S as Source>⟧.reads) (TriesClone T.is_clone T.is_infallible)
-        (⟦<Cloned<S> as Source>⟧.reads) source cloned
+        (⟦<Cloned<S> as Source>⟧.reads) source.now cloned
         → ((x : T) → T.is_infallible x) → ((x y : T) → T.is_clone x y → y ≡ x)
-        → ShowsList (⟦<S as Source>⟧.reads) source xs
+        → ShowsList (⟦<S as Source>⟧.reads) source.now xs
         → GivesList (⟦<Cloned<S> as Source>⟧.reads) cloned (map Ok xs) }
 {}
 
 /// `enumerate` gives each item of its source with its place before it, from 0.
-pub fn list_of_enumerate<S: IntoIterator>()
-    ensures { (source : S) (numbered : _) (xs : List S.Item)
+pub fn list_of_enumerate<S: IntoIterator>(source: &S)
+    ensures { (numbered : _) (xs : List S.Item)
         → EnumerateGives (⟦<S as Source>⟧.reads) (⟦<Enumerate<S> as Source>⟧.reads)
-        source numbered
-        → GivesList (⟦<S as Source>⟧.reads) source xs
+        source.now numbered
+        → GivesList (⟦<S as Source>⟧.reads) source.now xs
         → GivesList (⟦<Enumerate<S> as Source>⟧.reads) numbered (enumerate_from 0 xs) }
 {}
 
 /// `take` gives the first `n` items of its source, or all where there are no more.
-pub fn list_of_take<S: IntoIterator>()
-    ensures { (source : S) (taken : _) (n : ℕ) (xs : List S.Item)
-        → TakeGives (⟦<S as Source>⟧.reads) (⟦<Take<S> as Source>⟧.reads) n source taken
-        → GivesList (⟦<S as Source>⟧.reads) source xs
+pub fn list_of_take<S: IntoIterator>(source: &S)
+    ensures { (taken : _) (n : ℕ) (xs : List S.Item)
+        → TakeGives (⟦<S as Source>⟧.reads) (⟦<Take<S> as Source>⟧.reads) n source.now taken
+        → GivesList (⟦<S as Source>⟧.reads) source.now xs
         → GivesList (⟦<Take<S> as Source>⟧.reads) taken (take n xs) }
 {}
 
 /// `take` over references shows the first `n` items that its source shows.
-pub fn list_of_take_of_references<'a, T: 'a, S: IntoIterator<Item = &'a T>>()
-    ensures { (source : S) (taken : _) (n : ℕ) (xs : List T)
-        → TakeGives (⟦<S as Source>⟧.reads) (⟦<Take<S> as Source>⟧.reads) n source taken
-        → ShowsList (⟦<S as Source>⟧.reads) source xs
+pub fn list_of_take_of_references<'a, T: 'a, S: IntoIterator<Item = &'a T>>(source: &S)
+    ensures { (taken : _) (n : ℕ) (xs : List T)
+        → TakeGives (⟦<S as Source>⟧.reads) (⟦<Take<S> as Source>⟧.reads) n source.now taken
+        → ShowsList (⟦<S as Source>⟧.reads) source.now xs
         → ShowsList (⟦<Take<S> as Source>⟧.reads) taken (take n xs) }
 {}
 
 /// `chain` gives the items of its first source, and then those of the second, which may be one of
 /// std's.
-pub fn list_of_chain<S: IntoIterator, U: IntoIterator<Item = S::Item>>()
-    ensures { (source : S) (other : U) (chained : _) (xs ys : List S.Item)
+pub fn list_of_chain<S: IntoIterator, U: IntoIterator<Item = S::Item>>(source: &S, other: &U)
+    ensures { (chained : _) (xs ys : List S.Item)
         → ChainGives (⟦<S as Source>⟧.reads) (⟦<U as Source>⟧.reads)
-        (⟦<Chain<S, U> as Source>⟧.reads) source other chained
-        → GivesList (⟦<S as Source>⟧.reads) source xs
-        → GivesList (⟦<U as Source>⟧.reads) other ys
+        (⟦<Chain<S, U> as Source>⟧.reads) source.now other.now chained
+        → GivesList (⟦<S as Source>⟧.reads) source.now xs
+        → GivesList (⟦<U as Source>⟧.reads) other.now ys
         → GivesList (⟦<Chain<S, U> as Source>⟧.reads) chained (xs ++ ys) }
 {}
 
@@ -100,77 +104,83 @@ pub fn list_of_chain_of_references<
     T: 'a,
     S: IntoIterator<Item = &'a T>,
     U: IntoIterator<Item = &'a T>,
->()
-    ensures { (source : S) (other : U) (chained : _) (xs ys : List T)
+>(source: &S, other: &U)
+    ensures { (chained : _) (xs ys : List T)
         → ChainGives (⟦<S as Source>⟧.reads) (⟦<U as Source>⟧.reads)
-        (⟦<Chain<S, U> as Source>⟧.reads) source other chained
-        → ShowsList (⟦<S as Source>⟧.reads) source xs
-        → ShowsList (⟦<U as Source>⟧.reads) other ys
+        (⟦<Chain<S, U> as Source>⟧.reads) source.now other.now chained
+        → ShowsList (⟦<S as Source>⟧.reads) source.now xs
+        → ShowsList (⟦<U as Source>⟧.reads) other.now ys
         → ShowsList (⟦<Chain<S, U> as Source>⟧.reads) chained (xs ++ ys) }
 {}
 
 /// `zip` gives pairs of an item of each source, as many as the shorter one has.
-pub fn list_of_zip<S: IntoIterator, U: IntoNonEmptyIterator>()
+pub fn list_of_zip<S: IntoIterator, U: IntoNonEmptyIterator>(source: &S, other: &U)
 where
     S::Item: Drop,
-    ensures { (source : S) (other : U) (zipped : _) (xs : List S.Item) (ys : List U.Item)
+    ensures { (zipped : _) (xs : List S.Item) (ys : List U.Item)
         → ZipGives (⟦<S as Source>⟧.reads) (⟦<U as Source>⟧.reads)
-        (⟦<Zip<S, U> as Source>⟧.reads) source other zipped
-        → GivesList (⟦<S as Source>⟧.reads) source xs
-        → GivesList (⟦<U as Source>⟧.reads) other ys
+        (⟦<Zip<S, U> as Source>⟧.reads) source.now other.now zipped
+        → GivesList (⟦<S as Source>⟧.reads) source.now xs
+        → GivesList (⟦<U as Source>⟧.reads) other.now ys
         → GivesList (⟦<Zip<S, U> as Source>⟧.reads) zipped (zip xs ys) }
 {}
 
 /// `flat_map` gives the lists of its closure's answers, one after another, where the closure acts
 /// as a function and each answer gives the list that `lists` names.
-pub fn list_of_flat_map<S: IntoIterator, U: IntoNonEmptyIterator, F: FnMut(S::Item) -> U>(f: &F)
-    ensures { (source : S) (spread : _) (h : S.Item → U) (lists : U → List U.Item)
+pub fn list_of_flat_map<S: IntoIterator, U: IntoNonEmptyIterator, F: FnMut(S::Item) -> U>(
+    source: &S,
+    f: &F,
+)
+    ensures { (spread : _) (h : S.Item → U) (lists : U → List U.Item)
         (xs : List S.Item)
         → FlatMapGives (⟦<S as Source>⟧.reads) (⟦<U as Source>⟧.reads)
-        (⟦<FlatMap<S, U, F> as Source>⟧.reads) F.FnMut source f.now spread
+        (⟦<FlatMap<S, U, F> as Source>⟧.reads) F.FnMut source.now f.now spread
         → ActsAs F.FnMut f.now h
         → ((u : U) → GivesList (⟦<U as Source>⟧.reads) u (lists u))
-        → GivesList (⟦<S as Source>⟧.reads) source xs
+        → GivesList (⟦<S as Source>⟧.reads) source.now xs
         → GivesList (⟦<FlatMap<S, U, F> as Source>⟧.reads) spread
         (flat_map (λ x. lists (h x)) xs) }
 {}
 
 /// `flatten` gives the lists of the items of its source, one after another, where each item gives
 /// the list that `lists` names.
-pub fn list_of_flatten<U: IntoNonEmptyIterator, S: IntoIterator<Item = U>>()
-    ensures { (source : S) (flat : _) (lists : U → List U.Item) (us : List U)
+pub fn list_of_flatten<U: IntoNonEmptyIterator, S: IntoIterator<Item = U>>(source: &S)
+    ensures { (flat : _) (lists : U → List U.Item) (us : List U)
         → FlattenGives (⟦<S as Source>⟧.reads) (⟦<U as Source>⟧.reads)
-        (⟦<Flatten<S> as Source>⟧.reads) source flat
+        (⟦<Flatten<S> as Source>⟧.reads) source.now flat
         → ((u : U) → GivesList (⟦<U as Source>⟧.reads) u (lists u))
-        → GivesList (⟦<S as Source>⟧.reads) source us
+        → GivesList (⟦<S as Source>⟧.reads) source.now us
         → GivesList (⟦<Flatten<S> as Source>⟧.reads) flat (flat_map lists us) }
 {}
 
 /// `scan` gives what std's `scan` of lists does, where its closure acts as a function of the state
 /// and the item: `next` is the state that it leaves, and `out` its answer.
-pub fn list_of_scan<St: Drop, S: IntoIterator, B, F: FnMut(&mut St, S::Item) -> B>(f: &F)
-    ensures { (source : S) (scanned : _) (init : St) (next : St → S.Item → St)
+pub fn list_of_scan<St: Drop, S: IntoIterator, B, F: FnMut(&mut St, S::Item) -> B>(
+    source: &S,
+    f: &F,
+)
+    ensures { (scanned : _) (init : St) (next : St → S.Item → St)
         (out : St → S.Item → B) (xs : List S.Item)
         → ScanGives (⟦<S as Source>⟧.reads) (⟦<Scan<S, St, F> as Source>⟧.reads)
-        F.FnMut source init f.now scanned
-        → ActsAsWithState F.FnMut f.now next out → GivesList (⟦<S as Source>⟧.reads) source xs
+        F.FnMut source.now init f.now scanned
+        → ActsAsWithState F.FnMut f.now next out → GivesList (⟦<S as Source>⟧.reads) source.now xs
         → GivesList (⟦<Scan<S, St, F> as Source>⟧.reads) scanned (scan next out init xs) }
 {}
 
 /// `peekable` gives the items of its source; and where `w` was written to the first one, the same
 /// with `w` in its place.
-pub fn list_of_peekable<S: IntoIterator>()
+pub fn list_of_peekable<S: IntoIterator>(source: &S)
 where
     S::Item: Drop,
-    ensures as_drawn { (source : S) (peeked : _) (xs : List S.Item)
+    ensures as_drawn { (peeked : _) (xs : List S.Item)
         → PeekableGives (⟦<S as Source>⟧.reads) (⟦<Peekable<S::IntoIter> as Source>⟧.reads)
-        source peeked
-        → GivesList (⟦<S as Source>⟧.reads) source xs
+        source.now peeked
+        → GivesList (⟦<S as Source>⟧.reads) source.now xs
         → GivesList (⟦<Peekable<S::IntoIter> as Source>⟧.reads) peeked xs }
-    ensures as_written { (source : S) (peeked : _) (w : S.Item) (xs : List S.Item)
+    ensures as_written { (peeked : _) (w : S.Item) (xs : List S.Item)
         → PeekableGives (⟦<S as Source>⟧.reads) (⟦<Peekable<S::IntoIter> as Source>⟧.reads)
-        source peeked
-        → GivesList (⟦<S as Source>⟧.reads) source xs
+        source.now peeked
+        → GivesList (⟦<S as Source>⟧.reads) source.now xs
         → GivesList (⟦<Peekable<S::IntoIter> as Source>⟧.reads) (with_first peeked w)
         (with_head w xs) }
 {}
@@ -179,29 +189,34 @@ where
 /// where no clone of the separator can be refused and each equals it.
 ///
 /// `V` is the type that `intersperse` of an `S` returns.
-pub fn list_of_intersperse<S: IntoIterator, V: IntoIterator<Item = Result<S::Item, AllocError>>>()
+pub fn list_of_intersperse<S: IntoIterator, V: IntoIterator<Item = Result<S::Item, AllocError>>>(
+    source: &S,
+)
 where
     S::Item: Clone,
-    ensures { (source : S) (separator : S.Item) (spaced : V) (xs : List S.Item)
+    ensures { (separator : S.Item) (spaced : V) (xs : List S.Item)
         → IntersperseGives (⟦<S as Source>⟧.reads)
         (TriesClone S.Item.is_clone S.Item.is_infallible)
-        (⟦<V as Source>⟧.reads) source separator spaced
+        (⟦<V as Source>⟧.reads) source.now separator spaced
         → S.Item.is_infallible separator
         → ((y : S.Item) → S.Item.is_clone separator y → y ≡ separator)
-        → GivesList (⟦<S as Source>⟧.reads) source xs
+        → GivesList (⟦<S as Source>⟧.reads) source.now xs
         → GivesList (⟦<V as Source>⟧.reads) spaced (map Ok (separated separator xs)) }
 {}
 
 /// `group_by` gives the first runs of its source's list by the keys, as long as no run is refused,
 /// and all of them at its end, where the closure acts as a function: they are the one division of
 /// the list in which an item goes on a run while its key equals that of the run's first item.
-pub fn runs_of_group_by<K: PartialEq + Drop, S: IntoIterator, F: FnMut(&S::Item) -> K + Drop>(f: &F)
+pub fn runs_of_group_by<K: PartialEq + Drop, S: IntoIterator, F: FnMut(&S::Item) -> K + Drop>(
+    source: &S,
+    f: &F,
+)
 where
     S::Item: Drop,
-    ensures { (source : S) (grouped : _) (h : S.Item → K) (xs : List S.Item)
+    ensures { (grouped : _) (h : S.Item → K) (xs : List S.Item)
         → GroupByGives (⟦<S as Source>⟧.reads) F.FnMut K.eq
-        (⟦<NEGroupBy<S, F> as Source>⟧.reads) source f.now grouped
-        → ActsAsAt F.FnMut f.now h → GivesList (⟦<S as Source>⟧.reads) source xs
+        (⟦<NEGroupBy<S, F> as Source>⟧.reads) source.now f.now grouped
+        → ActsAsAt F.FnMut f.now h → GivesList (⟦<S as Source>⟧.reads) source.now xs
         → (all : List (List S.Item)) × IsDivision (by_first (λ x y. K.eq (h x) (h y))) xs all
         × ((whole : Bool) (rs : List (List S.Item))
         → ⟦<NEGroupBy<S, F> as Source>⟧.reads whole grouped (map Ok rs)

@@ -1,24 +1,49 @@
 //! What is collected, and lists with separators.
-ghost use Rattle.std.specs.Prelude.{◌≡◌, ◌+◌, ◌-◌, ◌*◌, ℕ, true, List, [], ◌∷◌, ◌++◌, Option, Some, Result, Ok, Err, is_ok, MatchResult, IsSomeAnd, length, map, slice_get};
+ghost use Rattle.std.specs.Prelude.{◌≡◌, ◌+◌, ◌-◌, ◌*◌, ℕ, true, List, [], ◌∷◌, ◌++◌, Option, Some, Result, Ok, Err, is_ok, MatchResult, IsSomeAnd, IfOk, length, map, slice_get};
 ghost use Rattle.std.specs.List.{list_all};
 ghost use Rattle.ne_iter.specs.Clones.{TriesClone};
 ghost use Rattle.ne_iter.specs.Interspersed.{Interspersed};
 
-use crate::iter::FromNonEmptyIterator;
+use crate::iter::{FromNonEmptyIterator, Source};
 use ne_vec::NEVec;
 use std::alloc::AllocError;
 
-/// A vector that was collected from results holds the values, where all are `Ok`; else the first `Err` came last.
+/// A vector that was collected from results holds the values, where all are `Ok`; else the first
+/// `Err` came last.
 pub fn results_make_a_vector<T: Drop, E: Drop>()
-    ensures { (items : List (Result T E)) (result : Result (List T) E) → ⟦<Result<NEVec<T>, E> as FromNonEmptyIterator<Result<T, E>>>⟧.collected items result
-        → MatchResult result (λ v. items ≡ map Ok v) (λ e. (values : List T) × (items ≡ map Ok values ++ Err e ∷ [])) }
+    ensures { (items : List (Result T E)) (result : Result (List T) E)
+        → ⟦<Result<NEVec<T>, E> as FromNonEmptyIterator<Result<T, E>>>⟧.collected items result
+        → MatchResult result (λ v. items ≡ map Ok v)
+        (λ e. (values : List T) × (items ≡ map Ok values ++ Err e ∷ [])) }
 {}
 
-/// The items xs with separators: where no clone was refused, one less than twice as many; item i at place 2i, in `Ok`, what came of a
-/// clone at each odd place, and an `Err` at the last place alone.
+/// Where a source of results was collected into `Ok` of a vector, it gave the vector's items, each
+/// in `Ok`, and ended. What stands before the last arrow is the clause `gives` of `collect`.
+pub fn results_are_read_whole<T: Drop, E: Drop, S: IntoIterator<Item = Result<T, E>>>()
+    ensures { (source : S) (result : Result (List T) E)
+        → (items : List (Result T E)) × ⟦<S as Source>⟧.reads (is_ok result) source items
+        × ⟦<Result<NEVec<T>, E> as FromNonEmptyIterator<Result<T, E>>>⟧.collected items result
+        → IfOk result (λ v. ⟦<S as Source>⟧.reads true source (map Ok v)) }
+{
+    results_make_a_vector::<T, E>();
+}
+
+/// The items xs with separators: where no clone was refused, one less than twice as many; item i at
+/// place 2i, in `Ok`, what came of a clone at each odd place, and an `Err` at the last place alone.
 pub fn interspersed_lists_have_their_places<T: Clone>()
-    ensures count { (separator : T) (xs : List T) (zs : List (Result T AllocError)) → Interspersed (TriesClone T.is_clone T.is_infallible separator) xs zs → list_all is_ok zs ≡ true → length zs ≡ 2 * length xs - 1 }
-    ensures items { (separator : T) (xs : List T) (zs : List (Result T AllocError)) → Interspersed (TriesClone T.is_clone T.is_infallible separator) xs zs → (i : ℕ) (z : Result T AllocError) → slice_get zs (2 * i) ≡ Some z → IsSomeAnd (slice_get xs i) (λ x. z ≡ Ok x) }
-    ensures separators { (separator : T) (xs : List T) (zs : List (Result T AllocError)) → Interspersed (TriesClone T.is_clone T.is_infallible separator) xs zs → (i : ℕ) (z : Result T AllocError) → slice_get zs (2 * i + 1) ≡ Some z → TriesClone T.is_clone T.is_infallible separator z }
-    ensures last { (separator : T) (xs : List T) (zs : List (Result T AllocError)) → Interspersed (TriesClone T.is_clone T.is_infallible separator) xs zs → (i : ℕ) (refused : AllocError) → slice_get zs i ≡ Some (Err refused) → length zs ≡ i + 1 }
+    ensures count { (separator : T) (xs : List T) (zs : List (Result T AllocError))
+        → Interspersed (TriesClone T.is_clone T.is_infallible separator) xs zs
+        → list_all is_ok zs ≡ true → length zs ≡ 2 * length xs - 1 }
+    ensures items { (separator : T) (xs : List T) (zs : List (Result T AllocError))
+        → Interspersed (TriesClone T.is_clone T.is_infallible separator) xs zs
+        → (i : ℕ) (z : Result T AllocError) → slice_get zs (2 * i) ≡ Some z
+        → IsSomeAnd (slice_get xs i) (λ x. z ≡ Ok x) }
+    ensures separators { (separator : T) (xs : List T) (zs : List (Result T AllocError))
+        → Interspersed (TriesClone T.is_clone T.is_infallible separator) xs zs
+        → (i : ℕ) (z : Result T AllocError) → slice_get zs (2 * i + 1) ≡ Some z
+        → TriesClone T.is_clone T.is_infallible separator z }
+    ensures last { (separator : T) (xs : List T) (zs : List (Result T AllocError))
+        → Interspersed (TriesClone T.is_clone T.is_infallible separator) xs zs
+        → (i : ℕ) (refused : AllocError) → slice_get zs i ≡ Some (Err refused)
+        → length zs ≡ i + 1 }
 {}

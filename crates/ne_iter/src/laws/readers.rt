@@ -11,45 +11,63 @@ ghost use Rattle.ne_iter.specs.Reading.{Reading, Unread};
 use ne_vec::laws;
 use std::alloc::AllocError;
 
-/// A reader of runs has read as its contract says, whatever calls of its `next` were made: it answered runs, and then it may have
-/// answered `None` or an `Err`, and nothing but `None` after it.
+/// A reader of runs has read as its contract says, whatever calls of its `next` were made: it
+/// answered runs, and then it may have answered `None` or an `Err`, and nothing but `None` after
+/// it.
 ///
-/// `HasRead s f rs g` says that it began with the source `s` and the closure `f`, answered the runs `rs`, and now is `g`.
+/// `HasRead s f rs g` says that it began with the source `s` and the closure `f`, answered the runs
+/// `rs`, and now is `g`.
 pub fn readers_stand_at_any_moment<I: Iterator, K: PartialEq, F: FnMut(&I::Item) -> K>()
-    ensures fresh { (g : Reading I K I.Item F) → g.ahead ≡ Unread → HasRead I.next_gives F.FnMut K.eq g.source g.closure [] g }
-    ensures later { (s : I) (f : F) (done : List (List I.Item)) (g h : Reading I K I.Item F) (answers : List (Option (Result (List I.Item) AllocError)))
-        → HasRead I.next_gives F.FnMut K.eq s f done g → FoldsTo (GivesRun I.next_gives F.FnMut K.eq) g answers h → AnswersOn I.next_gives F.FnMut K.eq s f done answers h }
+    ensures fresh { (g : Reading I K I.Item F) → g.ahead ≡ Unread
+        → HasRead I.next_gives F.FnMut K.eq g.source g.closure [] g }
+    ensures later { (s : I) (f : F) (done : List (List I.Item)) (g h : Reading I K I.Item F)
+        (answers : List (Option (Result (List I.Item) AllocError)))
+        → HasRead I.next_gives F.FnMut K.eq s f done g
+        → FoldsTo (GivesRun I.next_gives F.FnMut K.eq) g answers h
+        → AnswersOn I.next_gives F.FnMut K.eq s f done answers h }
 {}
 
-/// A reader that has nothing ahead has drawn all that its source gave, and answered the runs of that.
+/// A reader that has nothing ahead has drawn all that its source gave, and answered the runs of
+/// that.
 pub fn whole_reading_gives_the_division<I: Iterator, K: PartialEq, F: FnMut(&I::Item) -> K>()
-    ensures { (s : I) (f : F) (rs : List (List I.Item)) (g : Reading I K I.Item F) → HasRead I.next_gives F.FnMut K.eq s f rs g → IsOver g
-        → (ps : List (I.Item × K)) × Drains I.next_gives s (items_of ps) × ShownEach F.FnMut f ps g.closure × DividesByKey K.eq ps rs }
+    ensures { (s : I) (f : F) (rs : List (List I.Item)) (g : Reading I K I.Item F)
+        → HasRead I.next_gives F.FnMut K.eq s f rs g → IsOver g
+        → (ps : List (I.Item × K)) × Drains I.next_gives s (items_of ps)
+        × ShownEach F.FnMut f ps g.closure × DividesByKey K.eq ps rs }
 {}
 
-/// A reader may be stopped at any moment: whatever items come behind those that it has drawn, and whatever keys they get, the runs
-/// that it has answered are the first runs of them all.
+/// A reader may be stopped at any moment: whatever items come behind those that it has drawn, and
+/// whatever keys they get, the runs that it has answered are the first runs of them all.
 pub fn stopped_reader_has_the_first_runs<I: Iterator, K: PartialEq, F: FnMut(&I::Item) -> K>()
-    ensures { (s : I) (f : F) (rs : List (List I.Item)) (g : Reading I K I.Item F) (read : HasRead I.next_gives F.FnMut K.eq s f rs g)
-        (more : List (I.Item × K)) (all : List (List I.Item)) → (IsOver g → more ≡ []) → DividesByKey K.eq (read.drawn ++ more) all → (rest : List (List I.Item)) × (all ≡ rs ++ rest) }
+    ensures { (s : I) (f : F) (rs : List (List I.Item)) (g : Reading I K I.Item F)
+        (read : HasRead I.next_gives F.FnMut K.eq s f rs g)
+        (more : List (I.Item × K)) (all : List (List I.Item)) → (IsOver g → more ≡ [])
+        → DividesByKey K.eq (read.drawn ++ more) all
+        → (rest : List (List I.Item)) × (all ≡ rs ++ rest) }
 {
     laws::has_one_division::<(I::Item, K)>();
     laws::longer_list_keeps_runs::<(I::Item, K)>();
 }
 
-/// Items with keys have exactly one division by them. One after another its runs are the items, and no run is empty.
+/// Items with keys have exactly one division by them. One after another its runs are the items, and
+/// no run is empty.
 pub fn runs_make_the_whole<T, K>()
-    ensures exists { (eq : K → K → Bool) (ps : List (T × K)) → (rs : List (List T)) × DividesByKey eq ps rs }
-    ensures unique { (eq : K → K → Bool) (ps : List (T × K)) (rs others : List (List T)) → DividesByKey eq ps rs → DividesByKey eq ps others → rs ≡ others }
-    ensures whole { (eq : K → K → Bool) (ps : List (T × K)) (rs : List (List T)) → DividesByKey eq ps rs → joined rs ≡ items_of ps }
-    ensures some { (eq : K → K → Bool) (ps : List (T × K)) (rs : List (List T)) → DividesByKey eq ps rs → AllByRecursion (λ r. r ≢ []) rs }
+    ensures exists { (eq : K → K → Bool) (ps : List (T × K))
+        → (rs : List (List T)) × DividesByKey eq ps rs }
+    ensures unique { (eq : K → K → Bool) (ps : List (T × K)) (rs others : List (List T))
+        → DividesByKey eq ps rs → DividesByKey eq ps others → rs ≡ others }
+    ensures whole { (eq : K → K → Bool) (ps : List (T × K)) (rs : List (List T))
+        → DividesByKey eq ps rs → joined rs ≡ items_of ps }
+    ensures some { (eq : K → K → Bool) (ps : List (T × K)) (rs : List (List T))
+        → DividesByKey eq ps rs → AllByRecursion (λ r. r ≢ []) rs }
 {
     laws::has_one_division::<(T, K)>();
 }
 
 /// Where the closure acts as a function, the runs are those of the items by the function's values.
 pub fn runs_by_a_function<T, K, F: FnMut(&T) -> K>(f: &F)
-    ensures { (eq : K → K → Bool) (h : T → K) (ps : List (T × K)) (rs : List (List T)) (g : F) → ActsAsAt F.FnMut f.now h → ShownEach F.FnMut f.now ps g → DividesByKey eq ps rs
+    ensures { (eq : K → K → Bool) (h : T → K) (ps : List (T × K)) (rs : List (List T)) (g : F)
+        → ActsAsAt F.FnMut f.now h → ShownEach F.FnMut f.now ps g → DividesByKey eq ps rs
         → IsDivision (by_first (λ x y. eq (h x) (h y))) (items_of ps) rs }
 {
     laws::has_one_division::<(T, K)>();

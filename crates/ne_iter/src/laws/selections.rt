@@ -1,5 +1,6 @@
 //! What the methods that answer std's iterators give where their source gives a list: these may
-//! have no item. Each is stated of the method's clause `gives`.
+//! have no item. Each is stated of the method's clause `gives`, and takes the source, and the
+//! closure, by reference.
 ghost use Rattle.std.specs.Prelude.{◌≡◌, ℕ, Bool, List, Option, drop, filter, filter_map};
 ghost use Rattle.std.specs.Iterator.{ActsAs, ActsAsAt};
 ghost use Rattle.std.specs.List.{prefix_len, take_while};
@@ -9,60 +10,60 @@ use crate::iter::Source;
 use std::iter;
 
 /// `filter` gives the items of its source that pass, in order, where its closure acts as a test.
-pub fn list_of_filter<S: IntoIterator, P: FnMut(&S::Item) -> bool>(predicate: &P)
+pub fn list_of_filter<S: IntoIterator, P: FnMut(&S::Item) -> bool>(source: &S, predicate: &P)
 where
     S::Item: Drop,
-    ensures { (source : S) (kept : _) (test : S.Item → Bool) (xs : List S.Item)
+    ensures { (kept : _) (test : S.Item → Bool) (xs : List S.Item)
         → FilterGives (⟦<S as Source>⟧.reads)
-        (⟦<iter::Filter<S::IntoIter, P> as Source>⟧.reads) P.FnMut source predicate.now kept
-        → ActsAsAt P.FnMut predicate.now test → GivesList (⟦<S as Source>⟧.reads) source xs
+        (⟦<iter::Filter<S::IntoIter, P> as Source>⟧.reads) P.FnMut source.now predicate.now kept
+        → ActsAsAt P.FnMut predicate.now test → GivesList (⟦<S as Source>⟧.reads) source.now xs
         → GivesList (⟦<iter::Filter<S::IntoIter, P> as Source>⟧.reads) kept (filter test xs) }
 {}
 
 /// `filter_map` gives the values among the function's answers at the items of its source, in
 /// order, where its closure acts as a function.
-pub fn list_of_filter_map<S: IntoIterator, B, F: FnMut(S::Item) -> Option<B>>(f: &F)
-    ensures { (source : S) (kept : _) (h : S.Item → Option B) (xs : List S.Item)
+pub fn list_of_filter_map<S: IntoIterator, B, F: FnMut(S::Item) -> Option<B>>(source: &S, f: &F)
+    ensures { (kept : _) (h : S.Item → Option B) (xs : List S.Item)
         → FilterMapGives (⟦<S as Source>⟧.reads)
-        (⟦<iter::FilterMap<S::IntoIter, F> as Source>⟧.reads) F.FnMut source f.now kept
-        → ActsAs F.FnMut f.now h → GivesList (⟦<S as Source>⟧.reads) source xs
+        (⟦<iter::FilterMap<S::IntoIter, F> as Source>⟧.reads) F.FnMut source.now f.now kept
+        → ActsAs F.FnMut f.now h → GivesList (⟦<S as Source>⟧.reads) source.now xs
         → GivesList (⟦<iter::FilterMap<S::IntoIter, F> as Source>⟧.reads) kept
         (filter_map h xs) }
 {}
 
 /// `skip` gives all items of its source but the first `n`.
-pub fn list_of_skip<S: IntoIterator>()
+pub fn list_of_skip<S: IntoIterator>(source: &S)
 where
     S::Item: Drop,
-    ensures { (source : S) (left : _) (n : ℕ) (xs : List S.Item)
+    ensures { (left : _) (n : ℕ) (xs : List S.Item)
         → SkipGives (⟦<S as Source>⟧.reads) (⟦<iter::Skip<S::IntoIter> as Source>⟧.reads)
-        n source left
-        → GivesList (⟦<S as Source>⟧.reads) source xs
+        n source.now left
+        → GivesList (⟦<S as Source>⟧.reads) source.now xs
         → GivesList (⟦<iter::Skip<S::IntoIter> as Source>⟧.reads) left (drop n xs) }
 {}
 
 /// `skip_while` gives the items of its source from the first one on that does not pass, where its
 /// closure acts as a test. `prefix_len test xs` is how many items pass before that one.
-pub fn list_of_skip_while<S: IntoIterator, P: FnMut(&S::Item) -> bool>(pred: &P)
+pub fn list_of_skip_while<S: IntoIterator, P: FnMut(&S::Item) -> bool>(source: &S, pred: &P)
 where
     S::Item: Drop,
-    ensures { (source : S) (left : _) (test : S.Item → Bool) (xs : List S.Item)
+    ensures { (left : _) (test : S.Item → Bool) (xs : List S.Item)
         → SkipWhileGives (⟦<S as Source>⟧.reads)
-        (⟦<iter::SkipWhile<S::IntoIter, P> as Source>⟧.reads) P.FnMut source pred.now left
-        → ActsAsAt P.FnMut pred.now test → GivesList (⟦<S as Source>⟧.reads) source xs
+        (⟦<iter::SkipWhile<S::IntoIter, P> as Source>⟧.reads) P.FnMut source.now pred.now left
+        → ActsAsAt P.FnMut pred.now test → GivesList (⟦<S as Source>⟧.reads) source.now xs
         → GivesList (⟦<iter::SkipWhile<S::IntoIter, P> as Source>⟧.reads) left
         (drop (prefix_len test xs) xs) }
 {}
 
 /// `take_while` gives the items of its source before the first one that does not pass, where its
 /// closure acts as a test.
-pub fn list_of_take_while<S: IntoIterator, P: FnMut(&S::Item) -> bool>(pred: &P)
+pub fn list_of_take_while<S: IntoIterator, P: FnMut(&S::Item) -> bool>(source: &S, pred: &P)
 where
     S::Item: Drop,
-    ensures { (source : S) (taken : _) (test : S.Item → Bool) (xs : List S.Item)
+    ensures { (taken : _) (test : S.Item → Bool) (xs : List S.Item)
         → TakeWhileGives (⟦<S as Source>⟧.reads)
-        (⟦<iter::TakeWhile<S::IntoIter, P> as Source>⟧.reads) P.FnMut source pred.now taken
-        → ActsAsAt P.FnMut pred.now test → GivesList (⟦<S as Source>⟧.reads) source xs
+        (⟦<iter::TakeWhile<S::IntoIter, P> as Source>⟧.reads) P.FnMut source.now pred.now taken
+        → ActsAsAt P.FnMut pred.now test → GivesList (⟦<S as Source>⟧.reads) source.now xs
         → GivesList (⟦<iter::TakeWhile<S::IntoIter, P> as Source>⟧.reads) taken
         (take_while test xs) }
 {}

@@ -3,11 +3,13 @@ ghost use Rattle.std.specs.Prelude.{◌≡◌, ◌<◌, ◌++◌, Bool, true, Li
 ghost use Rattle.std.specs.Global.{Global};
 ghost use Rattle.std.specs.Borrow.{Bor, MutBor};
 ghost use Rattle.std.specs.Slice.Iter.{iter_mut_rest};
-ghost use Rattle.ne_vec.specs.Divisions.{IsDivision, by_first, by_previous};
+ghost use Rattle.ne_vec.specs.Divisions.{IsDivision, by_first, by_previous, joined};
 ghost use Rattle.ne_vec.specs.Fronts.{Lists, mark};
 ghost use Rattle.ne_vec.specs.Lends.{std_walk};
 ghost use Rattle.ne_vec.specs.SliceRuns.{Cutting, ActsAsAtPair};
-ghost use Rattle.ne_iter.specs.Gives.{GivesList, ShowsList};
+ghost use Rattle.std.specs.List.{flat_map};
+ghost use Rattle.ne_iter.specs.Firsts.{AreFirst};
+ghost use Rattle.ne_iter.specs.Gives.{GivesList, ShowsList, ReadsEach};
 ghost use Rattle.ne_iter.specs.Looked.{LooksWhole};
 ghost use Rattle.ne_iter.specs.Parts.{item_of_once, items_of_array};
 
@@ -18,18 +20,26 @@ use std::iter;
 
 /// A source that gives at least one item never gives the empty list, whatever its type.
 pub fn no_list_is_empty<S: NonEmptyIterator>()
-    ensures { (source : S) (xs : List S.Item) → ⟦<S as Source>⟧.reads true source xs → 0 < length xs }
+    ensures { (source : S) (xs : List S.Item) → ⟦<S as Source>⟧.reads true source xs
+        → 0 < length xs }
 {}
 
 /// Nor does what becomes one.
 pub fn no_list_becomes_empty<S: IntoNonEmptyIterator>()
-    ensures { (source : S) (xs : List S.Item) → ⟦<S as Source>⟧.reads true source xs → 0 < length xs }
+    ensures { (source : S) (xs : List S.Item) → ⟦<S as Source>⟧.reads true source xs
+        → 0 < length xs }
 {}
 
 /// What becomes a source may itself give the lists that this source may give, and no others.
 pub fn lists_stay_the_same<S: IntoNonEmptyIterator>()
-    ensures there { (value : S) (whole : Bool) (xs : List S.Item) → ⟦<S as Source>⟧.reads whole value xs → (source : S.IntoNEIter) × S.into_nonempty_iter_gives value source × ⟦<S::IntoNEIter as Source>⟧.reads whole source xs }
-    ensures back { (value : S) (source : S.IntoNEIter) (whole : Bool) (xs : List S.Item) → S.into_nonempty_iter_gives value source → ⟦<S::IntoNEIter as Source>⟧.reads whole source xs → ⟦<S as Source>⟧.reads whole value xs }
+    ensures there { (value : S) (whole : Bool) (xs : List S.Item)
+        → ⟦<S as Source>⟧.reads whole value xs
+        → (source : S.IntoNEIter) × S.into_nonempty_iter_gives value source
+        × ⟦<S::IntoNEIter as Source>⟧.reads whole source xs }
+    ensures back { (value : S) (source : S.IntoNEIter) (whole : Bool) (xs : List S.Item)
+        → S.into_nonempty_iter_gives value source
+        → ⟦<S::IntoNEIter as Source>⟧.reads whole source xs
+        → ⟦<S as Source>⟧.reads whole value xs }
 {}
 
 /// A vector gives its items, by value and by reference.
@@ -43,7 +53,8 @@ pub fn vectors_give_their_items<'a, T: Drop + 'a>()
 /// A slice shows its items, by value and by reference.
 pub fn slices_show_their_items<'a, T: 'a>()
     ensures slice { (s : List T) → ShowsList (⟦<NESlice<'a, T> as Source>⟧.reads) s s }
-    ensures shown { (s : Bor (List T)) → ShowsList (⟦<&'a NESlice<'a, T> as Source>⟧.reads) s s.now }
+    ensures shown { (s : Bor (List T))
+        → ShowsList (⟦<&'a NESlice<'a, T> as Source>⟧.reads) s s.now }
     ensures walk { (s : List T) → ShowsList (⟦<slice::Iter<'a, T> as Source>⟧.reads) s s }
 {}
 
@@ -85,21 +96,26 @@ pub fn std_vectors_give_their_items<T: Drop>()
 
 /// A source whose iterator shows what it has left gives that and nothing else.
 ///
-/// `left` is the list that an iterator has left: an item that comes was its first, and where none comes it is empty.
+/// `left` is the list that an iterator has left: an item that comes was its first, and where none
+/// comes it is empty.
 pub fn sources_give_what_is_left<S: IntoIterator>()
     ensures { (left : S.IntoIter → List S.Item)
-        → ((it rest : S.IntoIter) (x : S.Item) → S.IntoIter.next_gives it (Some x) rest → left it ≡ x ∷ left rest)
+        → ((it rest : S.IntoIter) (x : S.Item) → S.IntoIter.next_gives it (Some x) rest
+        → left it ≡ x ∷ left rest)
         → ((it rest : S.IntoIter) → S.IntoIter.next_gives it None rest → left it ≡ [])
-        → (source : S) (xs : List S.Item) → ((it : S.IntoIter) → S.into_iter_gives source it → left it ≡ xs)
+        → (source : S) (xs : List S.Item)
+        → ((it : S.IntoIter) → S.into_iter_gives source it → left it ≡ xs)
         → GivesList (⟦<S as Source>⟧.reads) source xs }
 {}
 
 /// The same of a source of references: `left` is the list of what they show.
 pub fn sources_show_what_is_left<'a, T: 'a, S: IntoIterator<Item = &'a T>>()
     ensures { (left : S.IntoIter → List T)
-        → ((it rest : S.IntoIter) (x : Bor T) → S.IntoIter.next_gives it (Some x) rest → left it ≡ x.now ∷ left rest)
+        → ((it rest : S.IntoIter) (x : Bor T) → S.IntoIter.next_gives it (Some x) rest
+        → left it ≡ x.now ∷ left rest)
         → ((it rest : S.IntoIter) → S.IntoIter.next_gives it None rest → left it ≡ [])
-        → (source : S) (xs : List T) → ((it : S.IntoIter) → S.into_iter_gives source it → left it ≡ xs)
+        → (source : S) (xs : List T)
+        → ((it : S.IntoIter) → S.into_iter_gives source it → left it ≡ xs)
         → ShowsList (⟦<S as Source>⟧.reads) source xs }
 {}
 
@@ -118,35 +134,45 @@ pub fn once_gives_its_item<T: Drop>()
 
 /// What `try_into_nonempty_iter` makes of a source gives the source's list; `None` comes only where
 /// that list is empty.
-pub fn looked_sources_give_their_list<S: IntoIterator>()
+pub fn looked_sources_give_their_list<S: IntoIterator>(source: &S)
 where
     S::Item: Drop,
-    ensures some { (source : S) (looked : _) (xs : List S.Item)
+    ensures some { (looked : _) (xs : List S.Item)
         → LooksWhole (⟦<S as Source>⟧.reads)
         (⟦<NonEmptyIterAdapter<iter::Peekable<S::IntoIter>> as Source>⟧.reads)
-        source (Some looked)
-        → GivesList (⟦<S as Source>⟧.reads) source xs
+        source.now (Some looked)
+        → GivesList (⟦<S as Source>⟧.reads) source.now xs
         → GivesList (⟦<NonEmptyIterAdapter<iter::Peekable<S::IntoIter>> as Source>⟧.reads)
         looked xs }
-    ensures none { (source : S) (xs : List S.Item)
+    ensures none { (xs : List S.Item)
         → LooksWhole (⟦<S as Source>⟧.reads)
-        (⟦<NonEmptyIterAdapter<iter::Peekable<S::IntoIter>> as Source>⟧.reads) source None
-        → GivesList (⟦<S as Source>⟧.reads) source xs → xs ≡ [] }
+        (⟦<NonEmptyIterAdapter<iter::Peekable<S::IntoIter>> as Source>⟧.reads) source.now None
+        → GivesList (⟦<S as Source>⟧.reads) source.now xs → xs ≡ [] }
 {}
 
 /// What is read of a source to its end is the source's list, where it gives one.
-pub fn lists_are_read_whole<S: IntoIterator>()
-    ensures { (source : S) (xs ys : List S.Item) → GivesList (⟦<S as Source>⟧.reads) source xs
-        → ⟦<S as Source>⟧.reads true source ys → ys ≡ xs }
+pub fn lists_are_read_whole<S: IntoIterator>(source: &S)
+    ensures { (xs ys : List S.Item) → GivesList (⟦<S as Source>⟧.reads) source.now xs
+        → ⟦<S as Source>⟧.reads true source.now ys → ys ≡ xs }
 {}
 
 /// A source gives a list exactly if each iterator that it becomes does, run by run: `Lists` is the
 /// word by which the clauses `runs` of adapters and consumers speak of lists.
-pub fn lists_of_iterators<S: IntoIterator>()
-    ensures runs { (source : S) (it : S.IntoIter) (xs : List S.Item)
-        → GivesList (⟦<S as Source>⟧.reads) source xs → S.into_iter_gives source it
+pub fn lists_of_iterators<S: IntoIterator>(source: &S)
+    ensures runs { (it : S.IntoIter) (xs : List S.Item)
+        → GivesList (⟦<S as Source>⟧.reads) source.now xs → S.into_iter_gives source.now it
         → Lists S.IntoIter.next_gives it xs × (mark it xs ≡ 0) }
-    ensures back { (source : S) (xs : List S.Item)
-        → ((it : S.IntoIter) → S.into_iter_gives source it → Lists S.IntoIter.next_gives it xs)
-        → GivesList (⟦<S as Source>⟧.reads) source xs }
+    ensures back { (xs : List S.Item)
+        → ((it : S.IntoIter) → S.into_iter_gives source.now it → Lists S.IntoIter.next_gives it xs)
+        → GivesList (⟦<S as Source>⟧.reads) source.now xs }
+{}
+
+/// Where each source of a kind gives the list that `lists` names, what was read of the first of
+/// the sources `all`, one after another, are the first items of all their lists.
+pub fn lists_follow_one_another<U: IntoIterator>()
+    ensures { (lists : U → List U.Item)
+        → ((u : U) → GivesList (⟦<U as Source>⟧.reads) u (lists u))
+        → (whole : Bool) (all us : List U) (yss : List (List U.Item)) → AreFirst whole all us
+        → ReadsEach (⟦<U as Source>⟧.reads) whole us yss
+        → AreFirst whole (flat_map lists all) (joined yss) }
 {}

@@ -1,8 +1,8 @@
 use Rattle.std.proofs.Common.{sym, subst}
-use Rattle.ne_iter.proofs.ListFronts.{Fronts}
+use Rattle.ne_iter.specs.Firsts.{AreFirst}
 use Rattle.ne_iter.proofs.laws.adapters.list_of_copied.Goals as goal
 
 pub returns : goal.returns
-returns g c source copied xs gives list whole ys read =
+returns g c copied xs gives list whole ys read =
     let behind = gives whole ys read in
-    subst (Fronts whole xs) (sym behind.2) (list whole behind.0 behind.1)
+    subst (AreFirst whole xs) (sym behind.2) (list whole behind.0 behind.1)

@@ -1,12 +1,13 @@
 use Rattle.std.proofs.Common.{sym, subst}
 use Rattle.std.specs.List.{flat_map}
 use Rattle.ne_iter.specs.Sources.{Reads}
-use Rattle.ne_iter.proofs.ListFronts.{Fronts, joined_fronts}
+use Rattle.ne_iter.specs.Firsts.{AreFirst}
+use Rattle.ne_iter.proofs.ListFronts.{joined_fronts}
 use Rattle.ne_iter.proofs.laws.adapters.list_of_flatten.Goals as goal
 
 pub returns : goal.returns
-returns g c source flat lists us gives inner list whole zs read =
+returns g c flat lists us gives inner list whole zs read =
     let parts = gives whole zs read in
-    let all = joined_fronts (Reads g.U.IntoIterator.into_iter_gives g.U.IntoIter.Iterator.next_gives)
-    lists inner whole us parts.0 parts.1 (list whole parts.0 parts.2) parts.3 in
-    subst (Fronts whole (flat_map lists us)) (sym parts.4) all
+    let reads = Reads g.U.IntoIterator.into_iter_gives g.U.IntoIter.Iterator.next_gives in
+    let all = joined_fronts reads lists inner whole us parts.0 parts.1 (list whole parts.0 parts.2) parts.3 in
+    subst (AreFirst whole (flat_map lists us)) (sym parts.4) all

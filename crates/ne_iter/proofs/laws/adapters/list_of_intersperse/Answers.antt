@@ -3,7 +3,7 @@ use Rattle.ne_iter.proofs.Unrefused.{only_ok, spaced_front}
 use Rattle.ne_iter.proofs.laws.adapters.list_of_intersperse.Goals as goal
 
 pub returns : goal.returns
-returns g c source separator spaced xs gives none same list whole zs read =
+returns g c separator spaced xs gives none same list whole zs read =
     let parts = gives whole zs read in
     let tries = TriesClone g.S.Item.Clone.is_clone g.S.Item.Clone.is_infallible separator in
     spaced_front tries separator

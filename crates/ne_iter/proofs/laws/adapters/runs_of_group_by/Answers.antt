@@ -4,7 +4,7 @@ use Rattle.ne_iter.proofs.FirstRuns.{first_of_all}
 use Rattle.ne_iter.proofs.laws.adapters.runs_of_group_by.Goals as goal
 
 pub returns : goal.returns
-returns g c source grouped h xs gives acts list =
+returns g c grouped h xs gives acts list =
     let eq = g.K.PartialEq.eq in
     let goes_on = by_first (λ x y. eq (h x) (h y)) in
     let all = c.has_one_division.ensures.exists goes_on xs in (

@@ -5,7 +5,7 @@ use Rattle.ne_iter.proofs.ListFronts.{drop_passed_front}
 use Rattle.ne_iter.proofs.laws.selections.list_of_skip_while.Goals as goal
 
 pub returns : goal.returns
-returns g c source left test xs gives acts list whole ys read =
+returns g c left test xs gives acts list whole ys read =
     let calls = g.P.FnMut in
     let f = c.args.pred.now in
     let parts = gives whole ys read in

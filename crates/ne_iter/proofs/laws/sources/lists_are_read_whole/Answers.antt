@@ -3,4 +3,4 @@ use Rattle.ne_iter.proofs.ListFronts.{whole_front}
 use Rattle.ne_iter.proofs.laws.sources.lists_are_read_whole.Goals as goal
 
 pub returns : goal.returns
-returns g c source xs ys list read = whole_front xs ys (list true ys read)
+returns g c xs ys list read = whole_front xs ys (list true ys read)

@@ -1,0 +1,21 @@
+//! The first items of lists, by which a proof goes from what was read so far to a list function.
+//! `AreFirst whole xs us` says that `us` are the first of `xs`, and all of them where `whole` is
+//! true: it is what `GivesList` says of each list that is read.
+ghost use Rattle.std.specs.Prelude.{◌≡◌, ◌≤◌, ◌++◌, ◌||◌, ◌&&◌, ℕ, Bool, true, List, length, ltb, map, take};
+ghost use Rattle.std.specs.List.{enumerate_from};
+ghost use Rattle.ne_iter.specs.Firsts.{AreFirst};
+
+/// What list functions make of the first items of a list are the first items of what they make of
+/// the list; and the first items are the list, where they are all.
+pub fn first_items_stay_first<A, B>()
+    ensures all { (xs us : List A) → AreFirst true xs us → us ≡ xs }
+    ensures mapped { (h : A → B) (whole : Bool) (xs us : List A) → AreFirst whole xs us
+        → AreFirst whole (map h xs) (map h us) }
+    ensures numbered { (whole : Bool) (xs us : List A) → AreFirst whole xs us
+        → AreFirst whole (enumerate_from 0 xs) (enumerate_from 0 us) }
+    ensures taken { (n : ℕ) (whole : Bool) (xs us : List A) → length us ≤ n
+        → AreFirst (whole && ltb (length us) n) xs us → AreFirst whole (take n xs) us }
+    ensures joined { (whole : Bool) (xs ys us vs : List A)
+        → AreFirst (whole || ltb 0 (length vs)) xs us → AreFirst whole ys vs
+        → AreFirst whole (xs ++ ys) (us ++ vs) }
+{}
