@@ -3,5 +3,4 @@ pub mod ModeRows
 pub mod Numbers
 pub mod OneList
 pub mod Rows
-pub mod Stats
 pub mod Writes

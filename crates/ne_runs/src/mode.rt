@@ -11,9 +11,11 @@ ghost use Rattle.ne_runs.specs.Modes.{mode_of, word_of, row_text, AreRows, HasRo
 ghost use Rattle.ne_runs.specs.Modes.{IsLeast, IsGreatest};
 ghost use Rattle.ne_runs.specs.declared.mode.Mode.{Mode};
 
-use ne_iter::laws::{calls_of_a_function, slice_runs_are_the_division, vectors_give_their_items};
-use ne_vec::laws::has_one_division;
 use nonempty_collections::iter::Source;
+use nonempty_collections::laws::{
+    has_one_division, numbers_have_one_greatest, numbers_have_one_least,
+    slice_runs_are_the_division,
+};
 use nonempty_collections::{NESlice, NEVec, NonEmptyIterator};
 use std::alloc::{AllocError, Global};
 use std::convert::AsSlice;
@@ -54,6 +56,8 @@ pub fn rows_are_one()
         → AreRows mode numbers rows → AreRows mode numbers others → rows ≡ others }
 {
     has_one_division::<u32>();
+    numbers_have_one_least();
+    numbers_have_one_greatest();
 }
 
 impl Mode {

@@ -3,6 +3,10 @@ use Rattle.ne_runs.proofs.mode.rows_are_one.Goals as goal
 
 pub returns : goal.returns
 returns c =
-    let exists = c.has_one_division.ensures.exists in
-    let unique = c.has_one_division.ensures.unique in
-    record { there = has_rows exists unique; only = only_rows exists unique }
+    let division = c.has_one_division.ensures in
+    let least = c.numbers_have_one_least.ensures in
+    let greatest = c.numbers_have_one_greatest.ensures in
+    record {
+      there = has_rows division.exists division.unique least.there greatest.there least.only greatest.only;
+      only = only_rows division.exists division.unique least.there greatest.there least.only greatest.only;
+    }
