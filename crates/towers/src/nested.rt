@@ -4,8 +4,8 @@ ghost use Rattle.std.specs.Iterator.{IsFinite, IsFiniteIterable, size};
 ghost use Rattle.std.specs.List.{scan};
 ghost use Rattle.towers.specs.Nested.{IsScanOfAll};
 
-use ne_iter::laws::{scans_of_a_function, vectors_give_their_items};
 use nonempty_collections::iter::{FromNonEmptyIterator, NonEmptyIterator, Source};
+use nonempty_collections::laws::{first_items_stay_first, list_of_scan, vectors_give_their_items};
 use nonempty_collections::{IntoNonEmptyIterator, NEVec};
 use std::alloc::{AllocError, Global};
 
@@ -41,7 +41,9 @@ pub fn running_totals(alloc: Global, items: NEVec<u32>) -> Result<NEVec<u32>, Al
         *total = total.wrapping_add(x);
         *total
     };
+    let source = items.into_nonempty_iter();
     vectors_give_their_items::<u32>();
-    scans_of_a_function(&add);
-    items.into_nonempty_iter().scan(0, add).collect(alloc)
+    list_of_scan(&source, &add);
+    first_items_stay_first::<u32, u32>();
+    source.scan(0, add).collect(alloc)
 }

@@ -7,8 +7,11 @@ ghost use Rattle.ne_vec.specs.SliceRuns.{ActsAsAtPair};
 ghost use Rattle.ne_iter.specs.Gives.{HasRuns};
 ghost use Rattle.towers.specs.Runs.{AreRunsOfAnswers};
 
-use ne_iter::laws::{calls_of_a_function, results_make_a_vector, slice_runs_are_the_division};
-use nonempty_collections::iter::{NonEmptyIterator, Source};
+use nonempty_collections::iter::{Map, NEGroupBy, NonEmptyIterator, Source, Take};
+use nonempty_collections::laws::{
+    calls_of_a_function, first_items_stay_first, results_are_read_whole,
+    slice_runs_are_the_division,
+};
 use nonempty_collections::{NESlice, NEVec};
 use std::alloc::{AllocError, Global};
 use std::num::NonZeroUsize;
@@ -28,7 +31,7 @@ where
     requires key_callable { G.IsAlwaysCallable key }
     ensures { IfOk result (AreRunsOfAnswers (⟦<S as Source>⟧.reads) F.FnMut G.FnMut K.eq source f key) }
 {
-    results_make_a_vector::<NEVec<T>, AllocError>();
+    results_are_read_whole::<NEVec<T>, AllocError, NEGroupBy<Map<S, F>, G>>();
     source.map(f).group_by(alloc, key).collect(alloc)?
 }
 
@@ -46,7 +49,7 @@ where
     ensures runs { IfOk result (λ rs. HasRuns (⟦<S as Source>⟧.reads) G.FnMut K.eq (ltb (length rs) (non_zero_usize_get n)) source key rs) }
     ensures count { IfOk result (λ rs. length rs ≤ non_zero_usize_get n) }
 {
-    results_make_a_vector::<NEVec<S::Item>, AllocError>();
+    results_are_read_whole::<NEVec<S::Item>, AllocError, Take<NEGroupBy<S, G>>>();
     source.group_by(alloc, key).take(n).collect(alloc)?
 }
 
@@ -64,5 +67,6 @@ pub fn run_lengths<T, F: Fn(&T, &T) -> bool + Drop>(
     let length = |run: NESlice<'_, T>| run.len().get();
     slice_runs_are_the_division::<T, F>();
     calls_of_a_function(&length);
+    first_items_stay_first::<NESlice<'_, T>, usize>();
     items.adjacent_runs(same).map(length).collect(alloc)
 }

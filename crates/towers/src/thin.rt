@@ -5,8 +5,11 @@ ghost use Rattle.std.specs.Int.NonZero.{non_zero_usize_get};
 ghost use Rattle.std.specs.List.{enumerate_from};
 ghost use Rattle.towers.specs.Thin.{IsNumbered};
 
-use ne_iter::laws::{calls_of_a_function, std_vectors_give_their_items, vectors_give_their_items};
 use nonempty_collections::iter::{FromNonEmptyIterator, NonEmptyIterator, Source};
+use nonempty_collections::laws::{
+    calls_of_a_function, first_items_stay_first, std_vectors_give_their_items,
+    vectors_give_their_items,
+};
 use nonempty_collections::{IntoNonEmptyIterator, NEVec};
 use std::alloc::{AllocError, Global};
 use std::num::NonZeroUsize;
@@ -49,5 +52,7 @@ pub fn numbered_halves(
     vectors_give_their_items::<u32>();
     std_vectors_give_their_items::<u32>();
     calls_of_a_function(&half);
+    first_items_stay_first::<u32, u32>();
+    first_items_stay_first::<(usize, u32), u32>();
     numbered(alloc, items.into_nonempty_iter(), half, other, n)
 }

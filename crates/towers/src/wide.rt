@@ -7,8 +7,11 @@ ghost use Rattle.towers.specs.Own.{counted_down, start_of};
 ghost use Rattle.towers.specs.Wide.{IsSpread, IsSpreadOfPairs, IsParted};
 
 use crate::Countdown;
-use ne_iter::laws::{arrays_give_their_items, calls_of_a_function, sources_give_what_is_left};
 use nonempty_collections::iter::{FromNonEmptyIterator, NonEmptyIterator, Source};
+use nonempty_collections::laws::{
+    arrays_give_their_items, calls_of_a_function, first_items_stay_first, lists_follow_one_another,
+    sources_give_what_is_left,
+};
 use nonempty_collections::{IntoNonEmptyIterator, NEVec, Singleton};
 use std::alloc::{AllocError, Global};
 use std::num::NonZeroUsize;
@@ -69,6 +72,9 @@ pub fn spread_countdown(
     arrays_give_their_items::<u32, 2>();
     sources_give_what_is_left::<Countdown>();
     calls_of_a_function(&twice);
+    lists_follow_one_another::<[u32; 2]>();
+    first_items_stay_first::<u32, [u32; 2]>();
+    first_items_stay_first::<(usize, u32), u32>();
     spread(alloc, source, twice, n)
 }
 

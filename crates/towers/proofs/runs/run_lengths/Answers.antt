@@ -1,4 +1,4 @@
-use Rattle.std.proofs.Common.{rules, refl, sym, ap, subst, ◌∙◌, ◌++◌, append-nil, length}
+use Rattle.std.proofs.Common.{rules, sym, subst, true, ◌∙◌, length}
 use Rattle.std.proofs.lemmas.Result.{IfOk-weaker}
 use Rattle.ne_vec.specs.Divisions.{IsDivision, by_previous}
 use Rattle.ne_vec.specs.SliceRuns.{ActsAsAtPair}
@@ -12,8 +12,8 @@ returns g c = IfOk-weaker c.collect.result _ _ (λ v h test acts.
     let law = c.slice_runs_are_the_division.ensures.by_previous in
     let runs = law c.adjacent_runs.result test still in
     let mapped = c.map.ensures.gives _ h.0 h.1 in
-    let front = runs.2 _ mapped.0 mapped.2 in
-    let all = front.1 ∙ ap (λ l. mapped.0 ++ l) (front.2 refl) ∙ append-nil mapped.0 in
+    let all = sym (c.first_items_stay_first.ensures.all runs.0 mapped.0
+    (runs.2 true mapped.0 mapped.2)) in
     let lengths = c.calls_of_a_function.ensures length mapped.0 h.0 mapped.1
     (λ run n f called. search rules) mapped.3 in (
       mapped.0,

@@ -3,7 +3,6 @@ use Rattle.std.proofs.lemmas.Result.{IfOk-weaker}
 use Rattle.ne_iter.specs.Gives.{and_held}
 use Rattle.ne_iter.specs.Sources.{Reads}
 use Rattle.ne_iter.specs.Keys.{items_of, DividesByKey}
-use Rattle.towers.proofs.Collected.{all_ok}
 use Rattle.towers.proofs.runs.runs_of_answers.Goals as goal
 
 -- From the runs collected back to what `map` answered, and to the source's items.
@@ -20,4 +19,5 @@ returns g c = IfOk-weaker c.in_ok-collect.field-0 _ _ (λ v h.
       mapped.3,
       runs.5,
       subst (λ held. DividesByKey g.K.PartialEq.eq runs.0 (and_held v held)) end.1 runs.6,
-    )) (all_ok c.group_by.ensures.stops _ c.results_make_a_vector.ensures c.in_ok-collect.field-0 c.in_ok-collect.ensures.gives)
+    )) (c.results_are_read_whole.ensures c.group_by.result c.in_ok-collect.field-0
+    c.in_ok-collect.ensures.gives)

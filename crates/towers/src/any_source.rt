@@ -1,0 +1,78 @@
+//! Functions over any source that gives a list, by one law an adapter, as a user writes them.
+//!
+//! A generic function knows nothing of its source but its bounds, so its chain does not prove
+//! itself: it calls the law of each adapter, and that of what is read to its end.
+ghost use Rattle.std.specs.Prelude.{◌≡◌, ◌/◌, ◌++◌, ◌≤◌, ℕ, Bool, List, IfOk, ltb, map, filter, take, All, Contains};
+ghost use Rattle.std.specs.Int.NonZero.{non_zero_usize_get};
+ghost use Rattle.std.specs.Iterator.Runs.{CountFits};
+ghost use Rattle.std.specs.List.{enumerate_from, zip};
+ghost use Rattle.ne_iter.specs.Gives.{GivesList, ShowsList};
+
+use nonempty_collections::iter::{NonEmptyIterator, Source};
+use nonempty_collections::{IntoNonEmptyIterator, NEVec, laws};
+use std::alloc::{AllocError, Global};
+use std::num::NonZeroUsize;
+
+/// Half of each item.
+pub fn halves<S: NonEmptyIterator<Item = u32>>(
+    alloc: Global,
+    source: S,
+) -> Result<NEVec<u32>, AllocError>
+    requires { ⟦<S as Source>⟧.ends source }
+    ensures { IfOk result (λ v. (xs : List ℕ) → GivesList (⟦<S as Source>⟧.reads) source xs
+        → v ≡ map (λ x. x / 2) xs) }
+{
+    let half = |x| x / 2;
+    laws::list_of_map(&source, &half);
+    let mapped = source.map(half);
+    laws::lists_are_read_whole(&mapped);
+    mapped.collect(alloc)
+}
+
+/// The first `n` items, or all of them.
+pub fn first_items<T: Drop, S: NonEmptyIterator<Item = T>>(
+    alloc: Global,
+    source: S,
+    n: NonZeroUsize,
+) -> Result<NEVec<T>, AllocError>
+    requires { ⟦<S as Source>⟧.starts source }
+    ensures { IfOk result (λ v. (xs : List T) → GivesList (⟦<S as Source>⟧.reads) source xs
+        → v ≡ take (non_zero_usize_get n) xs) }
+{
+    laws::list_of_take(&source);
+    let taken = source.take(n);
+    laws::lists_are_read_whole(&taken);
+    taken.collect(alloc)
+}
+
+/// The items, and then those of another source.
+pub fn joined<T: Drop, S: NonEmptyIterator<Item = T>, U: IntoIterator<Item = T>>(
+    alloc: Global,
+    source: S,
+    other: U,
+) -> Result<NEVec<T>, AllocError>
+    requires ends { ⟦<S as Source>⟧.ends source }
+    requires other_ends { ⟦<U as Source>⟧.ends other }
+    ensures { IfOk result (λ v. (xs ys : List T) → GivesList (⟦<S as Source>⟧.reads) source xs
+        → GivesList (⟦<U as Source>⟧.reads) other ys → v ≡ xs ++ ys) }
+{
+    laws::list_of_chain(&source, &other);
+    let chained = source.chain(other);
+    laws::lists_are_read_whole(&chained);
+    chained.collect(alloc)
+}
+
+/// The greatest of the numbers that a source shows.
+pub fn greatest<'a, S: NonEmptyIterator<Item = &'a u32>>(source: S) -> u32
+    requires { ⟦<S as Source>⟧.ends source }
+    ensures among { (xs : List ℕ) → ShowsList (⟦<S as Source>⟧.reads) source xs
+        → Contains xs result }
+    ensures bound { (xs : List ℕ) → ShowsList (⟦<S as Source>⟧.reads) source xs
+        → All (λ x. x ≤ result) xs }
+{
+    laws::list_of_copied(&source);
+    let copied = source.copied();
+    laws::lists_are_read_whole(&copied);
+    laws::first_greatest_is_the_greatest_number();
+    copied.max()
+}
