@@ -4,7 +4,7 @@ use Rattle.std.proofs.lemmas.Option.{slice_get-get_or}
 use Rattle.std.specs.Prelude.{◌≡◌, ℕ, ◌<◌, Bool, true, List, length, slice_get, slice_index_or, Option, Some, refl}
 use Rattle.std.specs.Option.{option_map}
 use Rattle.std.specs.Iterator.{DrainsIf}
-use Rattle.std.specs.Iterator.Runs.{Run, Trigger, YieldsRun}
+use Rattle.std.specs.Iterator.Runs.{Run, EachRunFrom, Trigger, YieldsRun}
 use Rattle.ne_vec.specs.Fronts.{IsFront, Lists}
 use Rattle.ne_iter.specs.Firsts.{AreFirst}
 
@@ -37,11 +37,11 @@ module _ {S A : Type 0} (steps : S → Option A → S → Type 0) where
     gave = (given, λ k. refl);
   }
 
-  pub Lists-from_fronts : (it : S) (xs : List A)
+  pub each_front : (it : S) (xs : List A)
       → ((whole : Bool) (ys : List A) → DrainsIf steps (whole ≡ true) it ys → AreFirst whole xs ys)
-      → Lists steps it xs
-  unfolding Lists IsFront
-  Lists-from_fronts it xs fronts p _ from = fronts p.whole p.items
+      → EachRunFrom steps it (λ p. IsFront p xs)
+  unfolding IsFront
+  each_front it xs fronts p _ from = fronts p.whole p.items
       (subst (λ s. DrainsIf steps (p.whole ≡ true) s p.items) from (run_drains p))
 
   pub fronts-from_Lists : (it : S) (xs : List A) → Lists steps it xs

@@ -4,7 +4,7 @@ ghost use Rattle.std.specs.Global.{Global};
 ghost use Rattle.std.specs.Borrow.{Bor, MutBor};
 ghost use Rattle.std.specs.Slice.Iter.{iter_mut_rest};
 ghost use Rattle.ne_vec.specs.Divisions.{IsDivision, by_first, by_previous, joined};
-ghost use Rattle.ne_vec.specs.Fronts.{Lists, mark};
+ghost use Rattle.ne_vec.specs.Fronts.{GivesItems, Lists};
 ghost use Rattle.ne_vec.specs.Lends.{std_walk};
 ghost use Rattle.ne_vec.specs.SliceRuns.{Cutting, ActsAsAtPair};
 ghost use Rattle.std.specs.List.{flat_map};
@@ -157,13 +157,15 @@ pub fn lists_are_read_whole<S: IntoIterator>(source: &S)
 {}
 
 /// A source gives a list exactly if each iterator that it becomes does, run by run: `Lists` is the
-/// word by which the clauses `runs` of adapters and consumers speak of lists.
+/// word by which the clauses `runs` of adapters and consumers speak of lists, and `GivesItems` says
+/// besides what follows for a run: a whole one has the list's items.
 pub fn lists_of_iterators<S: IntoIterator>(source: &S)
     ensures runs { (it : S.IntoIter) (xs : List S.Item)
         → GivesList (⟦<S as Source>⟧.reads) source.now xs → S.into_iter_gives source.now it
-        → Lists S.IntoIter.next_gives it xs × (mark it xs ≡ 0) }
+        → GivesItems S.IntoIter.next_gives it xs }
     ensures back { (xs : List S.Item)
-        → ((it : S.IntoIter) → S.into_iter_gives source.now it → Lists S.IntoIter.next_gives it xs)
+        → ((it : S.IntoIter) → S.into_iter_gives source.now it
+        → Lists S.IntoIter.next_gives it xs)
         → GivesList (⟦<S as Source>⟧.reads) source.now xs }
 {}
 
