@@ -2,14 +2,13 @@
 //!
 //! A generic function knows nothing of its source but its bounds, so its chain does not prove
 //! itself: it calls the law of each adapter, and that of what is read to its end.
-ghost use Rattle.std.specs.Prelude.{◌≡◌, ◌/◌, ◌++◌, ◌≤◌, ℕ, Bool, List, IfOk, ltb, map, filter, take, All, Contains};
+ghost use Rattle.std.specs.Prelude.{◌≡◌, ◌/◌, ◌++◌, ◌≤◌, ℕ, List, IfOk, ltb, map, filter, take};
 ghost use Rattle.std.specs.Int.NonZero.{non_zero_usize_get};
-ghost use Rattle.std.specs.Iterator.Runs.{CountFits};
-ghost use Rattle.std.specs.List.{enumerate_from, zip};
+ghost use Rattle.std.specs.List.{All, Contains};
 ghost use Rattle.ne_iter.specs.Gives.{GivesList, ShowsList};
 
 use nonempty_collections::iter::{NonEmptyIterator, Source};
-use nonempty_collections::{IntoNonEmptyIterator, NEVec, laws};
+use nonempty_collections::{NEVec, laws};
 use std::alloc::{AllocError, Global};
 use std::num::NonZeroUsize;
 
@@ -60,6 +59,22 @@ pub fn joined<T: Drop, S: NonEmptyIterator<Item = T>, U: IntoIterator<Item = T>>
     let chained = source.chain(other);
     laws::lists_are_read_whole(&chained);
     chained.collect(alloc)
+}
+
+/// The items below 10. There may be none, so the chain is std's behind `filter`.
+pub fn small<S: NonEmptyIterator<Item = u32>>(
+    alloc: Global,
+    source: S,
+) -> Result<Vec<u32>, AllocError>
+    requires { ⟦<S as Source>⟧.ends source }
+    ensures { IfOk result (λ v. (xs : List ℕ) → GivesList (⟦<S as Source>⟧.reads) source xs
+        → v.items ≡ filter (λ x. ltb x 10) xs) }
+{
+    let is_small = |x: &u32| *x < 10;
+    laws::list_of_filter(&source, &is_small);
+    let kept = source.filter(is_small);
+    laws::lists_are_read_whole(&kept);
+    kept.collect(alloc)
 }
 
 /// The greatest of the numbers that a source shows.

@@ -10,7 +10,7 @@ mod runs;
 mod thin;
 mod wide;
 
-pub use any_source::{first_items, greatest, halves, joined};
+pub use any_source::{first_items, greatest, halves, joined, small};
 pub use nested::{running_totals, scan_of_all};
 pub use own::{Boxed, Countdown, CountdownIter, Stack, StackIntoIter, StackIter, Start};
 pub use runs::{first_runs, run_lengths, runs_of_answers};
