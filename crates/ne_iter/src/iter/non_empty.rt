@@ -316,7 +316,7 @@ pub trait NonEmptyIterator: IntoIterator {
     ///
     /// The first item is drawn at once. In the Rust crate `into_iter` of what is answered draws it, and clones the separator once more;
     /// the items are plain there.
-    final fn intersperse(self, separator: Self::Item) -> Intersperse<Self>
+    final fn intersperse(self, separator: Self::Item) -> Intersperse<Self::IntoIter>
     where
         Self: Sized,
         Self::Item: Clone + Drop,
@@ -324,7 +324,7 @@ pub trait NonEmptyIterator: IntoIterator {
         ensures holds { separator_of_intersperse result ≡ separator }
         ensures drawn { FirstAndRest Self.into_iter_gives Self.IntoIter.next_gives self (first_of_intersperse result) (rest_of_intersperse result) }
         ensures goes_on { (it : Self.IntoIter) × Self.into_iter_gives self it × MakesProgress Self.IntoIter.can_next Self.IntoIter.remaining it (Some (first_of_intersperse result)) (rest_of_intersperse result) }
-        ensures gives { IntersperseGives (⟦<Self as Source>⟧.reads) (TriesClone Self.Item.is_clone Self.Item.is_infallible) (⟦<Intersperse<Self> as Source>⟧.reads) self separator result }
+        ensures gives { IntersperseGives (⟦<Self as Source>⟧.reads) (TriesClone Self.Item.is_clone Self.Item.is_infallible) (⟦<Intersperse<Self::IntoIter> as Source>⟧.reads) self separator result }
     {
         let (first, rest) = self.next();
         Intersperse {
