@@ -53,9 +53,12 @@ module _ {S K A F : Type 0} (steps : S → Option A → S → Type 0) (asks : Mu
   AnswersOn s f done answers h = (rs : List (List A)) × (more : List (Option (Result (List A) AllocError)))
       × (answers ≡ map (λ run. Some (Ok run)) rs ++ more) × AnswersThen s f (done ++ rs) more h
 
--- A reader that is not over needs a source that can be drawn and ends, and a closure that can be called.
-abbrev pub CanRead : {S K A F : Type 0} → (S → Type 0) → (S → Count) → (F → Type 0) → Reading S K A F → Type 0
-CanRead can left callable g = (IsOver g → ⊥) → can g.source × IsFinite (left g.source) × callable g.closure
+-- A reader that is not over needs a source that can be drawn and ends, and a closure that can be
+-- called at each item that may come of it.
+abbrev pub CanRead : {S K A F : Type 0} → (S → Type 0) → (S → Count) → (S → F → Type 0)
+    → Reading S K A F → Type 0
+CanRead can left callable g =
+    (IsOver g → ⊥) → can g.source × IsFinite (left g.source) × callable g.source g.closure
 
 -- There are no more runs than items ahead: those that the source has left, and the one that is held.
 abbrev pub items_ahead : {K A : Type 0} → Ahead K A → ℕ → ℕ

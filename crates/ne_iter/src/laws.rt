@@ -2,7 +2,7 @@
 ghost use Rattle.std.specs.Prelude.{◌≡◌, ◌≢◌, ◌<◌, true, Bool, List, [], ◌∷◌, ◌++◌, Option, Some, None, Result, Ok, Err, is_ok, MatchResult, length, map, Vec, ℕ, ◌+◌, ◌-◌, ◌*◌, IsSomeAnd, slice_get};
 ghost use Rattle.std.specs.Global.{Global};
 ghost use Rattle.std.specs.Borrow.{Bor};
-ghost use Rattle.std.specs.Iterator.{ActsAs, ActsAsAt, Drains};
+ghost use Rattle.std.specs.Iterator.{ActsAs, ActsAsAt, CallableOnAllAt, Drains};
 ghost use Rattle.std.specs.List.{AllByRecursion, FoldsTo, list_all, scan};
 ghost use Rattle.ne_vec.specs.Divisions.{IsDivision, by_first, by_previous, joined};
 ghost use Rattle.ne_vec.specs.SliceRuns.{Cutting, ActsAsAtPair};
@@ -114,6 +114,14 @@ pub fn sources_show_what_is_left<'a, T: 'a, S: IntoIterator<Item = &'a T>>()
 pub fn results_make_a_vector<T: Drop, E: Drop>()
     ensures { (items : List (Result T E)) (result : Result (List T) E) → ⟦<Result<NEVec<T>, E> as FromNonEmptyIterator<Result<T, E>>>⟧.collected items result
         → MatchResult result (λ v. items ≡ map Ok v) (λ e. (values : List T) × (items ≡ map Ok values ++ Err e ∷ [])) }
+{}
+
+/// A closure that may be called at any item may be called at each item that comes of an iterator,
+/// one after another. Generic code that knows the first of its closure calls this law, and then the
+/// calls that ask for the second, such as `group_by`.
+pub fn always_callable_is_callable_on_all_items<I: Iterator, R, F: FnMut(&I::Item) -> R>()
+    ensures { (it : I) (f : F) → F.IsAlwaysCallable f
+        → CallableOnAllAt I.next_gives F.FnMut it f }
 {}
 
 /// A reader of runs has read as its contract says, whatever calls of its `next` were made: it answered runs, and then it may have

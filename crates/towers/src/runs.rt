@@ -7,10 +7,14 @@ ghost use Rattle.ne_vec.specs.SliceRuns.{ActsAsAtPair};
 ghost use Rattle.ne_iter.specs.Gives.{HasRuns};
 ghost use Rattle.towers.specs.Runs.{AreRunsOfAnswers};
 
-use ne_iter::laws::{calls_of_a_function, results_make_a_vector, slice_runs_are_the_division};
+use ne_iter::laws::{
+    always_callable_is_callable_on_all_items, calls_of_a_function, results_make_a_vector,
+    slice_runs_are_the_division,
+};
 use nonempty_collections::iter::{NonEmptyIterator, Source};
 use nonempty_collections::{NESlice, NEVec};
 use std::alloc::{AllocError, Global};
+use std::iter;
 use std::num::NonZeroUsize;
 
 /// The runs of the answers of `f` on the items of `source`, by the keys that `key` answers at them.
@@ -29,6 +33,7 @@ where
     ensures { IfOk result (AreRunsOfAnswers (⟦<S as Source>⟧.reads) F.FnMut G.FnMut K.eq source f key) }
 {
     results_make_a_vector::<NEVec<T>, AllocError>();
+    always_callable_is_callable_on_all_items::<iter::Map<S::IntoIter, F>, K, G>();
     source.map(f).group_by(alloc, key).collect(alloc)?
 }
 
@@ -47,6 +52,7 @@ where
     ensures count { IfOk result (λ rs. length rs ≤ non_zero_usize_get n) }
 {
     results_make_a_vector::<NEVec<S::Item>, AllocError>();
+    always_callable_is_callable_on_all_items::<S::IntoIter, K, G>();
     source.group_by(alloc, key).take(n).collect(alloc)?
 }
 

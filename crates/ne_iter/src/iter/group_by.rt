@@ -1,4 +1,5 @@
 //! The adapter that divides the items of a source into runs of equal keys.
+ghost use Rattle.std.specs.Iterator.{CallableOnAllAt};
 ghost use Rattle.ne_iter.specs.Reader.{CanRead, GivesRun, runs_left};
 
 use super::NonEmptyIterator;
@@ -89,7 +90,7 @@ where
 {
     type Item = Result<NEVec<I::Item>, AllocError>;
 
-    ghost can_next = { CanRead I.can_next I.remaining F.IsAlwaysCallable };
+    ghost can_next = { CanRead I.can_next I.remaining (CallableOnAllAt I.next_gives F.FnMut) };
 
     ghost next_gives = { GivesRun I.next_gives F.FnMut K.eq };
 

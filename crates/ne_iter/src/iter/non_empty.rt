@@ -298,7 +298,9 @@ pub trait NonEmptyIterator: IntoIterator {
         Self: Sized,
         Self::Item: Drop,
         ensures holds { (source_of_group_by result ≡ self) × (closure_of_group_by result ≡ f) }
-        ensures ends { ⟦<Self as Source>⟧.ends self → F.IsAlwaysCallable f
+        ensures ends { ⟦<Self as Source>⟧.ends self
+            → ((it : Self.IntoIter) → Self.into_iter_gives self it
+            → CallableOnAllAt Self.IntoIter.next_gives F.FnMut it f)
             → ⟦<NEGroupBy<Self, F> as Source>⟧.ends result }
         ensures gives { GroupByGives (⟦<Self as Source>⟧.reads) F.FnMut K.eq (⟦<NEGroupBy<Self, F> as Source>⟧.reads) self f result }
         ensures stops { GroupByStops (⟦<Self as Source>⟧.reads) F.FnMut K.eq (⟦<NEGroupBy<Self, F> as Source>⟧.reads) self f result }
