@@ -7,4 +7,5 @@
 pub mod adapters;
 pub mod consumers;
 pub mod sources;
+pub mod texts;
 pub mod towers;
