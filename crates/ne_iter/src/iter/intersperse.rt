@@ -21,13 +21,23 @@ where
 {
     ghost use Rattle.std.specs.Prelude.{◌≡◌, Some, false};
     ghost use Rattle.ne_iter.specs.Parts.{first_of_intersperse, rest_of_intersperse, separator_of_intersperse};
-    ghost use Rattle.ne_iter.specs.Interspersed.{drawn_from, clones_of, in_hand, is_over};
+    ghost use Rattle.ne_iter.specs.Interspersed.{
+      drawn_from,
+      clones_of,
+      in_hand,
+      is_over,
+      IntersperseRuns,
+    };
 
     type Item = Result<I::Item, AllocError>;
 
     type IntoIter = RawIntersperse<I>;
 
-    ghost into_iter_gives = { λ s it. (in_hand it ≡ Some (first_of_intersperse s)) × (drawn_from it ≡ rest_of_intersperse s) × (clones_of it ≡ separator_of_intersperse s) × (is_over it ≡ false) };
+    ghost into_iter_gives = { λ s it. (in_hand it ≡ Some (first_of_intersperse s))
+        × (drawn_from it ≡ rest_of_intersperse s) × (clones_of it ≡ separator_of_intersperse s)
+        × (is_over it ≡ false)
+        × IntersperseRuns I.next_gives I.Item.is_clone I.Item.is_infallible
+        (separator_of_intersperse s) (first_of_intersperse s) (rest_of_intersperse s) it };
 
     /// In the Rust crate the separator is cloned once more here; it is moved.
     fn into_iter(self) -> RawIntersperse<I> {
