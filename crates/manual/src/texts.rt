@@ -20,6 +20,8 @@ ghost use Rattle.std.specs.Prelude.{
   IfOk,
   IfSome,
   IsTrue,
+  IsFalse,
+  IfNone,
   IsPermutation,
   ltb,
   true,
@@ -41,6 +43,8 @@ ghost use Rattle.std.specs.Ordering.{is_lt, nat_cmp};
 ghost use Rattle.std.specs.String.{string_bytes};
 ghost use Rattle.std.specs.Int.NonZero.{non_zero_usize_get};
 ghost use Rattle.ne_iter.specs.Collected.{IsMapOf, IsSetOf};
+ghost use Rattle.ne_iter.specs.Interspersed.{interspersed};
+ghost use Rattle.ne_iter.specs.Keys.{IsDividedBy};
 
 use nonempty_collections::{IntoIteratorExt, IntoNonEmptyIterator, NEVec, NonEmptyIterator, iter};
 use std::alloc::{AllocError, Global};
@@ -162,7 +166,9 @@ pub fn separated<'a>(
     alloc: Global,
     texts: NEVec<&'a str>,
     separator: &'a str,
-) -> Result<Result<NEVec<&'a str>, AllocError>, AllocError> {
+) -> Result<Result<NEVec<&'a str>, AllocError>, AllocError>
+    ensures { IfOk result (λ r. IfOk r (λ v. v ≡ interspersed separator.entry texts.entry)) }
+{
     texts
         .into_nonempty_iter()
         .intersperse(separator)
@@ -173,7 +179,10 @@ pub fn separated<'a>(
 pub fn by_length<'a>(
     alloc: Global,
     texts: NEVec<&'a str>,
-) -> Result<Result<NEVec<NEVec<&'a str>>, AllocError>, AllocError> {
+) -> Result<Result<NEVec<NEVec<&'a str>>, AllocError>, AllocError>
+    ensures { IfOk result (λ r. IfOk r (λ rs.
+        IsDividedBy (λ t. length t.now) nat_eq texts.entry rs)) }
+{
     texts
         .into_nonempty_iter()
         .group_by(alloc, |t| t.len())
@@ -181,10 +190,9 @@ pub fn by_length<'a>(
 }
 
 /// The texts of a vector that may be empty, if there is one.
-pub fn looked<'a>(
-    alloc: Global,
-    texts: Vec<&'a str>,
-) -> Result<Option<NEVec<&'a str>>, AllocError> {
+pub fn looked<'a>(alloc: Global, texts: Vec<&'a str>) -> Result<Option<NEVec<&'a str>>, AllocError>
+    ensures { IfOk result (λ o. IfSome o (λ v. v ≡ texts.entry.items)) }
+{
     match texts.try_into_nonempty_iter() {
         Some(texts) => Ok(Some(texts.collect(alloc)?)),
         None => Ok(None),
@@ -243,21 +251,24 @@ pub fn reduced<'a>(texts: NEVec<&'a str>) -> &'a str
 
 /// Whether all texts are shorter than 10 bytes.
 pub fn all_short(texts: NEVec<&str>) -> bool
-    ensures { IsTrue result → All (λ t. length t.now < 10) texts.entry }
+    ensures all { IsTrue result → All (λ t. length t.now < 10) texts.entry }
+    ensures not_all { IsFalse result → Any (λ t. 10 ≤ length t.now) texts.entry }
 {
     texts.into_nonempty_iter().all(|t| t.len() < 10)
 }
 
 /// Whether a text is shorter than 10 bytes.
 pub fn any_short(texts: NEVec<&str>) -> bool
-    ensures { IsTrue result → Any (λ t. length t.now < 10) texts.entry }
+    ensures any { IsTrue result → Any (λ t. length t.now < 10) texts.entry }
+    ensures none { IsFalse result → All (λ t. 10 ≤ length t.now) texts.entry }
 {
     texts.into_nonempty_iter().any(|t| t.len() < 10)
 }
 
 /// A text that is shorter than 10 bytes.
 pub fn some_short<'a>(texts: NEVec<&'a str>) -> Option<&'a str>
-    ensures { IfSome result (λ t. Contains texts.entry t × (length t.now < 10)) }
+    ensures found { IfSome result (λ t. Contains texts.entry t × (length t.now < 10)) }
+    ensures none { IfNone result (All (λ t. 10 ≤ length t.now) texts.entry) }
 {
     texts.into_nonempty_iter().find(|t| t.len() < 10)
 }
