@@ -6,5 +6,7 @@
 
 pub mod adapters;
 pub mod consumers;
+pub mod runs;
 pub mod sources;
+pub mod texts;
 pub mod towers;

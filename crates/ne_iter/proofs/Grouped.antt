@@ -3,14 +3,15 @@ use Rattle.std.proofs.Common.{◌≡◌, Bool, true, false, List, [], ◌∷◌,
 use Rattle.std.proofs.lemmas.List.{append-nil, map_push}
 use Rattle.std.specs.Borrow.{Bor}
 use Rattle.std.specs.Fn.{Mut}
-use Rattle.std.specs.Iterator.{Yields}
+use Rattle.std.proofs.iter.runs.Made.{run, took}
+use Rattle.std.specs.Iterator.{ActsAsAt, DrainsIf, Yields}
 use Rattle.std.specs.List.{FoldsTo, AllByRecursion}
 use Rattle.std.specs.declared.alloc.AllocError.{AllocError}
 use Rattle.ne_vec.specs.Divisions.{IsDivision, by_first}
 use Rattle.ne_iter.specs.Calls.{ShownEach}
-use Rattle.ne_iter.specs.Gives.{HasRuns}
-use Rattle.ne_iter.specs.Keys.{items_of, same_key}
-use Rattle.ne_iter.specs.Reader.{IsOver, StandsAt, HasRead, GivesRun, AnswersThen, AnswersOn}
+use Rattle.ne_iter.specs.Gives.{HasRuns, and_held}
+use Rattle.ne_iter.specs.Keys.{items_of, same_key, DividesByKey, IsDividedBy}
+use Rattle.ne_iter.specs.Reader.{IsOver, StandsAt, HasRead, GivesRun, GroupsRuns, AnswersThen, AnswersOn}
 use Rattle.ne_iter.specs.ReaderLaws.{fresh_reader, nil_mapped}
 use Rattle.ne_iter.specs.Reading.{Reading, Ahead, Unread, Held, Ended}
 use Rattle.ne_iter.specs.Sources.{Reads}
@@ -120,3 +121,31 @@ module _ {S K A F : Type 0} (steps : S → Option A → S → Type 0) (asks : Mu
   -- a reader as `into_iter` makes it has answered no run
   pub begun : (it : Reading S K A F) (f : F) → it.closure ≡ f → it.ahead ≡ Unread → HasRead steps asks eq it.source f [] it
   begun it f same unread = subst (λ q. HasRead steps asks eq it.source q [] it) same (fresh_reader steps asks eq it unread)
+
+  -- the runs that came to the end, where a closure that acts as a function gives the runs by it
+  pub runs_grouped : (g : Reading S K A F) → g.ahead ≡ Unread
+      → ((eq : K → K → Bool) (h : A → K) (ps : List (A × K)) (rs : List (List A)) (f : F)
+      → ActsAsAt asks g.closure h → ShownEach asks g.closure ps f → DividesByKey eq ps rs
+      → IsDivision (by_first (λ x y. eq (h x) (h y))) (items_of ps) rs)
+      → GroupsRuns steps asks eq g
+  unfolding IsDividedBy
+  runs_grouped g unread by_function p seen from rs is w =
+      let whole : DrainsIf (GivesRun steps asks eq) (p.whole ≡ true) g (map Ok rs) =
+      subst (λ q. DrainsIf (GivesRun steps asks eq) (p.whole ≡ true) q (map Ok rs)) from
+      (subst (DrainsIf (GivesRun steps asks eq) (p.whole ≡ true) p.from) is (took p)) in
+      let r = given_runs {U = S} (λ u s. u ≡ s) g.source g.source refl g.closure true rs g whole.0
+      (fresh_reader steps asks eq g unread) whole.1 (λ e. whole.2 w) in
+      let over = r.8 refl in
+      let read : Reads (λ u s. u ≡ s) steps true g.source (items_of r.0) =
+      subst (λ e. Reads (λ u s. u ≡ s) steps e g.source (items_of r.0)) over.0 r.4 in (
+        refl,
+        (
+          run steps read.it (items_of r.0) true read.given,
+          sym read.made,
+          (
+            refl,
+            λ h acts. by_function eq h r.0 rs r.1 acts r.5
+                (subst (λ held. DividesByKey eq r.0 (and_held rs held)) over.1 r.6),
+          ),
+        ),
+      )

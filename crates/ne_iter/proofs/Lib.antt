@@ -5,6 +5,7 @@ pub mod FlatRuns
 pub mod PeekedRuns
 pub mod InterspersedRuns
 pub mod InterspersedPlaces
+pub mod InterspersedLists
 pub mod LookedRuns
 pub mod Unzipped
 pub mod Fronts

@@ -1,9 +1,13 @@
 -- Items with a separator between each two of them.
 use Rattle.std.proofs.Common.{rules}
-use Rattle.std.specs.Prelude.{◌≡◌, ◌+◌, ◌*◌, Bool, false, List, [], ◌∷◌, true, Option, None, Some, MatchOption, IsSomeAnd, Result, Ok, MatchResult}
+use Rattle.std.specs.Prelude.{◌≡◌, ◌+◌, ◌*◌, Bool, false, List, [], ◌∷◌, drop, map, true, Option, None, Some, MatchOption, IsSomeAnd, Result, Ok, MatchResult}
 use Rattle.std.specs.Bool.{MatchBool}
 use Rattle.std.specs.Option.{option_len}
 use Rattle.std.specs.Iterator.{Count, count_map, count_unless}
+use Rattle.std.specs.Iterator.Runs.{EachRunFrom, SomeRun}
+use Rattle.std.specs.List.{flat_map}
+use Rattle.std.specs.declared.alloc.AllocError.{AllocError}
+use Rattle.ne_iter.specs.Clones.{TriesClone}
 use Rattle.std.proofs.lemmas.Bool.{MatchBool-at_false}
 use Rattle.std.proofs.lemmas.Option.{MatchOption-at_some}
 use Rattle.ne_iter.specs.Sources.{HasFirst}
@@ -16,6 +20,10 @@ Interspersed came [] zs = zs ≡ []
 Interspersed came (x ∷ []) zs = zs ≡ Ok x ∷ []
 Interspersed {A} {E} came (x ∷ y ∷ xs) zs = (c : Result A E) × (more : List (Result A E)) × came c × (zs ≡ Ok x ∷ c ∷ more)
     × MatchResult c (λ _. Interspersed came (y ∷ xs) more) (λ _. more ≡ [])
+
+-- xs with s between each two items: s in front of each item, but for the first.
+abbrev pub interspersed : {A : Type 0} → A → List A → List A
+interspersed s xs = drop 1 (flat_map (λ x. s ∷ x ∷ []) xs)
 
 -- the iterator that a `RawIntersperse` draws from, the separator, the item that was drawn and comes next, and whether a clone was refused
 abbrev pub drawn_from : {I X : Type 0} → RawIntersperse I X → I
@@ -52,3 +60,17 @@ module _ {S A E : Type 0} (steps : S → Option A → S → Type 0) (tries : A �
   HasFirst-interspersed s x hand fresh t ended =
       let e = (MatchOption-at_some _ _ x hand (MatchBool-at_false _ _ fresh ended.1)).0 in
       search rules
+
+-- Behind each run of `it` stands one of `rest`, whose items come behind x. If clones of the
+-- separator s equal it and cannot be refused, a whole run gives all of them with s between each two,
+-- each in `Ok`, and so do the values of any results that equal what it gave.
+abbrev pub IntersperseRuns : {S A : Type 0} → (S → Option A → S → Type 0) → (A → A → Type 0)
+    → (A → Type 0) → A → A → S → RawIntersperse S A → Type 0
+IntersperseRuns {S} {A} steps clones infallible s x rest it =
+    EachRunFrom (InterspersesNext steps (TriesClone {E = AllocError} clones infallible)) it (λ p.
+    SomeRun steps rest (λ q.
+    infallible s → ((y z : A) → clones y z → z ≡ y) → p.whole ≡ true → (q.whole ≡ true)
+    × (p.items ≡ map Ok (interspersed s (x ∷ q.items)))
+    × ((values : List A) → p.items ≡ map Ok values
+    → (map {B = Result A AllocError} Ok values ≡ map Ok values)
+    × (values ≡ interspersed s (x ∷ q.items)))))

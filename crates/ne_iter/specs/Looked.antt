@@ -3,6 +3,8 @@ use Rattle.std.proofs.Common.{rules}
 use Rattle.std.specs.Prelude.{◌≡◌, Option, None, Some, MatchOption, IfSome, List, [], ◌∷◌, Bool, true, false}
 use Rattle.std.specs.Iterator.Adapters.{peekable_source, peekable_peeked, peekable_steps}
 use Rattle.std.specs.declared.iter.Ahead.{Ahead}
+use Rattle.std.specs.Iterator.Runs.{EachRunFrom}
+use Rattle.ne_iter.specs.SourceRuns.{RunsSome}
 use Rattle.ne_iter.specs.Sources.{HasFirst}
 
 -- an item was peeked
@@ -28,6 +30,14 @@ HasFirst-looked steps s h t ended = not_none steps s t (peekable_peeked s) h end
 abbrev pub LooksWhole : {U V A : Type 0} → (Bool → U → List A → Type 0) → (Bool → V → List A → Type 0) → U → Option V → Type 0
 LooksWhole {A = A} reads looked source result = MatchOption result (reads true source [])
     (λ v. ((x : A) × reads false source (x ∷ [])) × ((whole : Bool) (xs : List A) → looked whole v xs → reads whole source xs))
+
+-- Behind each run of the iterator that is given stands one of the source's, of the same items.
+abbrev pub LooksRuns : {U V S T A : Type 0} → (U → S → Type 0) → (S → Option A → S → Type 0)
+    → (T → Option A → T → Type 0) → (V → T) → U → Option V → Type 0
+LooksRuns becomes steps looked_steps iterator_of source result =
+    IfSome result (λ v. EachRunFrom looked_steps (iterator_of v) (λ p.
+    RunsSome becomes steps source (λ q.
+    (q.whole ≡ p.whole) × (p.len ≡ q.len) × (p.items ≡ q.items))))
 
 -- Where the source may be called until it ends, so may what is given.
 abbrev pub LooksOn : {U V : Type 0} → (U → Type 0) → (V → Type 0) → U → Option V → Type 0

@@ -98,11 +98,11 @@ abbrev pub closure_of_group_by : {I F : Type 0} → NEGroupBy I F → F
 closure_of_group_by s = s.f
 
 -- the item that an `Intersperse` has drawn, the iterator of those behind it, and the separator
-abbrev pub first_of_intersperse : {I X S : Type 0} → Intersperse I X S → X
+abbrev pub first_of_intersperse : {S X : Type 0} → Intersperse S X → X
 first_of_intersperse s = s.first
 
-abbrev pub rest_of_intersperse : {I X S : Type 0} → Intersperse I X S → S
+abbrev pub rest_of_intersperse : {S X : Type 0} → Intersperse S X → S
 rest_of_intersperse s = s.rest
 
-abbrev pub separator_of_intersperse : {I X S : Type 0} → Intersperse I X S → X
+abbrev pub separator_of_intersperse : {S X : Type 0} → Intersperse S X → X
 separator_of_intersperse s = s.separator

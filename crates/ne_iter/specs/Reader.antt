@@ -1,13 +1,14 @@
 -- What a reader of runs has drawn and answered, at whatever moment it is stopped.
-use Rattle.std.specs.Prelude.{◌≡◌, ◌≢◌, ℕ, ◌+◌, Bool, List, [], ◌∷◌, ◌++◌, map, Option, Some, None, Result, Ok, Err, MatchOption, OnErr, IfOk}
+use Rattle.std.specs.Prelude.{◌≡◌, ◌≢◌, ℕ, ◌+◌, Bool, true, List, [], ◌∷◌, ◌++◌, map, Option, Some, None, Result, Ok, Err, MatchOption, OnErr, IfOk}
 use Rattle.std.specs.Fn.{Mut}
 use Rattle.std.specs.List.{AllByRecursion}
 use Rattle.std.specs.Borrow.{Bor}
-use Rattle.std.specs.Iterator.{Yields, YieldsThen, Count, IsFinite, at_most, size}
+use Rattle.std.specs.Iterator.{ActsAsAt, Yields, YieldsThen, Count, IsFinite, at_most, size}
+use Rattle.std.specs.Iterator.Runs.{EachRunFrom, SomeRun}
 use Rattle.std.specs.declared.alloc.AllocError.{AllocError}
 use Rattle.ne_vec.specs.Divisions.{IsDivision, by_first}
 use Rattle.ne_iter.specs.Calls.{ShownEach}
-use Rattle.ne_iter.specs.Keys.{items_of, same_key}
+use Rattle.ne_iter.specs.Keys.{items_of, same_key, IsDividedBy}
 use Rattle.ne_iter.specs.Reading.{Reading, Ahead, Unread, Held, Ended}
 
 -- It answers `None` from now on.
@@ -53,9 +54,12 @@ module _ {S K A F : Type 0} (steps : S → Option A → S → Type 0) (asks : Mu
   AnswersOn s f done answers h = (rs : List (List A)) × (more : List (Option (Result (List A) AllocError)))
       × (answers ≡ map (λ run. Some (Ok run)) rs ++ more) × AnswersThen s f (done ++ rs) more h
 
--- A reader that is not over needs a source that can be drawn and ends, and a closure that can be called.
-abbrev pub CanRead : {S K A F : Type 0} → (S → Type 0) → (S → Count) → (F → Type 0) → Reading S K A F → Type 0
-CanRead can left callable g = (IsOver g → ⊥) → can g.source × IsFinite (left g.source) × callable g.closure
+-- A reader that is not over needs a source that can be drawn and ends, and a closure that can be
+-- called at each item that may come of it.
+abbrev pub CanRead : {S K A F : Type 0} → (S → Type 0) → (S → Count) → (S → F → Type 0)
+    → Reading S K A F → Type 0
+CanRead can left callable g =
+    (IsOver g → ⊥) → can g.source × IsFinite (left g.source) × callable g.source g.closure
 
 -- There are no more runs than items ahead: those that the source has left, and the one that is held.
 abbrev pub items_ahead : {K A : Type 0} → Ahead K A → ℕ → ℕ
@@ -65,3 +69,13 @@ items_ahead Ended left = 0
 
 abbrev pub runs_left : {S K A F : Type 0} → (S → Count) → Reading S K A F → Count
 runs_left left g = at_most (items_ahead g.ahead (size (left g.source)))
+
+-- Where g, which has read nothing, gives runs to its end, each in `Ok`, its source gives a list to its
+-- end. If the closure acts as a function h, these are the runs of that list by h.
+abbrev pub GroupsRuns : {S K A F : Type 0} → (S → Option A → S → Type 0)
+    → Mut F (Bor A × Unit {0}) K → (K → K → Bool) → Reading S K A F → Type 0
+GroupsRuns {K = K} {A = A} steps asks eq g = EachRunFrom (GivesRun steps asks eq) g (λ p.
+    (rs : List (List A)) → p.items ≡ map Ok rs → p.whole ≡ true
+    → (map {B = Result (List A) AllocError} Ok rs ≡ map Ok rs)
+    × SomeRun steps g.source (λ q. (q.whole ≡ true)
+    × ((h : A → K) → ActsAsAt asks g.closure h → IsDividedBy h eq q.items rs)))

@@ -21,8 +21,8 @@ pub use adapters::{
     runs_of_group_by,
 };
 pub use closures::{
-    answers_of_a_function, calls_of_a_function, folds_of_a_function, keys_of_a_function,
-    scans_of_a_function,
+    always_callable_is_callable_on_all_items, answers_of_a_function, calls_of_a_function,
+    folds_of_a_function, keys_of_a_function, scans_of_a_function,
 };
 pub use collected::{
     interspersed_lists_have_their_places, results_are_read_whole, results_make_a_vector,
@@ -37,7 +37,8 @@ pub use extremes::{
 };
 pub use firsts::first_items_stay_first;
 pub use readers::{
-    readers_stand_at_any_moment, runs_by_a_function, runs_make_the_whole,
+    readers_stand_at_any_moment, runs_by_a_function, runs_by_keys_are_the_division,
+    runs_make_the_whole,
     stopped_reader_has_the_first_runs, whole_reading_gives_the_division,
 };
 pub use selections::{

@@ -1,6 +1,6 @@
 //! The first runs of a source, and the reader as it stands after them.
 ghost use Rattle.std.specs.Prelude.{◌≡◌, ◌<◌, ◌≤◌, IfOk, length};
-ghost use Rattle.std.specs.Iterator.{IsFiniteIterable};
+ghost use Rattle.std.specs.Iterator.{IsFiniteIterable, CallableOnAllAt};
 ghost use Rattle.ne_iter.specs.Reader.{HasRead, IsOver};
 ghost use Rattle.ne_iter.specs.Reading.{Unread};
 
@@ -33,7 +33,8 @@ where
     I::Item: Drop,
     requires runs { IsFiniteIterable I.into_iter_gives I.IntoIter.can_next
         I.IntoIter.remaining iter }
-    requires callable { F.IsAlwaysCallable key }
+    requires callable { (it : I.IntoIter) → I.into_iter_gives iter it
+        → CallableOnAllAt I.IntoIter.next_gives F.FnMut it key }
     // The reader began with what the source becomes, and with this closure, and gave these runs.
     ensures reads { IfOk result (λ taken. (it : I.IntoIter) × I.into_iter_gives iter it
         × HasRead I.IntoIter.next_gives F.FnMut K.eq it key taken.0.items taken.1) }

@@ -5,6 +5,7 @@
 //! ensures. The Rust crate has no such module.
 
 pub use ne_iter::laws::{
+    always_callable_is_callable_on_all_items, runs_by_keys_are_the_division,
     answers_of_a_function, arrays_give_their_items, calls_of_a_function, chain_ends,
     chunks_give_themselves, cloned_ends, copied_ends, enumerate_ends, first_extremes_are_extremes,
     first_greatest_is_the_greatest_number, first_items_stay_first, first_least_is_the_least_number,

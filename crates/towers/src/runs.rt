@@ -9,11 +9,12 @@ ghost use Rattle.towers.specs.Runs.{AreRunsOfAnswers};
 
 use nonempty_collections::iter::{Map, NEGroupBy, NonEmptyIterator, Source, Take};
 use nonempty_collections::laws::{
-    calls_of_a_function, first_items_stay_first, results_are_read_whole,
+    always_callable_is_callable_on_all_items, calls_of_a_function, first_items_stay_first, results_are_read_whole,
     slice_runs_are_the_division,
 };
 use nonempty_collections::{NESlice, NEVec};
 use std::alloc::{AllocError, Global};
+use std::iter;
 use std::num::NonZeroUsize;
 
 /// The runs of the answers of `f` on the items of `source`, by the keys that `key` answers at them.
@@ -32,6 +33,7 @@ where
     ensures { IfOk result (AreRunsOfAnswers (⟦<S as Source>⟧.reads) F.FnMut G.FnMut K.eq source f key) }
 {
     results_are_read_whole::<NEVec<T>, AllocError, NEGroupBy<Map<S, F>, G>>();
+    always_callable_is_callable_on_all_items::<iter::Map<S::IntoIter, F>, K, G>();
     source.map(f).group_by(alloc, key).collect(alloc)?
 }
 
@@ -50,6 +52,7 @@ where
     ensures count { IfOk result (λ rs. length rs ≤ non_zero_usize_get n) }
 {
     results_are_read_whole::<NEVec<S::Item>, AllocError, Take<NEGroupBy<S, G>>>();
+    always_callable_is_callable_on_all_items::<S::IntoIter, K, G>();
     source.group_by(alloc, key).take(n).collect(alloc)?
 }
 

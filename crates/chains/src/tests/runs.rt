@@ -1,6 +1,6 @@
 //! Runs of equal keys: worked rows, and how often the key is asked and the source is drawn.
 ghost use Rattle.std.specs.Prelude.{◌≡◌, false, refl};
-ghost use Rattle.std.specs.Iterator.{IsFiniteIterable};
+ghost use Rattle.std.specs.Iterator.{IsFiniteIterable, CallableOnAllAt};
 
 use super::draws::down_from;
 use super::is;
@@ -18,7 +18,8 @@ fn runs<K: PartialEq + Drop, S: NonEmptyIterator<Item = u32>, F: FnMut(&u32) -> 
 ) -> Result<NEVec<NEVec<u32>>, AllocError>
     requires runs { IsFiniteIterable S.into_iter_gives S.IntoIter.can_next
         S.IntoIter.remaining source }
-    requires callable { F.IsAlwaysCallable key }
+    requires callable { (it : S.IntoIter) → S.into_iter_gives source it
+        → CallableOnAllAt S.IntoIter.next_gives F.FnMut it key }
 {
     source.group_by(alloc, key).collect(alloc)?
 }

@@ -1,7 +1,9 @@
 //! The adapter that divides the items of a source into runs of equal keys.
-ghost use Rattle.ne_iter.specs.Reader.{CanRead, GivesRun, runs_left};
+ghost use Rattle.std.specs.Iterator.{CallableOnAllAt};
+ghost use Rattle.ne_iter.specs.Reader.{CanRead, GivesRun, GroupsRuns, runs_left};
 
 use super::NonEmptyIterator;
+use crate::laws::runs_by_a_function;
 use ne_vec::{NEVec, laws};
 use std::alloc::{AllocError, Global};
 use std::marker::Model;
@@ -28,9 +30,12 @@ where
 
     type IntoIter = GroupBy<I::IntoIter, K, I::Item, F>;
 
-    ghost into_iter_gives = { λ s g. I.into_iter_gives (source_of_group_by s) g.source × (g.closure ≡ closure_of_group_by s) × (g.ahead ≡ Unread) };
+    ghost into_iter_gives = { λ s g. I.into_iter_gives (source_of_group_by s) g.source
+        × (g.closure ≡ closure_of_group_by s) × (g.ahead ≡ Unread)
+        × GroupsRuns I.IntoIter.next_gives F.FnMut K.eq g };
 
     fn into_iter(self) -> GroupBy<I::IntoIter, K, I::Item, F> {
+        runs_by_a_function::<I::Item, K, F>(&self.f);
         GroupBy {
             iter: self.iter.into_iter(),
             key: self.f,
@@ -89,7 +94,7 @@ where
 {
     type Item = Result<NEVec<I::Item>, AllocError>;
 
-    ghost can_next = { CanRead I.can_next I.remaining F.IsAlwaysCallable };
+    ghost can_next = { CanRead I.can_next I.remaining (CallableOnAllAt I.next_gives F.FnMut) };
 
     ghost next_gives = { GivesRun I.next_gives F.FnMut K.eq };
 

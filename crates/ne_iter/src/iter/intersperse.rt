@@ -3,33 +3,44 @@
 use super::NonEmptyIterator;
 use std::alloc::AllocError;
 
-/// The items of a source, with clones of a separator between them: see [`NonEmptyIterator::intersperse`].
+/// A source whose first item was drawn, with clones of a separator between its items: see
+/// [`NonEmptyIterator::intersperse`].
 #[derive(Drop)]
-pub struct Intersperse<I: IntoIterator>
+pub struct Intersperse<I: Iterator>
 where
     I::Item: Drop,
 {
     pub(super) first: I::Item,
-    pub(super) rest: I::IntoIter,
+    pub(super) rest: I,
     pub(super) separator: I::Item,
 }
 
-impl<I: IntoIterator> IntoIterator for Intersperse<I>
+impl<I: Iterator> IntoIterator for Intersperse<I>
 where
     I::Item: Clone + Drop,
 {
     ghost use Rattle.std.specs.Prelude.{◌≡◌, Some, false};
     ghost use Rattle.ne_iter.specs.Parts.{first_of_intersperse, rest_of_intersperse, separator_of_intersperse};
-    ghost use Rattle.ne_iter.specs.Interspersed.{drawn_from, clones_of, in_hand, is_over};
+    ghost use Rattle.ne_iter.specs.Interspersed.{
+      drawn_from,
+      clones_of,
+      in_hand,
+      is_over,
+      IntersperseRuns,
+    };
 
     type Item = Result<I::Item, AllocError>;
 
-    type IntoIter = RawIntersperse<I::IntoIter>;
+    type IntoIter = RawIntersperse<I>;
 
-    ghost into_iter_gives = { λ s it. (in_hand it ≡ Some (first_of_intersperse s)) × (drawn_from it ≡ rest_of_intersperse s) × (clones_of it ≡ separator_of_intersperse s) × (is_over it ≡ false) };
+    ghost into_iter_gives = { λ s it. (in_hand it ≡ Some (first_of_intersperse s))
+        × (drawn_from it ≡ rest_of_intersperse s) × (clones_of it ≡ separator_of_intersperse s)
+        × (is_over it ≡ false)
+        × IntersperseRuns I.next_gives I.Item.is_clone I.Item.is_infallible
+        (separator_of_intersperse s) (first_of_intersperse s) (rest_of_intersperse s) it };
 
     /// In the Rust crate the separator is cloned once more here; it is moved.
-    fn into_iter(self) -> RawIntersperse<I::IntoIter> {
+    fn into_iter(self) -> RawIntersperse<I> {
         RawIntersperse {
             iter: self.rest,
             separator: self.separator,
@@ -39,7 +50,7 @@ where
     }
 }
 
-impl<I: NonEmptyIterator> NonEmptyIterator for Intersperse<I>
+impl<I: Iterator> NonEmptyIterator for Intersperse<I>
 where
     I::Item: Clone + Drop,
 {
@@ -47,7 +58,7 @@ where
     ghost use Rattle.ne_iter.specs.Clones.{TriesClone};
     ghost use Rattle.ne_iter.specs.Interspersed.{HasFirst-interspersed};
 
-    ghost not_empty = { λ s it made. HasFirst-interspersed I.IntoIter.next_gives (TriesClone I.Item.is_clone I.Item.is_infallible) it (first_of_intersperse s) made.0 made.3 };
+    ghost not_empty = { λ s it made. HasFirst-interspersed I.next_gives (TriesClone I.Item.is_clone I.Item.is_infallible) it (first_of_intersperse s) made.0 made.3 };
 }
 
 /// The iterator of an [`Intersperse`]: each item in `Ok`, and between each two a clone of the separator, or an `Err` where that clone was

@@ -1,7 +1,8 @@
 //! Any iterator, where it has an item.
 ghost use Rattle.std.specs.Prelude.{◌≡◌, Bool, Option, true};
-ghost use Rattle.ne_iter.specs.Looked.{has_looked, LooksWhole, LooksOn, HasFirst-looked};
+ghost use Rattle.ne_iter.specs.Looked.{has_looked, LooksWhole, LooksRuns, LooksOn, HasFirst-looked};
 ghost use Rattle.std.specs.Iterator.{IsFiniteIterable};
+ghost use Rattle.std.specs.Iterator.Adapters.{peekable_steps};
 
 use super::{NonEmptyIterator, Source};
 use std::iter;
@@ -58,6 +59,8 @@ pub trait IntoIteratorExt {
 
     ghost looks: { Self → Option Self.IntoIter → Type 0 };
 
+    ghost looks_runs: { Self → Option Self.IntoIter → Type 0 };
+
     ghost looks_on: { Self → Option Self.IntoIter → Type 0 };
 
     /// Draws the first item, to see whether there is one: `None` exactly where there is none. What it gives has all items, with the
@@ -65,6 +68,7 @@ pub trait IntoIteratorExt {
     fn try_into_nonempty_iter(self) -> Option<Self::IntoIter>
         requires { can_look self }
         ensures looks { looks self result }
+        ensures looks_runs { looks_runs self result }
         ensures looks_on { looks_on self result };
 }
 
@@ -73,6 +77,8 @@ where
     T::Item: Drop,
     T::IntoIter: Drop,
 {
+    ghost use Rattle.ne_iter.specs.Parts.{iterator_of_looked};
+
     type Item = T::Item;
 
     type IntoIter = NonEmptyIterAdapter<iter::Peekable<T::IntoIter>>;
@@ -80,6 +86,9 @@ where
     ghost can_look = { λ s. (it : T.IntoIter) → T.into_iter_gives s it → T.IntoIter.can_next it };
 
     ghost looks = { LooksWhole (⟦<T as Source>⟧.reads) (⟦<NonEmptyIterAdapter<iter::Peekable<T::IntoIter>> as Source>⟧.reads) };
+
+    ghost looks_runs = { LooksRuns T.into_iter_gives T.IntoIter.next_gives (peekable_steps T.IntoIter.next_gives)
+        iterator_of_looked };
 
     ghost looks_on = { LooksOn (IsFiniteIterable T.into_iter_gives T.IntoIter.can_next T.IntoIter.remaining) (IsFiniteIterable (⟦<NonEmptyIterAdapter<iter::Peekable<T::IntoIter>> as IntoIterator>⟧.into_iter_gives) (⟦<iter::Peekable<T::IntoIter> as Iterator>⟧.can_next) (⟦<iter::Peekable<T::IntoIter> as Iterator>⟧.remaining)) };
 

@@ -286,6 +286,9 @@ pub trait NonEmptyIterator: IntoIterator {
     /// no item is compared with the one before it. A run is given once the first item of the next one was drawn, or the source has
     /// ended. Nothing further is drawn, so that a reader that is stopped has drawn one item beyond its runs, at most.
     ///
+    /// `f` has to be callable at each item that comes of the source, in order, and at no other: over
+    /// items above 0, `|x| 100 / *x` may be the key.
+    ///
     /// A run takes its memory when it is asked for, from `alloc`, and none is taken for the run that comes after it. If there is no
     /// memory for the items of a run, an `Err` comes in its place. What was drawn and not given is then dropped, and `None` comes
     /// after it. In the Rust crate the runs are plain vectors.
@@ -298,7 +301,9 @@ pub trait NonEmptyIterator: IntoIterator {
         Self: Sized,
         Self::Item: Drop,
         ensures holds { (source_of_group_by result ≡ self) × (closure_of_group_by result ≡ f) }
-        ensures ends { ⟦<Self as Source>⟧.ends self → F.IsAlwaysCallable f
+        ensures ends { ⟦<Self as Source>⟧.ends self
+            → ((it : Self.IntoIter) → Self.into_iter_gives self it
+            → CallableOnAllAt Self.IntoIter.next_gives F.FnMut it f)
             → ⟦<NEGroupBy<Self, F> as Source>⟧.ends result }
         ensures gives { GroupByGives (⟦<Self as Source>⟧.reads) F.FnMut K.eq (⟦<NEGroupBy<Self, F> as Source>⟧.reads) self f result }
         ensures stops { GroupByStops (⟦<Self as Source>⟧.reads) F.FnMut K.eq (⟦<NEGroupBy<Self, F> as Source>⟧.reads) self f result }
@@ -316,7 +321,7 @@ pub trait NonEmptyIterator: IntoIterator {
     ///
     /// The first item is drawn at once. In the Rust crate `into_iter` of what is answered draws it, and clones the separator once more;
     /// the items are plain there.
-    final fn intersperse(self, separator: Self::Item) -> Intersperse<Self>
+    final fn intersperse(self, separator: Self::Item) -> Intersperse<Self::IntoIter>
     where
         Self: Sized,
         Self::Item: Clone + Drop,
@@ -324,7 +329,10 @@ pub trait NonEmptyIterator: IntoIterator {
         ensures holds { separator_of_intersperse result ≡ separator }
         ensures drawn { FirstAndRest Self.into_iter_gives Self.IntoIter.next_gives self (first_of_intersperse result) (rest_of_intersperse result) }
         ensures goes_on { (it : Self.IntoIter) × Self.into_iter_gives self it × MakesProgress Self.IntoIter.can_next Self.IntoIter.remaining it (Some (first_of_intersperse result)) (rest_of_intersperse result) }
-        ensures gives { IntersperseGives (⟦<Self as Source>⟧.reads) (TriesClone Self.Item.is_clone Self.Item.is_infallible) (⟦<Intersperse<Self> as Source>⟧.reads) self separator result }
+        ensures gives { IntersperseGives (⟦<Self as Source>⟧.reads) (TriesClone Self.Item.is_clone Self.Item.is_infallible) (⟦<Intersperse<Self::IntoIter> as Source>⟧.reads) self separator result }
+        ensures runs { (it : Self.IntoIter) × Self.into_iter_gives self it
+            × BeginsRuns Self.IntoIter.next_gives (first_of_intersperse result)
+            (rest_of_intersperse result) it }
     {
         let (first, rest) = self.next();
         Intersperse {

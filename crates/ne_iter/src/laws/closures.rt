@@ -1,6 +1,6 @@
 //! What the calls of a closure answer, where it acts as a function.
 ghost use Rattle.std.specs.Prelude.{◌≡◌, List, map};
-ghost use Rattle.std.specs.Iterator.{ActsAs, ActsAsAt, ActsAsOnTwo};
+ghost use Rattle.std.specs.Iterator.{ActsAs, ActsAsAt, ActsAsOnTwo, CallableOnAllAt};
 ghost use Rattle.std.specs.List.{All, fold, scan};
 ghost use Rattle.ne_iter.specs.Calls.{Calls, CallsWithState, ActsAsWithState, ShownEach, AnswersEach, AnswersEachAt, Folds};
 ghost use Rattle.ne_iter.specs.Keys.{items_of};
@@ -43,4 +43,12 @@ pub fn scans_of_a_function<St, A, B, F: FnMut(&mut St, A) -> B>(f: &F)
         (xs : List A) (ys : List B) (g : F)
         → ActsAsWithState F.FnMut f.now next out → CallsWithState F.FnMut f.now init xs ys g last
         → (ys ≡ scan next out init xs) × (g ≡ f.now) }
+{}
+
+/// A closure that may be called at any item may be called at each item that comes of an iterator,
+/// one after another. Generic code that knows the first of its closure calls this law, and then the
+/// calls that ask for the second, such as `group_by`.
+pub fn always_callable_is_callable_on_all_items<I: Iterator, R, F: FnMut(&I::Item) -> R>()
+    ensures { (it : I) (f : F) → F.IsAlwaysCallable f
+        → CallableOnAllAt I.next_gives F.FnMut it f }
 {}

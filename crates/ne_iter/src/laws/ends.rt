@@ -2,7 +2,7 @@
 //! one after another, and that they come to an end; an adapter that calls a closure asks besides
 //! that the closure may be called.
 ghost use Rattle.std.specs.Prelude.{◌^◌, ◌<◌, Some};
-ghost use Rattle.std.specs.Iterator.{CallableOnAll, IsFinite, MakesProgress, size};
+ghost use Rattle.std.specs.Iterator.{CallableOnAllAt, CallableOnAll, IsFinite, MakesProgress, size};
 ghost use Rattle.std.specs.Iterator.Runs.{CountFits};
 ghost use Rattle.ne_iter.specs.Parts.{source_of_map, closure_of_map, source_of_enumerate, source_of_take, first_of_chain, second_of_chain, first_of_zip, second_of_zip, source_of_cloned, source_of_copied, source_of_flat_map, closure_of_flat_map, source_of_flatten, source_of_scan, closure_of_scan, source_of_group_by, closure_of_group_by};
 ghost use Rattle.ne_iter.specs.Peeks.{peekable_first, peekable_rest};
@@ -69,12 +69,13 @@ pub fn scan_ends<St: Drop, S: IntoIterator, B, F: FnMut(&mut St, S::Item) -> B>(
         → ⟦<Scan<S, St, F> as Source>⟧.ends scanned }
 {}
 
-/// `group_by` ends where its source does, if its closure may be called at every value.
+/// `group_by` ends where its source does, if its closure may be called at each item that comes.
 pub fn group_by_ends<K: PartialEq + Drop, S: IntoIterator, F: FnMut(&S::Item) -> K + Drop>()
 where
     S::Item: Drop,
     ensures { (grouped : _) → ⟦<S as Source>⟧.ends (source_of_group_by grouped)
-        → F.IsAlwaysCallable (closure_of_group_by grouped)
+        → ((it : S.IntoIter) → S.into_iter_gives (source_of_group_by grouped) it
+        → CallableOnAllAt S.IntoIter.next_gives F.FnMut it (closure_of_group_by grouped))
         → ⟦<NEGroupBy<S, F> as Source>⟧.ends grouped }
 {}
 

@@ -4,7 +4,7 @@ ghost use Rattle.std.specs.Iterator.{ActsAsAt, Drains};
 ghost use Rattle.std.specs.List.{AllByRecursion, FoldsTo};
 ghost use Rattle.ne_vec.specs.Divisions.{IsDivision, by_first, joined};
 ghost use Rattle.ne_iter.specs.Calls.{ShownEach};
-ghost use Rattle.ne_iter.specs.Keys.{items_of, DividesByKey};
+ghost use Rattle.ne_iter.specs.Keys.{items_of, DividesByKey, IsDividedBy};
 ghost use Rattle.ne_iter.specs.Reader.{IsOver, HasRead, GivesRun, AnswersOn};
 ghost use Rattle.ne_iter.specs.Reading.{Reading, Unread};
 
@@ -74,3 +74,11 @@ pub fn runs_by_a_function<T, K, F: FnMut(&T) -> K>(f: &F)
     laws::has_one_division::<T>();
     laws::mapped_list_has_the_mapped_runs::<T, (T, K)>();
 }
+
+/// Runs by the keys that a function gives are the division of the items by these keys, each compared
+/// with that of its run's first item. Callers of `group_by` that know the first of its runs, by
+/// `IsDividedBy`, call this law for what a division says of its parts.
+pub fn runs_by_keys_are_the_division<T, K>()
+    ensures { (eq : K → K → Bool) (h : T → K) (xs : List T) (rs : List (List T))
+        → IsDividedBy h eq xs rs → IsDivision (by_first (λ x y. eq (h x) (h y))) xs rs }
+{}

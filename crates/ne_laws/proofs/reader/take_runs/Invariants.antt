@@ -1,4 +1,5 @@
 use Rattle.std.proofs.Common.{◌≤◌, ◌-◌, length, vec_len, ◌≡◌}
+use Rattle.std.specs.Iterator.{CallableOnAllAt}
 use Rattle.ne_iter.specs.Reader.{HasRead, CanRead}
 use Rattle.ne_iter.specs.Reading.{Unread}
 use Rattle.ne_laws.proofs.reader.take_runs.Given as goal
@@ -13,7 +14,7 @@ invariant-loop-reader g l =
     × (length l.runs.items ≤ l.k)
     × (length l.runs.items ≡ 0 → l.reader.ahead ≡ Unread)
     × CanRead g.I.IntoIter.Iterator.can_next g.I.IntoIter.Iterator.remaining
-    (goal.F-IsAlwaysCallable g) l.reader
+    (CallableOnAllAt g.I.IntoIter.Iterator.next_gives g.F.FnMut) l.reader
 
 abbrev pub decreases-loop-reader : goal.decreases-loop-reader
 decreases-loop-reader g l = l.k - length l.runs.items

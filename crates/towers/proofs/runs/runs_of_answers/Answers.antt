@@ -1,4 +1,4 @@
-use Rattle.std.proofs.Common.{true, refl, subst}
+use Rattle.std.proofs.Common.{rules, true, refl, subst}
 use Rattle.std.proofs.lemmas.Result.{IfOk-weaker}
 use Rattle.ne_iter.specs.Gives.{and_held}
 use Rattle.ne_iter.specs.Sources.{Reads}
@@ -21,3 +21,9 @@ returns g c = IfOk-weaker c.in_ok-collect.field-0 _ _ (λ v h.
       subst (λ held. DividesByKey g.K.PartialEq.eq runs.0 (and_held v held)) end.1 runs.6,
     )) (c.results_are_read_whole.ensures c.group_by.result c.in_ok-collect.field-0
     c.in_ok-collect.ensures.gives)
+
+-- The tower ends: the mapped items do, and the key may be asked at each of them.
+pub collect-requires : goal.collect-requires
+collect-requires g c =
+    c.group_by.ensures.ends (search rules)
+    (λ it made. c.always_callable_is_callable_on_all_items.ensures it _ c.requires.key_callable)

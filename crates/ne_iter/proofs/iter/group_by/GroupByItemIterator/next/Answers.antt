@@ -1,7 +1,7 @@
 use Rattle.std.proofs.Common.{arith, refl, true, false, sym, ap, subst, ◌∙◌, ◌≡◌, ◌+◌, ◌≤◌}
 use Rattle.std.proofs.lemmas.Fn.{called_at}
-use Rattle.std.specs.Iterator.{size}
-use denote.Param.Always.{always_mut, mut_next}
+use Rattle.std.proofs.iter.Next.{served, Serves-on}
+use Rattle.std.specs.Iterator.{size, CallableOnAllAt}
 use Rattle.ne_vec.specs.Divisions.{by_first}
 use Rattle.ne_iter.specs.Keys.{same_key}
 use Rattle.ne_iter.specs.Reading.{Reading, Unread, Held}
@@ -18,7 +18,7 @@ loop-item-init g c =
     let left = g.I.Iterator.remaining in
     let at = c.self.inside in
     let begun : Reading _ _ _ _ = record { source = at.iter; closure = at.key; ahead = ahead_of at.state } in
-    let ready = subst (CanRead g.I.Iterator.can_next left (always_mut g.F.FnMut)) (sym c.self.view_is) c.requires in
+    let ready = subst (CanRead g.I.Iterator.can_next left (CallableOnAllAt steps g.F.FnMut)) (sym c.self.view_is) c.requires in
     elim c.match-replace.branch [
       | in-Held w ↦
           let state : at.state ≡ held w.in-Held.key w.in-Held.item = sym c.replace.ensures.value ∙ w.in-Held.is in
@@ -44,7 +44,7 @@ loop-item-init g c =
             λ s f rs h. open_first steps g.F.FnMut g.K.PartialEq.eq s f rs begun _ _ _ _ (subst (HasRead steps g.F.FnMut g.K.PartialEq.eq s f rs) (sym c.self.view_is) h) fresh first.steps (called_at g.F.FnMut w.call_mut.ensures refl),
             refl,
             unread_is_not_over e,
-            mut_next g.F.FnMut _ _ _ _ _ w.call_mut.ensures refl can.2,
+            Serves-on can.2 _ _ first.steps _ (_, called_at g.F.FnMut w.call_mut.ensures refl),
             (first.goes.on can.1).0,
             (first.goes.on can.1).1,
             subst (λ v. size (left w.next.new.self) + 1 ≤ size (runs_left left v)) c.self.view_is (rw fresh (omega (arith, (first.goes.on can.1).2))),
@@ -59,7 +59,7 @@ loop-item-preserved g c =
       λ s f rs h. rw c.in-Ok-push.ensures.added (open_more g.I.Iterator.next_gives g.F.FnMut eq s f rs _ _ _ _ _ _ _ _ (c.one_item_more.ensures.goes_on (by_first (same_key eq))) (i.0 s f rs h) came.steps (called_at g.F.FnMut c.call_mut-item_key.ensures refl) (subst (λ v. v ≡ true) c.eq-goes_on.ensures c.if-goes_on.true)),
       i.1,
       i.2,
-      mut_next g.F.FnMut _ _ _ _ _ c.call_mut-item_key.ensures refl i.3,
+      Serves-on i.3 _ _ came.steps _ (_, called_at g.F.FnMut c.call_mut-item_key.ensures refl),
       (came.goes.on i.5).0,
       (came.goes.on i.5).1,
       omega (arith, (came.goes.on i.5).2, i.6),
@@ -82,4 +82,28 @@ returns-clause-steps g c =
       over = λ o. absurd (i.2 o);
       stops = tt;
       reads = λ s f rs h. close_end g.I.Iterator.next_gives g.F.FnMut g.K.PartialEq.eq s f rs _ _ _ _ _ (i.0 s f rs h) c.in_default-next.ensures.steps refl (ap ahead_of i.1);
+    }
+
+-- the key is asked
+pub call_mut-requires : goal.call_mut-requires
+call_mut-requires g c =
+    let steps = g.I.Iterator.next_gives in
+    let left = g.I.Iterator.remaining in
+    let at = c.self.inside in
+    let ready = subst (CanRead g.I.Iterator.can_next left (CallableOnAllAt steps g.F.FnMut)) (sym c.self.view_is) c.requires in
+    let state : at.state ≡ unread = sym c.replace.ensures.value ∙ c.in-Unread.is in
+    served (ready (unread_is_not_over (ap ahead_of state))).2 _ _ c.in_ok-item-in-Unread.ensures.steps _ refl
+
+pub call_mut-item_key-requires : goal.call_mut-item_key-requires
+call_mut-item_key-requires g c = served c.loop-item.invariant.3 _ _ c.in-Some.ensures.steps _ refl
+
+pub returns-else-goes_on-clause-goes : goal.returns-else-goes_on-clause-goes
+returns-else-goes_on-clause-goes g c =
+    let i = c.loop-item.invariant in
+    let came = c.in-Some.ensures in
+    let ahead = came.goes.on i.5 in
+    let then = Serves-on i.3 _ _ came.steps _ (_, called_at g.F.FnMut c.call_mut-item_key.ensures refl) in record {
+      on = λ f. (λ o. (ahead.0, ahead.1, then), tt, omega (arith, ahead.2, i.6));
+      keeps = λ o. (ahead.0, ahead.1, then);
+      rests = λ f. tt;
     }

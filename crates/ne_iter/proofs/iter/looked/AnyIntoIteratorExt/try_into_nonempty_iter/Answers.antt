@@ -1,5 +1,6 @@
 use Rattle.std.proofs.Common.{rules, refl, sym, subst, ◌∙◌}
 use Rattle.std.specs.Iterator.Adapters.{peekable_source, peekable_can}
+use Rattle.std.proofs.iter.runs.Made.{run, took}
 use Rattle.std.specs.Iterator.{IsFinite}
 use Rattle.std.specs.Prelude.{◌≡◌, true}
 use Rattle.ne_iter.proofs.LookedRuns.{looked, reads_looked, found}
@@ -18,6 +19,23 @@ returns-then-is_some-clause-looks g c =
         made = c.into_iter.ensures.into_iter_gives;
         given = reads_looked steps c.into_iter.result v r.it xs r.made.0 h full r.given;
       },
+    )
+
+-- the same of a run
+pub returns-then-is_some-clause-looks_runs : goal.returns-then-is_some-clause-looks_runs
+returns-then-is_some-clause-looks_runs g c p seen from =
+    let steps = g.T.IntoIter.Iterator.next_gives in
+    let it = c.into_iter.result in
+    let v = c.peek.follows.lender-at-none in
+    let peeked = c.peek.follows.holds-at-none in
+    let full : has_looked v ≡ true =
+    found _ c.peek.result peeked.2 (sym c.is_some.ensures ∙ c.if-is_some.true) in
+    let h = looked steps it c.peekable-iter.result v c.peekable-iter.ensures.source
+    c.peekable-iter.ensures.peeked peeked.0 full in
+    let given = reads_looked steps it v p.from p.items from h full (took p) in (
+      it,
+      c.into_iter.ensures.into_iter_gives,
+      (run steps it p.items p.whole given, refl, (refl, p.long, refl)),
     )
 
 pub returns-then-is_some-clause-looks_on : goal.returns-then-is_some-clause-looks_on

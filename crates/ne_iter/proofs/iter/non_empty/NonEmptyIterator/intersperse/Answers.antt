@@ -4,6 +4,7 @@ use Rattle.std.specs.Iterator.{DrainsIf}
 use Rattle.std.specs.List.{list_all}
 use Rattle.ne_iter.specs.Clones.{TriesClone}
 use Rattle.ne_iter.proofs.InterspersedRuns.{DrainsIf-interspersed}
+use Rattle.ne_iter.proofs.Traced.{begins}
 use Rattle.ne_iter.proofs.iter.non_empty.NonEmptyIterator.intersperse.Goals as goal
 
 pub returns-clause-gives : goal.returns-clause-gives
@@ -18,3 +19,8 @@ returns-clause-gives g c whole zs h =
       p.3,
       p.4,
     )
+
+pub returns-clause-runs : goal.returns-clause-runs
+returns-clause-runs g c =
+    let f = c.next-first.ensures.first in
+    (f.0, f.1, begins g.Self.IntoIter.Iterator.next_gives f.0 c.next-first.result.0 c.next-first.result.1 f.2)

@@ -1,0 +1,406 @@
+//! Texts (`&str`): each adapter and each consumer over items that are references.
+//!
+//! A `&str` is seen as a reference to the list of its bytes: `t.now` is that list.
+ghost use Rattle.std.specs.Prelude.{
+  ◌≡◌,
+  ◌∷◌,
+  [],
+  ◌++◌,
+  ◌<◌,
+  ◌≤◌,
+  ◌^◌,
+  map,
+  filter,
+  take,
+  drop,
+  sum,
+  length,
+  slice_get,
+  nat_eq,
+  IfOk,
+  IfSome,
+  IsTrue,
+  IsFalse,
+  IfNone,
+  IsPermutation,
+  ltb,
+  true,
+  false,
+};
+ghost use Rattle.std.specs.List.{
+  All,
+  Any,
+  Contains,
+  enumerate_from,
+  zip,
+  flat_map,
+  fold,
+  reduce as list_reduce,
+  filter_map,
+};
+ghost use Rattle.std.specs.Cmp.Lexicographic.{pointwise, slice_cmp};
+ghost use Rattle.std.specs.Ordering.{is_lt, nat_cmp};
+ghost use Rattle.std.specs.String.{string_bytes};
+ghost use Rattle.std.specs.Int.NonZero.{non_zero_usize_get};
+ghost use Rattle.ne_iter.specs.Collected.{IsMapOf, IsSetOf};
+ghost use Rattle.ne_iter.specs.Interspersed.{interspersed};
+ghost use Rattle.ne_iter.specs.Keys.{IsDividedBy};
+
+use nonempty_collections::{IntoIteratorExt, IntoNonEmptyIterator, NEVec, NonEmptyIterator, iter};
+use std::alloc::{AllocError, Global};
+use std::collections::{BTreeMap, BTreeSet};
+use std::num::NonZeroUsize;
+
+/// The texts of a vector.
+pub fn collected<'a>(alloc: Global, texts: NEVec<&'a str>) -> Result<NEVec<&'a str>, AllocError>
+    ensures { IfOk result (λ v. v ≡ texts.entry) }
+{
+    texts.into_nonempty_iter().collect(alloc)
+}
+
+/// The length of each text.
+pub fn lengths(alloc: Global, texts: NEVec<&str>) -> Result<NEVec<usize>, AllocError>
+    ensures { IfOk result (λ v. v ≡ map (λ t. length t.now) texts.entry) }
+{
+    texts.into_nonempty_iter().map(|t| t.len()).collect(alloc)
+}
+
+/// The texts of a vector that is lent.
+pub fn shown<'a>(alloc: Global, texts: &NEVec<&'a str>) -> Result<NEVec<&'a str>, AllocError>
+    ensures { IfOk result (λ v. v ≡ texts.now) }
+{
+    texts.nonempty_iter().copied().collect(alloc)
+}
+
+/// The same by clones. Those of a reference are never refused.
+pub fn cloned<'a>(
+    alloc: Global,
+    texts: &NEVec<&'a str>,
+) -> Result<Result<NEVec<&'a str>, AllocError>, AllocError> {
+    texts.nonempty_iter().cloned().collect(alloc)
+}
+
+/// The texts with their places.
+pub fn numbered<'a>(
+    alloc: Global,
+    texts: NEVec<&'a str>,
+) -> Result<NEVec<(usize, &'a str)>, AllocError>
+    ensures { IfOk result (λ v. v ≡ enumerate_from 0 texts.entry) }
+{
+    texts.into_nonempty_iter().enumerate().collect(alloc)
+}
+
+/// The first `n` texts, or all of them.
+pub fn first_texts<'a>(
+    alloc: Global,
+    texts: NEVec<&'a str>,
+    n: NonZeroUsize,
+) -> Result<NEVec<&'a str>, AllocError>
+    ensures { IfOk result (λ v. v ≡ take (non_zero_usize_get n) texts.entry) }
+{
+    texts.into_nonempty_iter().take(n).collect(alloc)
+}
+
+/// The texts, and then others.
+pub fn joined<'a>(
+    alloc: Global,
+    texts: NEVec<&'a str>,
+    others: Vec<&'a str>,
+) -> Result<NEVec<&'a str>, AllocError>
+    ensures { IfOk result (λ v. v ≡ texts.entry ++ others.entry.items) }
+{
+    texts.into_nonempty_iter().chain(others).collect(alloc)
+}
+
+/// The texts in pairs.
+pub fn paired<'a>(
+    alloc: Global,
+    texts: NEVec<&'a str>,
+    others: NEVec<&'a str>,
+) -> Result<NEVec<(&'a str, &'a str)>, AllocError>
+    ensures { IfOk result (λ v. v ≡ zip texts.entry others.entry) }
+{
+    texts.into_nonempty_iter().zip(others).collect(alloc)
+}
+
+/// The texts of a source for each text.
+pub fn spread<'a>(alloc: Global, texts: NEVec<&'a str>) -> Result<NEVec<&'a str>, AllocError>
+    ensures { IfOk result (λ v. v ≡ flat_map (λ t. t ∷ []) texts.entry) }
+{
+    texts
+        .into_nonempty_iter()
+        .flat_map(|t| iter::once(t))
+        .collect(alloc)
+}
+
+/// The texts of several vectors.
+pub fn flattened<'a>(
+    alloc: Global,
+    texts: NEVec<NEVec<&'a str>>,
+) -> Result<NEVec<&'a str>, AllocError> {
+    texts.into_nonempty_iter().flatten().collect(alloc)
+}
+
+/// The greatest length so far, at each text.
+pub fn longest_so_far(alloc: Global, texts: NEVec<&str>) -> Result<NEVec<usize>, AllocError> {
+    texts
+        .into_nonempty_iter()
+        .scan(0, |longest, t| {
+            if *longest < t.len() {
+                *longest = t.len();
+            }
+            *longest
+        })
+        .collect(alloc)
+}
+
+/// The texts of a source whose first one was seen.
+pub fn peeked<'a>(alloc: Global, texts: NEVec<&'a str>) -> Result<NEVec<&'a str>, AllocError>
+    ensures { IfOk result (λ v. v ≡ texts.entry) }
+{
+    texts.into_nonempty_iter().peekable().collect(alloc)
+}
+
+/// The texts with a separator between each two.
+pub fn separated<'a>(
+    alloc: Global,
+    texts: NEVec<&'a str>,
+    separator: &'a str,
+) -> Result<Result<NEVec<&'a str>, AllocError>, AllocError>
+    ensures { IfOk result (λ r. IfOk r (λ v. v ≡ interspersed separator.entry texts.entry)) }
+{
+    texts
+        .into_nonempty_iter()
+        .intersperse(separator)
+        .collect(alloc)
+}
+
+/// The runs of texts of one length.
+pub fn by_length<'a>(
+    alloc: Global,
+    texts: NEVec<&'a str>,
+) -> Result<Result<NEVec<NEVec<&'a str>>, AllocError>, AllocError>
+    ensures { IfOk result (λ r. IfOk r (λ rs.
+        IsDividedBy (λ t. length t.now) nat_eq texts.entry rs)) }
+{
+    texts
+        .into_nonempty_iter()
+        .group_by(alloc, |t| t.len())
+        .collect(alloc)
+}
+
+/// The texts of a vector that may be empty, if there is one.
+pub fn looked<'a>(alloc: Global, texts: Vec<&'a str>) -> Result<Option<NEVec<&'a str>>, AllocError>
+    ensures { IfOk result (λ o. IfSome o (λ v. v ≡ texts.entry.items)) }
+{
+    match texts.try_into_nonempty_iter() {
+        Some(texts) => Ok(Some(texts.collect(alloc)?)),
+        None => Ok(None),
+    }
+}
+
+/// How many texts there are.
+pub fn how_many(texts: &NEVec<&str>) -> NonZeroUsize
+    ensures { non_zero_usize_get result ≡ length texts.now }
+{
+    texts.nonempty_iter().copied().count()
+}
+
+/// The last text in the order of bytes.
+pub fn greatest<'a>(texts: NEVec<&'a str>) -> &'a str
+    ensures among { Contains texts.entry result }
+    ensures bound { All (λ t. is_lt (slice_cmp nat_cmp result.now t.now) ≡ false) texts.entry }
+{
+    texts.into_nonempty_iter().max()
+}
+
+/// The first text in the order of bytes.
+pub fn least<'a>(texts: NEVec<&'a str>) -> &'a str
+    ensures among { Contains texts.entry result }
+    ensures bound { All (λ t. is_lt (slice_cmp nat_cmp t.now result.now) ≡ false) texts.entry }
+{
+    texts.into_nonempty_iter().min()
+}
+
+/// The longest text.
+pub fn longest<'a>(texts: NEVec<&'a str>) -> &'a str {
+    texts.into_nonempty_iter().max_by_key(|t| t.len())
+}
+
+/// The length of all texts together.
+pub fn total_length(texts: NEVec<&str>) -> usize
+    requires { sum (map (λ t. length t.now) texts) < 2 ^ 64 }
+    ensures { result ≡ sum (map (λ t. length t.now) texts.entry) }
+{
+    texts.into_nonempty_iter().map(|t| t.len()).sum()
+}
+
+/// The length of the last text, by a fold.
+pub fn folded(texts: NEVec<&str>) -> usize
+    ensures { result ≡ fold (λ a t. length t.now) 0 texts.entry }
+{
+    texts.into_nonempty_iter().fold(0, |_, t| t.len())
+}
+
+/// The last text, by a fold from the first.
+pub fn reduced<'a>(texts: NEVec<&'a str>) -> &'a str
+    ensures { Some result ≡ list_reduce (λ a t. t) texts.entry }
+{
+    texts.into_nonempty_iter().reduce(|_, t| t)
+}
+
+/// Whether all texts are shorter than 10 bytes.
+pub fn all_short(texts: NEVec<&str>) -> bool
+    ensures all { IsTrue result → All (λ t. length t.now < 10) texts.entry }
+    ensures not_all { IsFalse result → Any (λ t. 10 ≤ length t.now) texts.entry }
+{
+    texts.into_nonempty_iter().all(|t| t.len() < 10)
+}
+
+/// Whether a text is shorter than 10 bytes.
+pub fn any_short(texts: NEVec<&str>) -> bool
+    ensures any { IsTrue result → Any (λ t. length t.now < 10) texts.entry }
+    ensures none { IsFalse result → All (λ t. 10 ≤ length t.now) texts.entry }
+{
+    texts.into_nonempty_iter().any(|t| t.len() < 10)
+}
+
+/// A text that is shorter than 10 bytes.
+pub fn some_short<'a>(texts: NEVec<&'a str>) -> Option<&'a str>
+    ensures found { IfSome result (λ t. Contains texts.entry t × (length t.now < 10)) }
+    ensures none { IfNone result (All (λ t. 10 ≤ length t.now) texts.entry) }
+{
+    texts.into_nonempty_iter().find(|t| t.len() < 10)
+}
+
+/// The text at a place.
+pub fn text_at<'a>(texts: NEVec<&'a str>, n: usize) -> Option<&'a str>
+    ensures { result ≡ slice_get texts.entry n }
+{
+    texts.into_nonempty_iter().nth(n)
+}
+
+/// The first text.
+pub fn first_of<'a>(texts: NEVec<&'a str>) -> &'a str
+    ensures { slice_get texts.entry 0 ≡ Some result }
+{
+    texts.into_nonempty_iter().next().0
+}
+
+/// The texts that are shorter than 10 bytes.
+pub fn short<'a>(alloc: Global, texts: NEVec<&'a str>) -> Result<Vec<&'a str>, AllocError>
+    ensures { IfOk result (λ v. v.items ≡ filter (λ t. ltb (length t.now) 10) texts.entry) }
+{
+    texts
+        .into_nonempty_iter()
+        .filter(|t| t.len() < 10)
+        .collect(alloc)
+}
+
+/// The lengths of the texts that are shorter than 10 bytes.
+pub fn short_lengths(alloc: Global, texts: NEVec<&str>) -> Result<Vec<usize>, AllocError>
+    ensures { IfOk result (λ v. All (λ n. n < 10) v.items) }
+{
+    texts
+        .into_nonempty_iter()
+        .filter_map(|t| if t.len() < 10 { Some(t.len()) } else { None })
+        .collect(alloc)
+}
+
+/// All texts but the first two.
+pub fn rest<'a>(alloc: Global, texts: NEVec<&'a str>) -> Result<Vec<&'a str>, AllocError>
+    ensures { IfOk result (λ v. v.items ≡ drop 2 texts.entry) }
+{
+    texts.into_nonempty_iter().skip(2).collect(alloc)
+}
+
+/// The texts from the first one on that has 10 bytes or more.
+pub fn from_first_long<'a>(alloc: Global, texts: NEVec<&'a str>) -> Result<Vec<&'a str>, AllocError>
+    ensures { IfOk result (λ v. IfSome (slice_get v.items 0) (λ t. 10 ≤ length t.now)) }
+{
+    texts
+        .into_nonempty_iter()
+        .skip_while(|t| t.len() < 10)
+        .collect(alloc)
+}
+
+/// The texts in front of the first one that has 10 bytes or more.
+pub fn short_front<'a>(alloc: Global, texts: NEVec<&'a str>) -> Result<Vec<&'a str>, AllocError>
+    ensures { IfOk result (λ v. All (λ t. length t.now < 10) v.items) }
+{
+    texts
+        .into_nonempty_iter()
+        .take_while(|t| t.len() < 10)
+        .collect(alloc)
+}
+
+/// The texts in the order of their lengths.
+pub fn sorted<'a>(alloc: Global, texts: NEVec<&'a str>) -> Result<NEVec<&'a str>, AllocError>
+    ensures { IfOk result (λ v. IsPermutation texts.entry v) }
+{
+    texts
+        .into_nonempty_iter()
+        .sorted_by_key(alloc, |t| t.len())?
+        .collect(alloc)
+}
+
+/// The texts, and their lengths.
+pub fn parted<'a>(
+    alloc: Global,
+    texts: NEVec<&'a str>,
+) -> Result<(NEVec<&'a str>, NEVec<usize>), AllocError>
+    ensures { IfOk result (λ r. r.1 ≡ map (λ t. length t.now) texts.entry) }
+{
+    texts
+        .into_nonempty_iter()
+        .map(|t| (t, t.len()))
+        .unzip(alloc)
+}
+
+/// The texts, as a vector that may be empty.
+pub fn as_vec<'a>(alloc: Global, texts: NEVec<&'a str>) -> Result<Vec<&'a str>, AllocError>
+    ensures { IfOk result (λ v. v.items ≡ texts.entry) }
+{
+    texts.into_nonempty_iter().collect(alloc)
+}
+
+/// The texts as one.
+pub fn one_text(alloc: Global, texts: NEVec<&str>) -> Result<String, AllocError>
+    ensures { IfOk result (λ s. string_bytes s ≡ flat_map (λ t. t.now) texts.entry) }
+{
+    texts.into_nonempty_iter().collect(alloc)
+}
+
+/// The texts, or the length of the first that has 10 bytes or more.
+pub fn checked<'a>(
+    alloc: Global,
+    texts: NEVec<&'a str>,
+) -> Result<Result<NEVec<&'a str>, usize>, AllocError>
+    ensures { IfOk result (λ r. IfOk r (λ v. length v ≡ length texts.entry)) }
+{
+    texts
+        .into_nonempty_iter()
+        .map(|t| if t.len() < 10 { Ok(t) } else { Err(t.len()) })
+        .collect(alloc)
+}
+
+/// The length of each text, by the text.
+pub fn table<'a>(
+    alloc: Global,
+    texts: NEVec<&'a str>,
+) -> Result<BTreeMap<&'a str, usize>, AllocError>
+    ensures { IfOk result (λ m. IsMapOf (λ s t. pointwise nat_eq s.now t.now)
+        (map (λ t. (t, length t.now)) texts.entry) m.entries) }
+{
+    texts
+        .into_nonempty_iter()
+        .map(|t| (t, t.len()))
+        .collect(alloc)
+}
+
+/// The texts, each once.
+pub fn each_once<'a>(alloc: Global, texts: NEVec<&'a str>) -> Result<BTreeSet<&'a str>, AllocError>
+    ensures { IfOk result (λ s. IsSetOf (λ s t. pointwise nat_eq s.now t.now) texts.entry s.keys) }
+{
+    texts.into_nonempty_iter().collect(alloc)
+}
