@@ -1,7 +1,8 @@
 //! Callers of chains, as a user writes them: the manual of the library in code.
 //!
-//! What each of them ensures is exact, and is proved from the public contracts of the calls that it
-//! makes: there is no proof file, and no law is called.
+//! What they ensure is proved from the public contracts of the calls that they make: there is no
+//! proof file, and no law is called. Most of them ensure the exact result; where the search finds
+//! less today, as at `take_while`, `all` and `find`, a function ensures what it does find.
 #![tactic(auto)]
 
 pub mod adapters;

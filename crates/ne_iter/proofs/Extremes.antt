@@ -1,5 +1,5 @@
 -- The greatest and the least of a list.
-use Rattle.std.proofs.Common.{sym, subst, true≢false, ltb, eqb, ltb-false, get_or, le_antisymm}
+use Rattle.std.proofs.Common.{subst, true≢false, ltb, eqb, ltb-false, get_or, le_antisymm}
 use Rattle.std.specs.Prelude.{◌≡◌, ℕ, ◌≤◌, Bool, true, false, cond, List, ◌∷◌, length, All, Contains, slice_get, Some, refl}
 use Rattle.std.specs.Cmp.{IsStrictWeakOrder}
 use Rattle.std.specs.List.{IsFirstBest}

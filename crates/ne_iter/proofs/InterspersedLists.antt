@@ -2,7 +2,7 @@
 use Rattle.std.proofs.Common.{subst, sym, ap, ◌∙◌, append-nil}
 use Rattle.std.proofs.iter.runs.Made.{run, took}
 use Rattle.std.specs.Iterator.{DrainsIf}
-use Rattle.std.specs.Prelude.{◌≡◌, List, [], ◌∷◌, ◌++◌, map, Option, Some, refl, Bool, true, false, ◌&&◌, Result, Ok, Err, is_ok}
+use Rattle.std.specs.Prelude.{◌≡◌, List, [], ◌∷◌, ◌++◌, map, Option, Some, refl, true, false, ◌&&◌, Result, Ok, Err, is_ok}
 use Rattle.std.specs.List.{list_all}
 use Rattle.std.specs.declared.alloc.AllocError.{AllocError}
 use Rattle.ne_iter.specs.Clones.{TriesClone}

@@ -38,8 +38,7 @@ pub use extremes::{
 pub use firsts::first_items_stay_first;
 pub use readers::{
     readers_stand_at_any_moment, runs_by_a_function, runs_by_keys_are_the_division,
-    runs_make_the_whole,
-    stopped_reader_has_the_first_runs, whole_reading_gives_the_division,
+    runs_make_the_whole, stopped_reader_has_the_first_runs, whole_reading_gives_the_division,
 };
 pub use selections::{
     list_of_filter, list_of_filter_map, list_of_skip, list_of_skip_while, list_of_take_while,

@@ -1,4 +1,4 @@
-use Rattle.std.proofs.Common.{refl, sym, subst}
+use Rattle.std.proofs.Common.{refl}
 use Rattle.ne_iter.proofs.Grouped.{runs_grouped}
 use Rattle.ne_iter.proofs.iter.group_by.NEGroupByIntoIterator.into_iter.Goals as goal
 
