@@ -9,8 +9,8 @@ ghost use Rattle.towers.specs.Runs.{AreRunsOfAnswers};
 
 use nonempty_collections::iter::{Map, NEGroupBy, NonEmptyIterator, Source, Take};
 use nonempty_collections::laws::{
-    always_callable_is_callable_on_all_items, calls_of_a_function, first_items_stay_first, results_are_read_whole,
-    slice_runs_are_the_division,
+    always_callable_is_callable_on_all_items, calls_of_a_function, first_items_stay_first,
+    results_are_read_whole, slice_runs_are_the_division,
 };
 use nonempty_collections::{NESlice, NEVec};
 use std::alloc::{AllocError, Global};
