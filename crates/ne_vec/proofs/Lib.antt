@@ -7,5 +7,3 @@ pub mod Chunked
 pub mod Compared
 pub mod MappedRuns
 pub mod FirstRuns
-pub mod FrontLists
-pub mod WalkRuns

@@ -1,78 +1,108 @@
--- The lemmas on fronts, which the sources and adapters of the crates above cite too.
+-- From the calls of an iterator to the list that it gives, and from that list to its runs.
 use Rattle.std.proofs.Common.{arith, subst, sym, ap, ◌∙◌, map-id}
-use Rattle.std.proofs.lemmas.Option.{same_Some, slice_get-get_or, slice_get-map}
-use Rattle.std.proofs.lemmas.List.{nil_from_length, length-map}
-use Rattle.std.specs.Prelude.{◌≡◌, ℕ, suc, ◌<◌, ◌≤◌, true, List, [], ◌∷◌, ◌++◌, length, map, Option, Some, refl, slice_index_or, slice_get}
-use Rattle.std.specs.Option.{option_map}
-use Rattle.std.specs.Iterator.Runs.{Run, YieldsRun, EveryRun, ItemsAre, ItemsMapTo}
-use Rattle.ne_vec.specs.Fronts.{IsFront, ShowsFront, Lists, Shows, mark}
+use Rattle.std.proofs.lemmas.List.{nil_from_length}
+use Rattle.std.proofs.iter.runs.Lists.{nth_left}
+use Rattle.std.proofs.iter.runs.Made.{at-is}
+use Rattle.std.proofs.iter.runs.Sources.{lists, as_is}
+use Rattle.std.specs.Prelude.{◌≡◌, Bool, true, List, [], ◌∷◌, ◌++◌, length, map, Option, Some, None, refl, slice_get}
+use Rattle.std.specs.Borrow.{Bor}
+use Rattle.std.specs.Iterator.{DrainsIf, YieldsFirst}
+use Rattle.std.specs.Iterator.Runs.{Run, YieldsRun}
+use Rattle.std.specs.Slice.Iter.{iter_steps, iter_rest}
+use Rattle.std.specs.Vec.Iter.{into_iter_items, into_iter_len, into_iter_steps}
+use Rattle.std.specs.declared.slice.Iter.{Iter}
+use Rattle.std.specs.declared.vec.IntoIter.{IntoIter}
+use Rattle.ne_vec.specs.Fronts.{AreFirst, Lists, Shows, GivesItems, GivesShown, mark, view_mark}
 
--- what has the items of xs at its places, and is no longer, begins xs
-begins : {A : Type 0} (us xs : List A) → length us ≤ length xs
-    → ((k : ℕ) (d : A) → k < length us → slice_index_or us k d ≡ slice_index_or xs k d)
-    → (more : List A) × (xs ≡ us ++ more) × (length us ≡ length xs → more ≡ [])
-begins [] xs l same = (xs, refl, λ e. nil_from_length xs (sym e))
-begins (u ∷ us) [] l same = absurd (omega (arith, l))
-begins (u ∷ us) (x ∷ xs) l same =
-    let e : u ≡ x = same 0 u (omega arith) in
-    let rest = begins us xs (omega (arith, l)) (λ k d m. same (suc k) d (omega (arith, m))) in
-    (rest.0, (let h = rest.1 in cc), λ long. rest.2 (omega (arith, long)))
+-- an iterator each of whose calls takes the first item of the list that it has left
+module _ {S A B : Type 0} (steps : S → Option A → S → Type 0) (view : A → B) (rest : S → List B)
+    (took : (s t : S) (x : A) → steps s (Some x) t → rest s ≡ view x ∷ rest t)
+    (ended : (s t : S) → steps s None t → rest s ≡ []) where
+  -- the items that came are a front of that list, and all of it where the end came
+  pub viewed_front : {W : Type 0} (s : S) (ys : List A) → DrainsIf steps W s ys
+      → (more : List B) × (rest s ≡ map view ys ++ more) × (W → more ≡ [])
+  viewed_front s [] (t, e, fin) = (rest s, refl, λ w. ap rest e ∙ ended t (fin w).0 (fin w).1)
+  viewed_front s (y ∷ ys) (t, (j, st, run), fin) =
+      let m = viewed_front j ys (t, run, fin) in
+      (m.0, took s j y st ∙ ap (λ l. view y ∷ l) m.1, m.2)
 
-pub marked : {S A : Type 0} (it : S) (xs : List A) → mark it xs ≡ 0
+-- the same, where the items are those of the list
+pub front : {S A W : Type 0} (steps : S → Option A → S → Type 0) (rest : S → List A)
+    → ((s t : S) (x : A) → steps s (Some x) t → rest s ≡ x ∷ rest t)
+    → ((s t : S) → steps s None t → rest s ≡ []) → (s : S) (ys : List A) → DrainsIf steps W s ys
+    → (more : List A) × (rest s ≡ ys ++ more) × (W → more ≡ [])
+front steps rest took ended s ys run =
+    let m = viewed_front steps (λ x. x) rest took ended s ys run in
+    (m.0, subst (λ l. rest s ≡ l ++ m.0) (map-id ys) m.1, m.2)
+
+-- the walks of slices
+pub shown_front : {T W : Type 0} (s : Iter T) (ys : List (Bor T)) → DrainsIf iter_steps W s ys
+    → (more : List T) × (iter_rest s ≡ map (λ y. y.now) ys ++ more) × (W → more ≡ [])
+shown_front s ys run = viewed_front iter_steps (λ y. y.now) iter_rest (λ s t x st. st)
+    (λ s t st. nil_from_length (iter_rest s) st.0) s ys run
+
+-- what shows its list by `YieldsFirst`
+pub first_front : {S T W : Type 0} (rest : S → List T) (s : S) (ys : List T)
+    → DrainsIf (YieldsFirst rest) W s ys
+    → (more : List T) × (rest s ≡ ys ++ more) × (W → more ≡ [])
+first_front rest s ys run = front (YieldsFirst rest) rest (λ s t x st. st) (λ s t st. st.0) s ys run
+
+-- vectors by value, whose iterator counts its items
+pub counted_front : {T Z W : Type 0} (s : IntoIter T Z) (ys : List T)
+    → into_iter_len s ≡ length (into_iter_items s) → DrainsIf into_iter_steps W s ys
+    → (more : List T) × (into_iter_items s ≡ ys ++ more) × (W → more ≡ [])
+counted_front s [] fit (t, e, fin) = (
+  into_iter_items s,
+  refl,
+  λ w. nil_from_length (into_iter_items s) (sym fit ∙ ap into_iter_len e ∙ (fin w).1.0),
+)
+counted_front s (y ∷ ys) fit (t, (j, st, run), fin) =
+    let long = ap length st.0 in
+    let m = counted_front j ys (omega (arith, fit, st.1, long)) (t, run, fin) in
+    (m.0, st.0 ∙ ap (λ l. y ∷ l) m.1, m.2)
+
+pub marked : {U A : Type 0} (u : U) (xs : List A) → mark u xs ≡ 0
 unfolding mark
-marked it xs = refl
+marked u xs = refl
 
-module _ {S A : Type 0} {steps : S → Option A → S → Type 0} (p : Run steps) where
-  -- `at k` is the item at place k
-  at-is : (k : ℕ) → p.at k ≡ slice_get p.items k
-  unfolding YieldsRun
-  at-is = p.gave.1
+pub view_marked : {U A B : Type 0} (view : A → B) (u : U) (xs : List B) → view_mark view u xs ≡ 0
+unfolding view_mark
+view_marked view u xs = refl
 
-  module _ {B : Type 0} (view : A → B) (xs : List B) where
-    long : length (map view p.items) ≡ p.len
-    long = omega (arith, p.long, length-map p.items view)
+-- what the calls of a run gave
+pub run_drains : {S A : Type 0} (steps : S → Option A → S → Type 0) (p : Run steps) (it : S)
+    → p.from ≡ it → DrainsIf steps (p.whole ≡ true) it p.items
+unfolding YieldsRun
+run_drains steps p it from = subst (λ s. DrainsIf steps (p.whole ≡ true) s p.items) from p.gave.0
 
-    read : (k : ℕ) (d : B) → k < p.len
-        → option_map view (p.at k) ≡ Some (slice_index_or (map view p.items) k d)
-    read k d l =
-        ap (option_map view) (at-is k) ∙ sym (slice_get-map view p.items k)
-        ∙ slice_get-get_or (map view p.items) k d (omega (arith, l, long))
+module _ {U S A : Type 0} (becomes : U → S → Type 0) (steps : S → Option A → S → Type 0) (u : U) where
+  pub gives_shown : {B : Type 0} (view : A → B) (xs : List B)
+      → Shows becomes steps view u xs → GivesShown becomes steps view u xs
+  unfolding Shows
+  gives_shown view xs shows = (
+    marked u xs,
+    view_marked view u xs,
+    shows,
+    λ it made p seen from.
+        let f = shows it made p.whole p.items (run_drains steps p it from) in
+        let l = lists p view xs f.0 (λ w. ap length (f.2 w)) f.1 in
+        (l.0, l.1, l.6),
+  )
 
-    pub shows_front : p.len ≤ length xs → (p.whole ≡ true → p.len ≡ length xs)
-        → ((k : ℕ) (d : B) → k < p.len → option_map view (p.at k) ≡ Some (slice_index_or xs k d))
-        → ShowsFront view p xs
-    unfolding ShowsFront
-    shows_front within whole places =
-        let b = begins (map view p.items) xs (omega (arith, long, within)) (λ k d l.
-        let m : k < p.len = omega (arith, l, long) in
-        same_Some _ _ (sym (read k d m) ∙ places k d m)) in
-        (b.0, b.1, λ w. b.2 (omega (arith, long, whole w)))
-
-  module _ (xs : List A) where
-    pub as_shown : IsFront p xs → ShowsFront (λ x. x) p xs
-    unfolding IsFront ShowsFront
-    as_shown h = (h.0, subst (λ l. xs ≡ l ++ h.0) (sym (map-id p.items)) h.1, h.2)
-
-    pub as_items : ShowsFront (λ x. x) p xs → IsFront p xs
-    unfolding IsFront ShowsFront
-    as_items h = (h.0, subst (λ l. xs ≡ l ++ h.0) (map-id p.items) h.1, h.2)
-
-    pub is_front : ItemsAre p xs → IsFront p xs
-    is_front h = as_items (shows_front (λ x. x) xs h.0 h.1 h.2)
-
--- an iterator whose clause is std's
-pub shows_all : {S A B : Type 0} (steps : S → Option A → S → Type 0) (view : A → B)
-    (rest : S → List B) (it : S) (xs : List B) → EveryRun steps (λ p. ItemsMapTo p view (rest p.from)) → rest it ≡ xs
-    → Shows steps view it xs
-unfolding Shows
-shows_all steps view rest it xs every same p seen from =
-    let h = every p seen in
-    subst (ShowsFront view p) (ap rest from ∙ same)
-    (shows_front p view (rest p.from) h.0 h.1 h.2)
-
-pub lists_all : {S A : Type 0} (steps : S → Option A → S → Type 0) (rest : S → List A) (it : S)
-    (xs : List A) → EveryRun steps (λ p. ItemsAre p (rest p.from)) → rest it ≡ xs
-    → Lists steps it xs
-unfolding Lists
-lists_all steps rest it xs every same p seen from =
-    subst (IsFront p) (ap rest from ∙ same) (is_front p (rest p.from) (every p seen))
+  pub gives_items : (xs : List A) → Lists becomes steps u xs → GivesItems becomes steps u xs
+  unfolding Lists
+  gives_items xs gives = (
+    marked u xs,
+    gives,
+    λ it made p seen from.
+        let f = gives it made p.whole p.items (run_drains steps p it from) in
+        let e = subst (λ l. xs ≡ l ++ f.0) (sym (map-id p.items)) f.1 in
+        let l = as_is p xs (lists p (λ x. x) xs f.0 (λ w. ap length (f.2 w)) e) in (
+          l.0,
+          l.4,
+          l.5,
+          λ k m.
+              at-is p k ∙ sym (nth_left p.items f.0 k (omega (arith, m, p.long)))
+              ∙ ap (λ l. slice_get l k) (sym f.1),
+        ),
+  )

@@ -1,44 +1,56 @@
--- The list that an iterator gives from its first item to its last, of which a run of its calls has
--- the first items.
-use Rattle.std.specs.Prelude.{◌≡◌, ◌≤◌, ◌<◌, ℕ, slice_get, true, List, [], ◌++◌, map, length, Option}
+-- The list that a source gives from its first item to its last.
+use Rattle.std.specs.Prelude.{◌≡◌, ◌≤◌, ◌<◌, ℕ, Bool, slice_get, true, List, [], ◌++◌, map, length, Option}
 use Rattle.std.specs.List.{fold}
-use Rattle.std.specs.Iterator.Runs.{Run, EachRunFrom}
+use Rattle.std.specs.Iterator.{DrainsIf}
+use Rattle.std.specs.Iterator.Runs.{EachRunFrom}
 
-module _ {S A : Type 0} {steps : S → Option A → S → Type 0} where
-  -- The items of the run p are the first of xs, and all of them if p is whole.
-  unfoldable pub IsFront : Run steps → List A → Type 0
-  IsFront p xs = (more : List A) × (xs ≡ p.items ++ more) × (p.whole ≡ true → more ≡ [])
+-- us are the first of xs, and all of them where `whole` is true
+abbrev pub AreFirst : {A : Type 0} → Bool → List A → List A → Type 0
+AreFirst {A} whole xs us = (more : List A) × (xs ≡ us ++ more) × (whole ≡ true → more ≡ [])
 
-  -- What `view` makes of the items of p are the first of xs, and all of them if p is whole.
-  unfoldable pub ShowsFront : {B : Type 0} → (A → B) → Run steps → List B → Type 0
-  ShowsFront {B} view p xs =
-      (more : List B) × (xs ≡ map view p.items ++ more) × (p.whole ≡ true → more ≡ [])
+-- 0 for each source and each list: the term at which `grind` takes what is said of both
+unfoldable pub mark : {U A : Type 0} → U → List A → ℕ
+mark u xs = 0
 
--- 0 for each iterator and each list: the term at which `grind` takes what is said of both.
-unfoldable pub mark : {S A : Type 0} → S → List A → ℕ
-mark it xs = 0
+-- the same for a view of the items
+unfoldable pub view_mark : {U A B : Type 0} → (A → B) → U → List B → ℕ
+view_mark view u xs = 0
 
-module _ {S A : Type 0} (steps : S → Option A → S → Type 0) where
-  -- The iterator `it` gives the items of xs: each run of its calls gives the first of them, and a
-  -- whole run all of them. `grind` does not look into it.
-  unfoldable pub Lists : S → List A → Type 0
-  Lists it xs = EachRunFrom steps it (λ p. IsFront p xs)
+module _ {U S A : Type 0} (becomes : U → S → Type 0) (steps : S → Option A → S → Type 0) where
+  -- The source u gives the items of xs: what comes of an iterator that it becomes are the first of
+  -- them, and all of them at its end. `grind` does not look into it.
+  unfoldable pub Lists : U → List A → Type 0
+  Lists u xs = (it : S) → becomes u it → (whole : Bool) (ys : List A)
+      → DrainsIf steps (whole ≡ true) it ys → AreFirst whole xs ys
 
   -- The same of what `view` makes of its items.
-  unfoldable pub Shows : {B : Type 0} → (A → B) → S → List B → Type 0
-  Shows view it xs = EachRunFrom steps it (λ p. ShowsFront view p xs)
+  unfoldable pub Shows : {B : Type 0} → (A → B) → U → List B → Type 0
+  Shows view u xs = (it : S) → becomes u it → (whole : Bool) (ys : List A)
+      → DrainsIf steps (whole ≡ true) it ys → AreFirst whole xs (map view ys)
 
-  -- What `grind` is told of an iterator that gives the items of xs: of each run how many items
-  -- came, all of them if it is whole, that a fold which never falls is at most the one over xs, and
-  -- which item stands at a place.
-  abbrev pub GivesItems : S → List A → Type 0
-  GivesItems it xs = (mark it xs ≡ 0) × Lists it xs × EachRunFrom steps it (λ p.
+module _ {S A : Type 0} (steps : S → Option A → S → Type 0) where
+  -- What `grind` is told of each run of an iterator that gives the items of xs: how many came, all
+  -- of them if it is whole, that a fold which never falls is at most the one over xs, and which item
+  -- stands at a place.
+  abbrev pub GivesFronts : List A → S → Type 0
+  GivesFronts xs it = EachRunFrom steps it (λ p.
       (p.len ≤ length xs) × (p.whole ≡ true → p.items ≡ xs)
       × ((h : ℕ → A → ℕ) (n : ℕ) → ((a : ℕ) (x : A) → a ≤ h a x)
       → fold h n p.items ≤ fold h n xs)
       × ((k : ℕ) → k < p.len → p.at k ≡ slice_get xs k))
 
-  abbrev pub GivesShown : {B : Type 0} → (A → B) → S → List B → Type 0
-  GivesShown {B} view it xs = (mark it xs ≡ 0) × Shows view it xs × EachRunFrom steps it (λ p.
+  -- And of one whose items show those of xs.
+  abbrev pub ShowsFronts : {B : Type 0} → (A → B) → List B → S → Type 0
+  ShowsFronts {B} view xs it = EachRunFrom steps it (λ p.
       (p.len ≤ length xs) × (p.whole ≡ true → p.len ≡ length xs)
       × ((h : B → ℕ) → p.whole ≡ true → map (λ x. h (view x)) p.items ≡ map h xs))
+
+module _ {U S A : Type 0} (becomes : U → S → Type 0) (steps : S → Option A → S → Type 0) where
+  -- all that `grind` is told of a source that gives the items of xs
+  abbrev pub GivesItems : U → List A → Type 0
+  GivesItems u xs = (mark u xs ≡ 0) × Lists becomes steps u xs
+      × ((it : S) → becomes u it → GivesFronts steps xs it)
+
+  abbrev pub GivesShown : {B : Type 0} → (A → B) → U → List B → Type 0
+  GivesShown {B} view u xs = (mark u xs ≡ 0) × (view_mark view u xs ≡ 0)
+      × Shows becomes steps view u xs × ((it : S) → becomes u it → ShowsFronts steps view xs it)

@@ -7,4 +7,6 @@ pub mod Fronts
 pub mod FrontLaws
 pub mod Clones
 pub mod Walks
+pub mod WalkFronts
+pub mod WalkLaws
 pub mod Lends

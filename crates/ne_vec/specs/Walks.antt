@@ -7,23 +7,20 @@ use Rattle.std.specs.Slice.Iter.{iter_rest, iter_steps, iter_mut_rest, iter_mut_
 use Rattle.std.specs.declared.slice.Iter.{Iter}
 use Rattle.std.specs.declared.slice.IterMut.{IterMut}
 use Rattle.std.specs.declared.vec.IntoIter.{IntoIter}
-use Rattle.ne_vec.specs.Fronts.{Lists, Shows, mark}
 
--- The items of xs, by reference. The last parts say what calls of `next` give, for `search`.
+-- The items of xs, by reference. The last part says what calls of `next` give, for `search`.
 abbrev pub Walks : {X : Type 0} → List X → Iter X → Type 0
 Walks {X} xs it = (0 < length xs) × (iter_rest it ≡ xs) × (length (iter_rest it) < 2 ^ 64)
-    × IterYieldsInOrder X × Shows iter_steps (λ y. y.now) it xs × (mark it xs ≡ 0)
+    × IterYieldsInOrder X
 
 -- The same, for writing.
 abbrev pub WalksMut : {X : Type 0} → List X → IterMut X → Type 0
 WalksMut {X} xs it = (0 < length xs) × (iter_mut_rest it ≡ xs)
     × (length (iter_mut_rest it) < 2 ^ 64)
     × EveryRun (iter_mut_steps {A = X}) (λ p. ItemsMapTo p (λ y. y.now) (iter_mut_rest p.from))
-    × Shows iter_mut_steps (λ y. y.now) it xs × (mark it xs ≡ 0)
 
 -- And by value.
 abbrev pub WalksOut : {X Z : Type 0} → List X → IntoIter X Z → Type 0
 WalksOut {X} {Z} xs it = (0 < length xs) × (into_iter_items it ≡ xs)
     × (into_iter_len it ≡ length xs) × (into_iter_len it < 2 ^ 64)
     × EveryRun (into_iter_steps {X = X} {Z = Z}) (λ p. ItemsAre p (into_iter_items p.from))
-    × Lists into_iter_steps it xs × (mark it xs ≡ 0)

@@ -40,6 +40,7 @@ impl<'a, T> Model for NESlice<'a, T> {
 
 impl<'a, T> NESlice<'a, T> {
     ghost use Rattle.ne_vec.specs.Walks.{Walks};
+    ghost use Rattle.ne_vec.specs.WalkFronts.{WalkShows};
     ghost use Rattle.ne_vec.specs.Chunks.{chunks};
 
     /// The first item.
@@ -87,7 +88,6 @@ impl<'a, T> NESlice<'a, T> {
     }
 
     /// Std's walk over the items, in order.
-    #[tactic(auto, using(crate::proofs::WalkRuns::walks))]
     pub fn iter(&self) -> slice::Iter<'_, T>
         ensures { Walks self.now result }
     {
@@ -96,7 +96,8 @@ impl<'a, T> NESlice<'a, T> {
 
     /// The walk over the items, in order, that knows that there is one.
     pub fn nonempty_iter(&self) -> Iter<'_, T>
-        ensures { result ≡ self.now }
+        ensures items { result ≡ self.now }
+        ensures shows { WalkShows result self.now }
     {
         Iter { inner: self.inner }
     }
@@ -181,7 +182,6 @@ impl<'a, T> IntoIterator for NESlice<'a, T> {
 
     ghost into_iter_gives = { λ s it. Walks s it };
 
-    #[tactic(auto, using(crate::proofs::WalkRuns::walks))]
     fn into_iter(self) -> slice::Iter<'a, T> {
         self.inner.iter()
     }
@@ -196,7 +196,6 @@ impl<'a, T> IntoIterator for &'a NESlice<'a, T> {
 
     ghost into_iter_gives = { λ s it. Walks s.now it };
 
-    #[tactic(auto, using(crate::proofs::WalkRuns::walks))]
     fn into_iter(self) -> slice::Iter<'a, T> {
         self.inner.iter()
     }
@@ -321,7 +320,6 @@ impl<'a, T> IntoIterator for Iter<'a, T> {
 
     ghost into_iter_gives = { λ v it. Walks v it };
 
-    #[tactic(auto, using(crate::proofs::WalkRuns::walks))]
     fn into_iter(self) -> slice::Iter<'a, T> {
         self.inner.iter()
     }

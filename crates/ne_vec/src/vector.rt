@@ -57,6 +57,7 @@ impl<T> NEVec<T> {
     ghost use Rattle.std.specs.Borrow.{sem};
     ghost use Rattle.ne_vec.specs.Lends.{LendsItem, LendsItemIf, LendsItems, LendsWalk, std_walk};
     ghost use Rattle.ne_vec.specs.Walks.{Walks, WalksMut};
+    ghost use Rattle.ne_vec.specs.WalkFronts.{WalkShows};
     ghost use Rattle.ne_vec.specs.Chunks.{chunks};
     ghost use Rattle.ne_vec.specs.Kept.{kept_items, ActsAsAtMut};
 
@@ -338,7 +339,6 @@ impl<T> NEVec<T> {
     }
 
     /// Std's walk over the items, in order.
-    #[tactic(auto, using(crate::proofs::WalkRuns::walks))]
     pub fn iter(&self) -> slice::Iter<'_, T>
         ensures { Walks self.now result }
     {
@@ -346,7 +346,6 @@ impl<T> NEVec<T> {
     }
 
     /// Std's walk over the items, in order, for writing.
-    #[tactic(auto, using(crate::proofs::WalkRuns::walks))]
     pub fn iter_mut(&mut self) -> slice::IterMut<'_, T>
         ensures* writes_back { sem 𝓛 (LendsWalk T.row self.entry result) }
         ensures rest { WalksMut self.old result }
@@ -356,7 +355,8 @@ impl<T> NEVec<T> {
 
     /// The walk over the items, in order, that knows that there is one.
     pub fn nonempty_iter(&self) -> Iter<'_, T>
-        ensures { result ≡ self.now }
+        ensures items { result ≡ self.now }
+        ensures shows { WalkShows result self.now }
     {
         Iter {
             inner: self.inner.as_slice(),
@@ -364,7 +364,6 @@ impl<T> NEVec<T> {
     }
 
     /// The same, for writing.
-    #[tactic(auto, using(crate::proofs::WalkRuns::walks))]
     pub fn nonempty_iter_mut(&mut self) -> IterMut<'_, T>
         ensures* writes_back { sem 𝓛 (LendsWalk T.row self.entry (std_walk result)) }
         ensures rest { WalksMut self.old (std_walk result) }

@@ -1,5 +1,4 @@
 //! The walks over an [`NEVec`], which know that there is an item, and how a vector and they become std's.
-#![tactic(auto, using(crate::proofs::WalkRuns::walks))]
 
 ghost use Rattle.std.specs.Prelude.{◌≡◌, ◌<◌, length, ⊤};
 ghost use Rattle.std.specs.Slice.Iter.{iter_mut_rest};
