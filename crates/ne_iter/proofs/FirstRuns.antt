@@ -5,7 +5,7 @@ use Rattle.std.specs.Prelude.{◌≡◌, ◌≢◌, Bool, true, List, [], ◌∷
 use Rattle.ne_vec.specs.Divisions.{IsDivision}
 use Rattle.ne_iter.specs.Gives.{and_held}
 use Rattle.ne_iter.specs.Keys.{items_of}
-use Rattle.ne_iter.specs.Firsts.{AreFirst}
+use Rattle.ne_vec.specs.Fronts.{AreFirst}
 use Rattle.ne_iter.proofs.Readers.{division_of_none}
 
 module _ {A : Type 0} (goes_on : List A → A → Bool)

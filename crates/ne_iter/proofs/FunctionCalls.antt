@@ -5,7 +5,7 @@ use Rattle.std.specs.Borrow.{Bor}
 use Rattle.std.specs.Fn.{Mut}
 use Rattle.std.specs.Iterator.{ActsAs, ActsAsAt, ActsAsOnTwo, FoldTurn}
 use Rattle.std.specs.List.{AllByRecursion, All, FoldsTo, fold}
-use Rattle.ne_iter.specs.Calls.{AnswersEach, AnswersEachAt, Folds, ShownEach}
+use Rattle.ne_iter.specs.Calls.{AnswersEach, AnswersEachAt, Calls, Folds, ShownEach}
 use Rattle.ne_iter.specs.Gives.{FailsFirst}
 use Rattle.ne_iter.specs.Keys.{items_of}
 use Rattle.ne_iter.proofs.ListFronts.{FailsTest}
@@ -16,6 +16,18 @@ All-from_recursion P [] h k d within = absurd (omega (arith, within))
 All-from_recursion P (x ∷ xs) h zero d within = h.0
 All-from_recursion P (x ∷ xs) h (suc k) d within =
     All-from_recursion P xs h.1 k d (omega (arith, within))
+
+pub function_values : {F A B : Type 0} (calls : Mut F (A × Unit {0}) B) (f : F) (h : A → B)
+    (xs : List A) (ys : List B) (g : F) → ActsAs calls f h → Calls calls f xs ys g
+    → (ys ≡ map h xs) × (g ≡ f)
+function_values calls f h [] [] g acts e = (refl, sym e)
+function_values calls f h [] (y ∷ ys) g acts e = absurd e
+function_values calls f h (x ∷ xs) [] g acts e = absurd e
+function_values calls f h (x ∷ xs) (y ∷ ys) g acts (q, call, rest) =
+    let one = acts x y q call in
+    let more = function_values calls f h xs ys g acts
+    (subst (λ q. Calls calls q xs ys g) one.0 rest) in
+    (let a = one.1 in let b = more.0 in cc, more.1)
 
 pub shown_values : {F A B : Type 0} (calls : Mut F (Bor A × Unit {0}) B) (f : F) (h : A → B)
     (ps : List (A × B)) (g : F) → ActsAsAt calls f h → ShownEach calls f ps g

@@ -8,11 +8,9 @@ pub mod InterspersedPlaces
 pub mod InterspersedLists
 pub mod LookedRuns
 pub mod Unzipped
-pub mod Fronts
 pub mod JoinedRuns
 pub mod Stops
 pub mod KeptRuns
-pub mod FrontRuns
 pub mod Traced
 pub mod Loops
 pub mod Best
@@ -22,8 +20,13 @@ pub mod Divided
 pub mod SliceDivisions
 pub mod Collects
 pub mod ListFronts
+pub mod AdapterLists
+pub mod RunFronts
+pub mod ReadLists
+pub mod ClauseLists
+pub mod FirstAnswers
+pub mod PeekedLists
 pub mod FunctionCalls
 pub mod Extremes
 pub mod Unrefused
-pub mod RunLists
 pub mod FirstRuns

@@ -9,7 +9,7 @@ use Rattle.std.proofs.lemmas.Grind.{flat_map-append}
 use Rattle.std.specs.Prelude.{zero, suc, ◌≡◌, ℕ, ◌+◌, ◌-◌, ◌≤◌, ◌<◌, Bool, true, false, ◌||◌, ◌&&◌, ltb, cond, List, [], ◌∷◌, ◌++◌, length, take, drop, map, filter, zip, refl, ⊤, Option, IsTrue}
 use Rattle.std.specs.List.{AllByRecursion, cons_option, enumerate_from, filter_map, flat_map, prefix_len, scan, take_while}
 use Rattle.ne_vec.specs.Divisions.{joined}
-use Rattle.ne_iter.specs.Firsts.{AreFirst}
+use Rattle.ne_vec.specs.Fronts.{AreFirst}
 use Rattle.ne_iter.specs.Gives.{GivesList, ReadsEach}
 use Rattle.ne_iter.specs.Peeks.{with_head}
 use Rattle.ne_iter.specs.Separated.{separated}

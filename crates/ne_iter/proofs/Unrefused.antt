@@ -8,7 +8,7 @@ use Rattle.std.specs.List.{AllZip, list_all}
 use Rattle.ne_iter.specs.Clones.{TriesClone}
 use Rattle.ne_iter.specs.Interspersed.{Interspersed}
 use Rattle.ne_iter.specs.Separated.{separated}
-use Rattle.ne_iter.specs.Firsts.{AreFirst}
+use Rattle.ne_vec.specs.Fronts.{AreFirst}
 use Rattle.ne_iter.proofs.ListFronts.{separated_front}
 
 module _ {T E : Type 0} (clones : T → T → Type 0) (infallible : T → Type 0) where

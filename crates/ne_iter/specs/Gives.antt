@@ -7,6 +7,7 @@ use Rattle.std.specs.Fn.{Mut, CalledAt}
 use Rattle.std.specs.Borrow.{Bor, MutBor}
 use Rattle.std.proofs.Common.{◌⊎◌}
 use Rattle.ne_vec.specs.Divisions.{joined}
+use Rattle.ne_vec.specs.Fronts.{AreFirst}
 use Rattle.ne_iter.specs.Calls.{Calls, CallsWithState, ShownEach, AnswersEachAt}
 use Rattle.ne_iter.specs.Keys.{items_of, DividesByKey}
 use Rattle.ne_iter.specs.Interspersed.{Interspersed}
@@ -23,13 +24,19 @@ ReadsEach reads whole [] (ys ∷ yss) = ⊥
 ReadsEach reads whole (u ∷ us) [] = ⊥
 ReadsEach reads whole (u ∷ us) (ys ∷ yss) = reads (whole || ltb 0 (length us)) u ys × ReadsEach reads whole us yss
 
--- The source u gives the list xs and no other: what it reads is a front of xs, and what it gives to its end is all of xs.
+-- The source u gives the list xs and no other: what it reads is a front of xs, and what it gives to
+-- its end is all of xs.
 abbrev pub GivesList : {U A : Type 0} → (Bool → U → List A → Type 0) → U → List A → Type 0
-GivesList {A = A} reads u xs = (whole : Bool) (ys : List A) → reads whole u ys → (more : List A) × (xs ≡ ys ++ more) × (whole ≡ true → more ≡ [])
+GivesList {A = A} reads u xs = (whole : Bool) (ys : List A) → reads whole u ys → AreFirst whole xs ys
 
--- The same of a source of references, which show the items of xs.
+-- The same of what `view` makes of its items.
+abbrev pub ViewsList : {U A B : Type 0} → (Bool → U → List A → Type 0) → (A → B) → U → List B → Type 0
+ViewsList {A = A} reads view u xs =
+    (whole : Bool) (ys : List A) → reads whole u ys → AreFirst whole xs (map view ys)
+
+-- And of a source of references, which show the items of xs.
 abbrev pub ShowsList : {U A : Type 0} → (Bool → U → List (Bor A) → Type 0) → U → List A → Type 0
-ShowsList {A = A} reads u xs = (whole : Bool) (ys : List (Bor A)) → reads whole u ys → (more : List A) × (xs ≡ map (λ y. y.now) ys ++ more) × (whole ≡ true → more ≡ [])
+ShowsList reads u xs = ViewsList reads (λ y. y.now) u xs
 
 module _ {U V A : Type 0} (reads : Bool → U → List A → Type 0) where
   -- `map`: the answers of f, called on the source's items in order.

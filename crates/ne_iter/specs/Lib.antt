@@ -2,13 +2,13 @@ pub mod Sources
 pub mod SourceLaws
 pub mod SourceRuns
 pub mod SourceLists
+pub mod ArrayLaws
 pub mod Walks
 pub mod Calls
 pub mod Parts
 pub mod Scanned
 pub mod Interspersed
 pub mod Separated
-pub mod Firsts
 pub mod Gives
 pub mod Peeks
 pub mod PeekLends

@@ -83,17 +83,30 @@ impl<T: Drop, const N: usize> IntoNonEmptyIterator for [T; N]
 where
     [T; N]: NonEmptyArray<N>,
 {
-    ghost use Rattle.std.proofs.Common.{refl, subst, sym};
+    ghost use Rattle.std.proofs.Common.{refl, subst};
+    ghost use Rattle.ne_vec.specs.Fronts.{Listed};
     ghost use Rattle.ne_iter.specs.SourceLaws.{SameLists-through};
+    ghost use Rattle.ne_iter.specs.ArrayLaws.{array_gives};
     ghost use Rattle.ne_iter.specs.Parts.{items_of_array};
 
     type IntoNEIter = ArrayNonEmptyIterator<T, N>;
 
-    ghost into_nonempty_iter_gives = { λ a s. items_of_array s ≡ a };
+    ghost into_nonempty_iter_gives = { λ a s. (items_of_array s ≡ a)
+        × Listed (⟦<ArrayNonEmptyIterator<T, N> as IntoIterator>⟧.into_iter_gives)
+        (⟦<array::IntoIter<T, N> as Iterator>⟧.next_gives) s a };
 
-    ghost same_lists = { SameLists-through (⟦<[T; N] as IntoIterator>⟧.into_iter_gives) (⟦<array::IntoIter<T, N> as Iterator>⟧.next_gives) (λ a s. items_of_array s ≡ a) (⟦<ArrayNonEmptyIterator<T, N> as IntoIterator>⟧.into_iter_gives)
-        (λ a it made. (record { items = a; has_item = ⟦<[T; N] as NonEmptyArray<N>>⟧.has_item }, refl, (made, ⟦<[T; N] as NonEmptyArray<N>>⟧.has_item)))
-        (λ a s it same made. subst (λ items. ⟦<[T; N] as IntoIterator>⟧.into_iter_gives items it) same made.0) };
+    ghost same_lists = { SameLists-through (⟦<[T; N] as IntoIterator>⟧.into_iter_gives)
+        (⟦<array::IntoIter<T, N> as Iterator>⟧.next_gives)
+        (⟦<[T; N] as IntoNonEmptyIterator>⟧.into_nonempty_iter_gives)
+        (⟦<ArrayNonEmptyIterator<T, N> as IntoIterator>⟧.into_iter_gives)
+        (λ a it made.
+        let s : _ = record { items = a; has_item = ⟦<[T; N] as NonEmptyArray<N>>⟧.has_item } in (
+          s,
+          (refl, array_gives _ s a (λ it made. made.0.0)),
+          (made, ⟦<[T; N] as NonEmptyArray<N>>⟧.has_item),
+        ))
+        (λ a s it same made.
+        subst (λ items. ⟦<[T; N] as IntoIterator>⟧.into_iter_gives items it) same.0 made.0) };
 
     fn into_nonempty_iter(self) -> ArrayNonEmptyIterator<T, N> {
         ArrayNonEmptyIterator { items: self }
@@ -106,25 +119,24 @@ where
     [T; N]: NonEmptyArray<N>,
 {
     ghost use Rattle.std.proofs.Common.{refl, subst, sym, ap, ◌∙◌};
-    ghost use Rattle.std.specs.Slice.Iter.{iter_rest, iter_steps};
-    ghost use Rattle.ne_vec.specs.FrontLaws.{shows_all, marked};
+    ghost use Rattle.ne_vec.specs.WalkFronts.{WalkShows};
+    ghost use Rattle.ne_vec.specs.WalkLaws.{walk_shows};
     ghost use Rattle.ne_iter.specs.SourceLaws.{SameLists-through};
 
     type IntoNEIter = slice::Iter<'a, T>;
 
-    ghost into_nonempty_iter_gives = { λ a s. (s ≡ a.now) × (length a.now ≡ N) };
+    ghost into_nonempty_iter_gives = { λ a s. (s ≡ a.now) × (length a.now ≡ N)
+        × WalkShows s a.now };
 
-    ghost same_lists = { SameLists-through (⟦<&'a [T; N] as IntoIterator>⟧.into_iter_gives) (⟦<std::slice::Iter<'a, T> as Iterator>⟧.next_gives) (λ a s. (s ≡ a.now) × (length a.now ≡ N)) (⟦<slice::Iter<'a, T> as IntoIterator>⟧.into_iter_gives)
+    ghost same_lists = { SameLists-through (⟦<&'a [T; N] as IntoIterator>⟧.into_iter_gives) (⟦<std::slice::Iter<'a, T> as Iterator>⟧.next_gives) (λ a s. (s ≡ a.now) × (length a.now ≡ N) × WalkShows s a.now) (⟦<slice::Iter<'a, T> as IntoIterator>⟧.into_iter_gives)
         (λ a it made. (
           a.now,
-          (refl, sym (ap length made.0) ∙ made.3),
+          (refl, sym (ap length made.0) ∙ made.3, walk_shows a.now a.now refl),
           (
             subst (λ n. 0 < n) (sym made.3 ∙ ap length made.0) ⟦<[T; N] as NonEmptyArray<N>>⟧.has_item,
             made.0,
             made.1,
             made.2,
-            shows_all iter_steps (λ y. y.now) iter_rest it a.now made.2 made.0,
-            marked it a.now,
           ),
         ))
         (λ a s it same made. (made.1 ∙ same.0, made.2, made.3, ap length (made.1 ∙ same.0) ∙ same.1)) };

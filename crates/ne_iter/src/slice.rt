@@ -5,13 +5,23 @@ use ne_vec::{NESlice, slice};
 
 impl<'a, T> IntoNonEmptyIterator for NESlice<'a, T> {
     ghost use Rattle.std.specs.Prelude.{◌≡◌};
-    ghost use Rattle.ne_iter.specs.SourceLaws.{SameLists-self};
+    ghost use Rattle.std.proofs.Common.{refl, subst};
+    ghost use Rattle.ne_vec.specs.WalkFronts.{WalkShows};
+    ghost use Rattle.ne_vec.specs.WalkLaws.{walk_shows};
+    ghost use Rattle.ne_iter.specs.SourceLaws.{SameLists-through};
 
     type IntoNEIter = slice::Iter<'a, T>;
 
-    ghost into_nonempty_iter_gives = { λ v s. s ≡ v };
+    ghost into_nonempty_iter_gives = { λ v s. (s ≡ v) × WalkShows s v };
 
-    ghost same_lists = { SameLists-self (⟦<NESlice<'a, T> as IntoIterator>⟧.into_iter_gives) (⟦<std::slice::Iter<'a, T> as Iterator>⟧.next_gives) };
+    ghost same_lists = { SameLists-through
+        (⟦<NESlice<'a, T> as IntoIterator>⟧.into_iter_gives)
+        (⟦<std::slice::Iter<'a, T> as Iterator>⟧.next_gives)
+        (λ v s. (s ≡ v) × WalkShows s v)
+        (⟦<slice::Iter<'a, T> as IntoIterator>⟧.into_iter_gives)
+        (λ v it made. (v, (refl, walk_shows v v refl), made))
+        (λ v s it same made.
+        subst (λ xs. ⟦<slice::Iter<'a, T> as IntoIterator>⟧.into_iter_gives xs it) same.0 made) };
 
     fn into_nonempty_iter(self) -> slice::Iter<'a, T> {
         slice::Iter::from(self)
@@ -20,16 +30,23 @@ impl<'a, T> IntoNonEmptyIterator for NESlice<'a, T> {
 
 impl<'a, T> IntoNonEmptyIterator for &'a NESlice<'a, T> {
     ghost use Rattle.std.specs.Prelude.{◌≡◌};
-    ghost use Rattle.std.proofs.Common.{refl, subst, sym};
+    ghost use Rattle.std.proofs.Common.{refl, subst};
+    ghost use Rattle.ne_vec.specs.WalkFronts.{WalkShows};
+    ghost use Rattle.ne_vec.specs.WalkLaws.{walk_shows};
     ghost use Rattle.ne_iter.specs.SourceLaws.{SameLists-through};
 
     type IntoNEIter = slice::Iter<'a, T>;
 
-    ghost into_nonempty_iter_gives = { λ v s. s ≡ v.now };
+    ghost into_nonempty_iter_gives = { λ v s. (s ≡ v.now) × WalkShows s v.now };
 
-    ghost same_lists = { SameLists-through (⟦<&'a NESlice<'a, T> as IntoIterator>⟧.into_iter_gives) (⟦<std::slice::Iter<'a, T> as Iterator>⟧.next_gives) (λ v s. s ≡ v.now) (⟦<slice::Iter<'a, T> as IntoIterator>⟧.into_iter_gives)
-        (λ v it made. (v.now, refl, made))
-        (λ v s it same made. subst (λ xs. ⟦<slice::Iter<'a, T> as IntoIterator>⟧.into_iter_gives xs it) same made) };
+    ghost same_lists = { SameLists-through
+        (⟦<&'a NESlice<'a, T> as IntoIterator>⟧.into_iter_gives)
+        (⟦<std::slice::Iter<'a, T> as Iterator>⟧.next_gives)
+        (λ v s. (s ≡ v.now) × WalkShows s v.now)
+        (⟦<slice::Iter<'a, T> as IntoIterator>⟧.into_iter_gives)
+        (λ v it made. (v.now, (refl, walk_shows v.now v.now refl), made))
+        (λ v s it same made.
+        subst (λ xs. ⟦<slice::Iter<'a, T> as IntoIterator>⟧.into_iter_gives xs it) same.0 made) };
 
     fn into_nonempty_iter(self) -> slice::Iter<'a, T> {
         self.nonempty_iter()

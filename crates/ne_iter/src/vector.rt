@@ -43,13 +43,23 @@ impl<T: Drop> NonEmptyIterator for vector::IntoIter<T> {
 
 impl<T: Drop> IntoNonEmptyIterator for NEVec<T> {
     ghost use Rattle.std.specs.Prelude.{◌≡◌};
-    ghost use Rattle.ne_iter.specs.SourceLaws.{SameLists-self};
+    ghost use Rattle.std.specs.Global.{Global};
+    ghost use Rattle.std.proofs.Common.{refl, subst};
+    ghost use Rattle.ne_vec.specs.WalkFronts.{WalkGives};
+    ghost use Rattle.ne_vec.specs.WalkLaws.{walk_gives};
+    ghost use Rattle.ne_iter.specs.SourceLaws.{SameLists-through};
 
     type IntoNEIter = vector::IntoIter<T>;
 
-    ghost into_nonempty_iter_gives = { λ v s. s ≡ v };
+    ghost into_nonempty_iter_gives = { λ v s. (s ≡ v) × WalkGives Global s v };
 
-    ghost same_lists = { SameLists-self (⟦<NEVec<T> as IntoIterator>⟧.into_iter_gives) (⟦<vec::IntoIter<T> as Iterator>⟧.next_gives) };
+    ghost same_lists = { SameLists-through (⟦<NEVec<T> as IntoIterator>⟧.into_iter_gives)
+        (⟦<vec::IntoIter<T> as Iterator>⟧.next_gives)
+        (λ v s. (s ≡ v) × WalkGives Global s v)
+        (⟦<vector::IntoIter<T> as IntoIterator>⟧.into_iter_gives)
+        (λ v it made. (v, (refl, walk_gives v v refl Global), made))
+        (λ v s it same made.
+        subst (λ xs. ⟦<NEVec<T> as IntoIterator>⟧.into_iter_gives xs it) same.0 made) };
 
     fn into_nonempty_iter(self) -> vector::IntoIter<T> {
         vector::IntoIter::from(self)
@@ -58,16 +68,22 @@ impl<T: Drop> IntoNonEmptyIterator for NEVec<T> {
 
 impl<'a, T> IntoNonEmptyIterator for &'a NEVec<T> {
     ghost use Rattle.std.specs.Prelude.{◌≡◌};
-    ghost use Rattle.std.proofs.Common.{refl, subst, sym};
+    ghost use Rattle.std.proofs.Common.{refl, subst};
+    ghost use Rattle.ne_vec.specs.WalkFronts.{WalkShows};
+    ghost use Rattle.ne_vec.specs.WalkLaws.{walk_shows};
     ghost use Rattle.ne_iter.specs.SourceLaws.{SameLists-through};
 
     type IntoNEIter = vector::Iter<'a, T>;
 
-    ghost into_nonempty_iter_gives = { λ v s. s ≡ v.now };
+    ghost into_nonempty_iter_gives = { λ v s. (s ≡ v.now) × WalkShows s v.now };
 
-    ghost same_lists = { SameLists-through (⟦<&'a NEVec<T> as IntoIterator>⟧.into_iter_gives) (⟦<slice::Iter<'a, T> as Iterator>⟧.next_gives) (λ v s. s ≡ v.now) (⟦<vector::Iter<'a, T> as IntoIterator>⟧.into_iter_gives)
-        (λ v it made. (v.now, refl, made))
-        (λ v s it same made. subst (λ xs. ⟦<vector::Iter<'a, T> as IntoIterator>⟧.into_iter_gives xs it) same made) };
+    ghost same_lists = { SameLists-through (⟦<&'a NEVec<T> as IntoIterator>⟧.into_iter_gives)
+        (⟦<slice::Iter<'a, T> as Iterator>⟧.next_gives)
+        (λ v s. (s ≡ v.now) × WalkShows s v.now)
+        (⟦<vector::Iter<'a, T> as IntoIterator>⟧.into_iter_gives)
+        (λ v it made. (v.now, (refl, walk_shows v.now v.now refl), made))
+        (λ v s it same made.
+        subst (λ xs. ⟦<vector::Iter<'a, T> as IntoIterator>⟧.into_iter_gives xs it) same.0 made) };
 
     fn into_nonempty_iter(self) -> vector::Iter<'a, T> {
         self.nonempty_iter()

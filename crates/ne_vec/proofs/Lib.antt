@@ -7,3 +7,4 @@ pub mod Chunked
 pub mod Compared
 pub mod MappedRuns
 pub mod FirstRuns
+pub mod RunFronts

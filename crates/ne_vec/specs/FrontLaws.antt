@@ -1,18 +1,14 @@
--- From the calls of an iterator to the list that it gives, and from that list to its runs.
+-- From the calls of an iterator to the list that it gives.
 use Rattle.std.proofs.Common.{arith, subst, sym, ap, ◌∙◌, map-id}
 use Rattle.std.proofs.lemmas.List.{nil_from_length}
-use Rattle.std.proofs.iter.runs.Lists.{nth_left}
-use Rattle.std.proofs.iter.runs.Made.{at-is}
-use Rattle.std.proofs.iter.runs.Sources.{lists, as_is}
-use Rattle.std.specs.Prelude.{◌≡◌, Bool, true, List, [], ◌∷◌, ◌++◌, length, map, Option, Some, None, refl, slice_get}
+use Rattle.std.specs.Prelude.{◌≡◌, List, [], ◌∷◌, ◌++◌, length, map, Option, Some, None, refl}
 use Rattle.std.specs.Borrow.{Bor}
 use Rattle.std.specs.Iterator.{DrainsIf, YieldsFirst}
-use Rattle.std.specs.Iterator.Runs.{Run, YieldsRun}
 use Rattle.std.specs.Slice.Iter.{iter_steps, iter_rest}
 use Rattle.std.specs.Vec.Iter.{into_iter_items, into_iter_len, into_iter_steps}
 use Rattle.std.specs.declared.slice.Iter.{Iter}
 use Rattle.std.specs.declared.vec.IntoIter.{IntoIter}
-use Rattle.ne_vec.specs.Fronts.{AreFirst, Lists, Shows, GivesItems, GivesShown, mark, view_mark}
+use Rattle.ne_vec.specs.Fronts.{mark, view_mark}
 
 -- an iterator each of whose calls takes the first item of the list that it has left
 module _ {S A B : Type 0} (steps : S → Option A → S → Type 0) (view : A → B) (rest : S → List B)
@@ -68,41 +64,3 @@ marked u xs = refl
 pub view_marked : {U A B : Type 0} (view : A → B) (u : U) (xs : List B) → view_mark view u xs ≡ 0
 unfolding view_mark
 view_marked view u xs = refl
-
--- what the calls of a run gave
-pub run_drains : {S A : Type 0} (steps : S → Option A → S → Type 0) (p : Run steps) (it : S)
-    → p.from ≡ it → DrainsIf steps (p.whole ≡ true) it p.items
-unfolding YieldsRun
-run_drains steps p it from = subst (λ s. DrainsIf steps (p.whole ≡ true) s p.items) from p.gave.0
-
-module _ {U S A : Type 0} (becomes : U → S → Type 0) (steps : S → Option A → S → Type 0) (u : U) where
-  pub gives_shown : {B : Type 0} (view : A → B) (xs : List B)
-      → Shows becomes steps view u xs → GivesShown becomes steps view u xs
-  unfolding Shows
-  gives_shown view xs shows = (
-    marked u xs,
-    view_marked view u xs,
-    shows,
-    λ it made p seen from.
-        let f = shows it made p.whole p.items (run_drains steps p it from) in
-        let l = lists p view xs f.0 (λ w. ap length (f.2 w)) f.1 in
-        (l.0, l.1, l.6),
-  )
-
-  pub gives_items : (xs : List A) → Lists becomes steps u xs → GivesItems becomes steps u xs
-  unfolding Lists
-  gives_items xs gives = (
-    marked u xs,
-    gives,
-    λ it made p seen from.
-        let f = gives it made p.whole p.items (run_drains steps p it from) in
-        let e = subst (λ l. xs ≡ l ++ f.0) (sym (map-id p.items)) f.1 in
-        let l = as_is p xs (lists p (λ x. x) xs f.0 (λ w. ap length (f.2 w)) e) in (
-          l.0,
-          l.4,
-          l.5,
-          λ k m.
-              at-is p k ∙ sym (nth_left p.items f.0 k (omega (arith, m, p.long)))
-              ∙ ap (λ l. slice_get l k) (sym f.1),
-        ),
-  )

@@ -28,6 +28,13 @@ module _ {U S A : Type 0} (becomes : U → S → Type 0) (steps : S → Option A
   Shows view u xs = (it : S) → becomes u it → (whole : Bool) (ys : List A)
       → DrainsIf steps (whole ≡ true) it ys → AreFirst whole xs (map view ys)
 
+  -- the same with the marks at which `grind` takes it
+  abbrev pub Listed : U → List A → Type 0
+  Listed u xs = (mark u xs ≡ 0) × Lists u xs
+
+  abbrev pub Shown : {B : Type 0} → (A → B) → U → List B → Type 0
+  Shown view u xs = (mark u xs ≡ 0) × (view_mark view u xs ≡ 0) × Shows view u xs
+
 module _ {S A : Type 0} (steps : S → Option A → S → Type 0) where
   -- What `grind` is told of each run of an iterator that gives the items of xs: how many came, all
   -- of them if it is whole, that a fold which never falls is at most the one over xs, and which item
@@ -48,9 +55,9 @@ module _ {S A : Type 0} (steps : S → Option A → S → Type 0) where
 module _ {U S A : Type 0} (becomes : U → S → Type 0) (steps : S → Option A → S → Type 0) where
   -- all that `grind` is told of a source that gives the items of xs
   abbrev pub GivesItems : U → List A → Type 0
-  GivesItems u xs = (mark u xs ≡ 0) × Lists becomes steps u xs
+  GivesItems u xs = Listed becomes steps u xs
       × ((it : S) → becomes u it → GivesFronts steps xs it)
 
   abbrev pub GivesShown : {B : Type 0} → (A → B) → U → List B → Type 0
-  GivesShown {B} view u xs = (mark u xs ≡ 0) × (view_mark view u xs ≡ 0)
-      × Shows becomes steps view u xs × ((it : S) → becomes u it → ShowsFronts steps view xs it)
+  GivesShown {B} view u xs = Shown becomes steps view u xs
+      × ((it : S) → becomes u it → ShowsFronts steps view xs it)

@@ -15,7 +15,6 @@ impl<U, I: IntoIterator, F: FnMut(I::Item) -> U> IntoIterator for Map<I, F> {
     ghost use Rattle.std.specs.Prelude.{◌≡◌};
     ghost use Rattle.std.specs.Iterator.Adapters.{map_source, map_callee};
     ghost use Rattle.ne_iter.specs.SourceRuns.{MapsRuns};
-    ghost use Rattle.ne_iter.specs.SourceLists.{MapsList};
     ghost use Rattle.ne_iter.specs.Parts.{source_of_map, closure_of_map};
 
     type Item = U;
@@ -24,8 +23,7 @@ impl<U, I: IntoIterator, F: FnMut(I::Item) -> U> IntoIterator for Map<I, F> {
 
     ghost into_iter_gives = { λ s it. I.into_iter_gives (source_of_map s) (map_source it)
         × (map_callee it ≡ closure_of_map s)
-        × MapsRuns I.IntoIter.next_gives F.FnMut (closure_of_map s) (map_source it) it
-        × MapsList I.IntoIter.next_gives F.FnMut (closure_of_map s) (map_source it) it };
+        × MapsRuns I.IntoIter.next_gives F.FnMut (closure_of_map s) (map_source it) it };
 
     fn into_iter(self) -> iter::Map<I::IntoIter, F> {
         self.iter.into_iter().map(self.f)
@@ -48,8 +46,6 @@ pub struct Enumerate<I> {
 impl<I: IntoIterator> IntoIterator for Enumerate<I> {
     ghost use Rattle.std.specs.Prelude.{◌≡◌};
     ghost use Rattle.std.specs.Iterator.Adapters.{enumerate_source, enumerate_count};
-    ghost use Rattle.ne_iter.specs.SourceRuns.{EnumeratesRuns};
-    ghost use Rattle.ne_iter.specs.SourceLists.{EnumeratesList};
     ghost use Rattle.ne_iter.specs.Parts.{source_of_enumerate};
 
     type Item = (usize, I::Item);
@@ -57,9 +53,7 @@ impl<I: IntoIterator> IntoIterator for Enumerate<I> {
     type IntoIter = iter::Enumerate<I::IntoIter>;
 
     ghost into_iter_gives = { λ s it.
-        I.into_iter_gives (source_of_enumerate s) (enumerate_source it) × (enumerate_count it ≡ 0)
-        × EnumeratesRuns I.IntoIter.next_gives (enumerate_source it) it
-        × EnumeratesList I.IntoIter.next_gives (enumerate_source it) it };
+        I.into_iter_gives (source_of_enumerate s) (enumerate_source it) × (enumerate_count it ≡ 0) };
 
     fn into_iter(self) -> iter::Enumerate<I::IntoIter> {
         self.iter.into_iter().enumerate()
@@ -83,8 +77,6 @@ pub struct Take<I> {
 impl<I: IntoIterator> IntoIterator for Take<I> {
     ghost use Rattle.std.specs.Prelude.{◌≡◌, ◌<◌};
     ghost use Rattle.std.specs.Iterator.Adapters.{take_source, take_count};
-    ghost use Rattle.ne_iter.specs.SourceRuns.{TakesRuns};
-    ghost use Rattle.ne_iter.specs.SourceLists.{TakesList};
     ghost use Rattle.ne_iter.specs.Parts.{source_of_take, count_of_take};
 
     type Item = I::Item;
@@ -92,9 +84,7 @@ impl<I: IntoIterator> IntoIterator for Take<I> {
     type IntoIter = iter::Take<I::IntoIter>;
 
     ghost into_iter_gives = { λ s it. I.into_iter_gives (source_of_take s) (take_source it)
-        × (take_count it ≡ count_of_take s)
-        × TakesRuns I.IntoIter.next_gives (count_of_take s) (take_source it) it
-        × TakesList I.IntoIter.next_gives (count_of_take s) (take_source it) it };
+        × (take_count it ≡ count_of_take s) };
 
     fn into_iter(self) -> iter::Take<I::IntoIter> {
         self.iter.into_iter().take(self.n.get())
@@ -120,7 +110,6 @@ impl<A: IntoIterator, B: IntoIterator<Item = A::Item>> IntoIterator for Chain<A,
     ghost use Rattle.std.specs.Prelude.{◌≡◌, false};
     ghost use Rattle.std.specs.Iterator.Adapters.{chain_first, chain_second, chain_first_done, chain_second_done};
     ghost use Rattle.ne_iter.specs.SourceRuns.{ChainsRuns};
-    ghost use Rattle.ne_iter.specs.SourceLists.{ChainsLists};
     ghost use Rattle.ne_iter.specs.Parts.{first_of_chain, second_of_chain};
 
     type Item = A::Item;
@@ -131,8 +120,6 @@ impl<A: IntoIterator, B: IntoIterator<Item = A::Item>> IntoIterator for Chain<A,
         × B.into_iter_gives (second_of_chain s) (chain_second it) × (chain_first_done it ≡ false)
         × (chain_second_done it ≡ false)
         × ChainsRuns A.IntoIter.next_gives B.IntoIter.next_gives
-        (chain_first it) (chain_second it) it
-        × ChainsLists A.IntoIter.next_gives B.IntoIter.next_gives
         (chain_first it) (chain_second it) it };
 
     fn into_iter(self) -> iter::Chain<A::IntoIter, B::IntoIter> {
@@ -190,18 +177,14 @@ where
     A::Item: Drop,
 {
     ghost use Rattle.std.specs.Iterator.Adapters.{zip_first, zip_second};
-    ghost use Rattle.ne_iter.specs.SourceRuns.{ZipsRuns};
     ghost use Rattle.ne_iter.specs.Parts.{first_of_zip, second_of_zip};
-    ghost use Rattle.ne_iter.specs.SourceLists.{ZipsLists};
 
     type Item = (A::Item, B::Item);
 
     type IntoIter = iter::Zip<A::IntoIter, B::IntoIter>;
 
     ghost into_iter_gives = { λ s it. A.into_iter_gives (first_of_zip s) (zip_first it)
-        × B.into_iter_gives (second_of_zip s) (zip_second it)
-        × ZipsRuns A.IntoIter.next_gives B.IntoIter.next_gives (zip_first it) (zip_second it) it
-        × ZipsLists A.IntoIter.next_gives B.IntoIter.next_gives (zip_first it) (zip_second it) it };
+        × B.into_iter_gives (second_of_zip s) (zip_second it) };
 
     fn into_iter(self) -> iter::Zip<A::IntoIter, B::IntoIter> {
         self.a.into_iter().zip(self.b)

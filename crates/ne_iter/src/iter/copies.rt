@@ -75,16 +75,12 @@ pub struct Copied<I> {
 impl<'a, T: Copy + 'a, I: IntoIterator<Item = &'a T>> IntoIterator for Copied<I> {
     ghost use Rattle.std.specs.Iterator.Adapters.{copied_source};
     ghost use Rattle.ne_iter.specs.Parts.{source_of_copied};
-    ghost use Rattle.ne_iter.specs.SourceRuns.{CopiesRuns};
-    ghost use Rattle.ne_iter.specs.SourceLists.{CopiesList};
 
     type Item = T;
 
     type IntoIter = iter::Copied<I::IntoIter>;
 
-    ghost into_iter_gives = { λ s it. I.into_iter_gives (source_of_copied s) (copied_source it)
-        × CopiesRuns I.IntoIter.next_gives (copied_source it) it
-        × CopiesList I.IntoIter.next_gives (copied_source it) it };
+    ghost into_iter_gives = { λ s it. I.into_iter_gives (source_of_copied s) (copied_source it) };
 
     fn into_iter(self) -> iter::Copied<I::IntoIter> {
         self.iter.into_iter().copied()
@@ -97,7 +93,7 @@ impl<'a, T: Copy + 'a, I: NonEmptyIterator<Item = &'a T>> NonEmptyIterator for C
     ghost use Rattle.ne_iter.specs.SourceLaws.{none_copied};
 
     ghost not_empty = { λ s it made t ended.
-        I.not_empty (source_of_copied s) (copied_source it) made.0 (copied_source t)
+        I.not_empty (source_of_copied s) (copied_source it) made (copied_source t)
         (none_copied I.IntoIter.next_gives (copied_source it) (copied_source t)
         ended.0 ended.1 ended.2) };
 }

@@ -1,15 +1,23 @@
 //! [`NonEmptyIterator`]: a source that gives at least one item, with its methods.
-ghost use Rattle.std.specs.Prelude.{◌≡◌, ◌+◌, ◌≤◌, true, false, List, length, map, Some, IfOk, OnOk, IsPermutation, IsTrue, MatchOption};
+ghost use Rattle.std.specs.Prelude.{◌≡◌, ℕ, ◌+◌, ◌≤◌, ◌++◌, Bool, true, false, List, drop, length, map, slice_get, take, Option, Some, Ok, IfOk, OnOk, IsPermutation, IsTrue, MatchOption};
 ghost use Rattle.std.specs.Bool.{MatchBool};
-ghost use Rattle.std.specs.List.{fold as list_fold};
-ghost use Rattle.std.specs.Iterator.{IsFinite, ActsAsOnTwo, MakesProgress, AfterFirst, CallableInFold, CallableWhile, CallableWhileAt, CallableOnAllAt};
+ghost use Rattle.std.specs.List.{All, Contains, enumerate_from, prefix_len, list_all, list_any};
+ghost use Rattle.std.specs.List.{filter as list_filter, filter_map as list_filter_map};
+ghost use Rattle.std.specs.List.{find as list_find, fold as list_fold, reduce as list_reduce};
+ghost use Rattle.std.specs.List.{scan as list_scan, take_while as list_take_while, zip as list_zip};
+ghost use Rattle.std.specs.Iterator.{IsFinite, ActsAs, ActsAsAt, ActsAsOnTwo, MakesProgress, AfterFirst, CallableInFold, CallableWhile, CallableWhileAt, CallableOnAllAt};
 ghost use Rattle.std.specs.Iterator.Runs.{CountFits, EachRunFrom, SomeRun, WholeRun, AnyItem, AllItems, AllItemsGive, AnyItemGives, NoItemPasses, EndsAtFirstPassing, IsReduceRun, IndexesMappedItems, IsFilterRun, IsFilterMapRun, IsSkipRun, IsSkipWhileRun, IsTakeWhileRun};
 ghost use Rattle.std.specs.Iterator.Adapters.{filter_steps, filter_map_steps, skip_steps, skip_while_steps, take_while_steps, filter_source, filter_callee, filter_map_source, filter_map_callee, skip_source, skip_count, skip_while_source, skip_while_callee, skip_while_done_skipping, take_while_source, take_while_callee, take_while_done};
 ghost use Rattle.std.specs.Int.NonZero.{non_zero_usize_get};
+ghost use Rattle.std.specs.Global.{Global};
 ghost use Rattle.std.specs.List.Sorted.{IsSortedByKeyClosure, IsStableByKeyClosure};
 ghost use Rattle.ne_iter.specs.Sources.{IsNonEmpty, FirstAndRest};
+ghost use Rattle.ne_vec.specs.Fronts.{Shows, GivesFronts, mark, view_mark};
+ghost use Rattle.ne_vec.specs.WalkFronts.{WalkGives};
 ghost use Rattle.ne_iter.specs.SourceRuns.{RunsSome, RunsWhole, BeginsRuns};
-ghost use Rattle.ne_iter.specs.Calls.{ShownEach};
+ghost use Rattle.ne_iter.specs.SourceLists.{EachList, EachShown, JoinsLists, MapsList, MapsShown, MeetsList};
+ghost use Rattle.ne_iter.specs.Separated.{separated};
+ghost use Rattle.ne_iter.specs.Calls.{ActsAsWithState, ShownEach};
 ghost use Rattle.ne_iter.specs.Clones.{TriesClone};
 ghost use Rattle.ne_iter.specs.Parts.{source_of_map, closure_of_map, source_of_enumerate, source_of_take, count_of_take, first_of_chain, second_of_chain, first_of_zip, second_of_zip, source_of_cloned, source_of_copied, source_of_flat_map, closure_of_flat_map, source_of_flatten, source_of_scan, init_of_scan, closure_of_scan, source_of_group_by, closure_of_group_by, first_of_intersperse, rest_of_intersperse, separator_of_intersperse};
 ghost use Rattle.ne_iter.specs.Gives.{MapGives, EnumerateGives, TakeGives, ChainGives, ZipGives, FlatMapGives, FlattenGives, ScanGives, GroupByGives, GroupByStops, CopiedGives, ClonedGives, FilterGives, FilterMapGives, SkipGives, SkipWhileGives, TakeWhileGives, IntersperseGives};
@@ -62,6 +70,8 @@ pub trait NonEmptyIterator: IntoIterator {
         ensures drawn { FirstAndRest Self.into_iter_gives Self.IntoIter.next_gives self (peekable_first result) (peekable_rest result) }
         ensures goes_on { (it : Self.IntoIter) × Self.into_iter_gives self it × MakesProgress Self.IntoIter.can_next Self.IntoIter.remaining it (Some (peekable_first result)) (peekable_rest result) }
         ensures gives { PeekableGives (⟦<Self as Source>⟧.reads) (⟦<Peekable<Self::IntoIter> as Source>⟧.reads) self result }
+        ensures lists { EachList (⟦<Self as Source>⟧.lists) self (λ xs.
+            ⟦<Peekable<Self::IntoIter> as Source>⟧.gives_items result xs) }
         ensures runs { (it : Self.IntoIter) × Self.into_iter_gives self it
             × BeginsRuns Self.IntoIter.next_gives (peekable_first result)
             (peekable_rest result) it }
@@ -77,6 +87,8 @@ pub trait NonEmptyIterator: IntoIterator {
         requires runs { ⟦<Self as Source>⟧.ends self }
         requires callable { (it : Self.IntoIter) → Self.into_iter_gives self it → CallableWhile Self.IntoIter.next_gives F.FnMut true it f }
         ensures gives { TellsAll (⟦<Self as Source>⟧.reads) F.FnMut self f result }
+        ensures lists { EachList (⟦<Self as Source>⟧.lists) self (λ xs. (test : Self.Item → Bool)
+            → ActsAs F.FnMut f test → result ≡ list_all test xs) }
         ensures runs { RunsSome Self.into_iter_gives Self.IntoIter.next_gives self (λ p.
             MatchBool result (IsTrue p.whole × AllItemsGive p F.FnMut f true)
             (AnyItemGives p F.FnMut f false)) }
@@ -91,6 +103,8 @@ pub trait NonEmptyIterator: IntoIterator {
         requires runs { ⟦<Self as Source>⟧.ends self }
         requires callable { (it : Self.IntoIter) → Self.into_iter_gives self it → CallableWhile Self.IntoIter.next_gives F.FnMut false it f }
         ensures gives { TellsAny (⟦<Self as Source>⟧.reads) F.FnMut self f result }
+        ensures lists { EachList (⟦<Self as Source>⟧.lists) self (λ xs. (test : Self.Item → Bool)
+            → ActsAs F.FnMut f test → result ≡ list_any test xs) }
         ensures runs { RunsSome Self.into_iter_gives Self.IntoIter.next_gives self (λ p.
             MatchBool result (AnyItemGives p F.FnMut f true)
             (IsTrue p.whole × AllItemsGive p F.FnMut f false)) }
@@ -106,6 +120,12 @@ pub trait NonEmptyIterator: IntoIterator {
         Self: Sized,
         ensures holds { (first_of_chain result ≡ self) × (second_of_chain result ≡ other) }
         ensures gives { ChainGives (⟦<Self as Source>⟧.reads) (⟦<U as Source>⟧.reads) (⟦<Chain<Self, U> as Source>⟧.reads) self other result }
+        ensures lists { JoinsLists ◌++◌ (⟦<Self as Source>⟧.lists) (⟦<U as Source>⟧.lists)
+            (MeetsList U.into_iter_gives U.IntoIter.next_gives)
+            (⟦<Chain<Self, U> as Source>⟧.gives_items) self other result }
+        ensures shown { EachShown (⟦<Self as Source>⟧.shows) self (λ view xs. (ys : List ℕ)
+            → ⟦<U as Source>⟧.shows view other ys → (view_mark view other ys ≡ 0)
+            × ⟦<Chain<Self, U> as Source>⟧.gives_shown view result (xs ++ ys)) }
     {
         Chain { a: self, b: other }
     }
@@ -118,6 +138,11 @@ pub trait NonEmptyIterator: IntoIterator {
         Self: Sized + IntoIterator<Item = &'a T>,
         ensures holds { source_of_cloned result ≡ self }
         ensures gives { ClonedGives (⟦<Self as Source>⟧.reads) (TriesClone T.is_clone T.is_infallible) (⟦<Cloned<Self> as Source>⟧.reads) self result }
+        ensures lists { (xs : List T)
+            → Shows Self.into_iter_gives Self.IntoIter.next_gives (λ y. y.now) self xs
+            → (mark self xs ≡ 0) × (((x : T) → T.is_infallible x)
+            → ((x y : T) → T.is_clone x y → y ≡ x)
+            → ⟦<Cloned<Self> as Source>⟧.gives_items result (map Ok xs)) }
     {
         Cloned { iter: self }
     }
@@ -134,6 +159,8 @@ pub trait NonEmptyIterator: IntoIterator {
         requires { ⟦<Self as Source>⟧.ends self }
         ensures gives { IfOk result (λ c. (xs : List Self.Item)
             × ⟦<Self as Source>⟧.reads (B.is_complete c) self xs × B.collected xs c) }
+        ensures lists { IfOk result (λ c. EachList (⟦<Self as Source>⟧.lists) self (λ xs.
+            B.is_complete c ≡ true → B.collected xs c)) }
         ensures runs { IfOk result (λ c.
             RunsSome Self.into_iter_gives Self.IntoIter.next_gives self (λ p.
             (p.whole ≡ B.is_complete c) × B.collected p.items c)) }
@@ -149,6 +176,9 @@ pub trait NonEmptyIterator: IntoIterator {
         Self: Sized + IntoIterator<Item = &'a T>,
         ensures holds { source_of_copied result ≡ self }
         ensures gives { CopiedGives (⟦<Self as Source>⟧.reads) (⟦<Copied<Self> as Source>⟧.reads) self result }
+        ensures lists { (xs : List T)
+            → Shows Self.into_iter_gives Self.IntoIter.next_gives (λ y. y.now) self xs
+            → (mark self xs ≡ 0) × ⟦<Copied<Self> as Source>⟧.gives_items result xs }
     {
         Copied { iter: self }
     }
@@ -161,6 +191,8 @@ pub trait NonEmptyIterator: IntoIterator {
         requires { (it : Self.IntoIter) → Self.into_iter_gives self it → Self.IntoIter.can_next it × IsFinite (Self.IntoIter.remaining it) × CountFits Self.IntoIter.next_gives Self.IntoIter.remaining 0 it }
         ensures gives { (xs : List Self.Item) × ⟦<Self as Source>⟧.reads true self xs
             × (non_zero_usize_get result ≡ length xs) }
+        ensures lists { EachList (⟦<Self as Source>⟧.lists) self (λ xs.
+            non_zero_usize_get result ≡ length xs) }
         ensures runs { RunsWhole Self.into_iter_gives Self.IntoIter.next_gives self (λ p.
             non_zero_usize_get result ≡ p.len) }
     {
@@ -176,6 +208,8 @@ pub trait NonEmptyIterator: IntoIterator {
         Self: Sized,
         ensures holds { source_of_enumerate result ≡ self }
         ensures gives { EnumerateGives (⟦<Self as Source>⟧.reads) (⟦<Enumerate<Self> as Source>⟧.reads) self result }
+        ensures lists { EachList (⟦<Self as Source>⟧.lists) self (λ xs.
+            ⟦<Enumerate<Self> as Source>⟧.gives_items result (enumerate_from 0 xs)) }
     {
         Enumerate { iter: self }
     }
@@ -190,6 +224,10 @@ pub trait NonEmptyIterator: IntoIterator {
         Self::Item: Drop,
         ensures holds { Self.into_iter_gives self (filter_source result) × (filter_callee result ≡ predicate) }
         ensures gives { FilterGives (⟦<Self as Source>⟧.reads) (⟦<iter::Filter<Self::IntoIter, P> as Source>⟧.reads) P.FnMut self predicate result }
+        ensures lists { EachList (⟦<Self as Source>⟧.lists) self (λ xs. (test : Self.Item → Bool)
+            → ActsAsAt P.FnMut predicate test → (list_filter test xs ≡ list_filter test xs)
+            × GivesFronts (filter_steps Self.IntoIter.next_gives P.FnMut)
+            (list_filter test xs) result) }
         ensures runs { (it : Self.IntoIter) × Self.into_iter_gives self it
             × EachRunFrom (filter_steps Self.IntoIter.next_gives P.FnMut) result (λ u.
             SomeRun Self.IntoIter.next_gives it (λ q. IsFilterRun u q P.FnMut predicate)) }
@@ -206,6 +244,11 @@ pub trait NonEmptyIterator: IntoIterator {
         Self: Sized,
         ensures holds { Self.into_iter_gives self (filter_map_source result) × (filter_map_callee result ≡ f) }
         ensures gives { FilterMapGives (⟦<Self as Source>⟧.reads) (⟦<iter::FilterMap<Self::IntoIter, F> as Source>⟧.reads) F.FnMut self f result }
+        ensures lists { EachList (⟦<Self as Source>⟧.lists) self (λ xs.
+            (h : Self.Item → Option B) → ActsAs F.FnMut f h
+            → (list_filter_map h xs ≡ list_filter_map h xs)
+            × GivesFronts (filter_map_steps Self.IntoIter.next_gives F.FnMut)
+            (list_filter_map h xs) result) }
         ensures runs { (it : Self.IntoIter) × Self.into_iter_gives self it
             × EachRunFrom (filter_map_steps Self.IntoIter.next_gives F.FnMut) result (λ p.
             SomeRun Self.IntoIter.next_gives it (λ q. IsFilterMapRun p q F.FnMut f)) }
@@ -221,6 +264,8 @@ pub trait NonEmptyIterator: IntoIterator {
         requires runs { ⟦<Self as Source>⟧.ends self }
         requires callable { (it : Self.IntoIter) → Self.into_iter_gives self it → CallableWhileAt Self.IntoIter.next_gives P.FnMut false it predicate }
         ensures gives { FindsFirst (⟦<Self as Source>⟧.reads) P.FnMut self predicate result }
+        ensures lists { EachList (⟦<Self as Source>⟧.lists) self (λ xs. (test : Self.Item → Bool)
+            → ActsAsAt P.FnMut predicate test → result ≡ list_find test xs) }
         ensures runs { RunsSome Self.into_iter_gives Self.IntoIter.next_gives self (λ u.
             MatchOption result (IsTrue u.whole × NoItemPasses u P.FnMut predicate)
             (EndsAtFirstPassing u P.FnMut predicate)) }
@@ -272,6 +317,8 @@ pub trait NonEmptyIterator: IntoIterator {
         requires runs { ⟦<Self as Source>⟧.ends self }
         requires callable { (it : Self.IntoIter) → Self.into_iter_gives self it → CallableInFold Self.IntoIter.next_gives F.FnMut it f init }
         ensures gives { FoldsAll (⟦<Self as Source>⟧.reads) F.FnMut self f init result }
+        ensures lists { EachList (⟦<Self as Source>⟧.lists) self (λ xs.
+            (h : B → Self.Item → B) → ActsAsOnTwo F.FnMut f h → result ≡ list_fold h init xs) }
         ensures runs { RunsWhole Self.into_iter_gives Self.IntoIter.next_gives self (λ p.
             (h : B → Self.Item → B) → ActsAsOnTwo F.FnMut f h
             → result ≡ list_fold h init p.items) }
@@ -330,6 +377,11 @@ pub trait NonEmptyIterator: IntoIterator {
         ensures drawn { FirstAndRest Self.into_iter_gives Self.IntoIter.next_gives self (first_of_intersperse result) (rest_of_intersperse result) }
         ensures goes_on { (it : Self.IntoIter) × Self.into_iter_gives self it × MakesProgress Self.IntoIter.can_next Self.IntoIter.remaining it (Some (first_of_intersperse result)) (rest_of_intersperse result) }
         ensures gives { IntersperseGives (⟦<Self as Source>⟧.reads) (TriesClone Self.Item.is_clone Self.Item.is_infallible) (⟦<Intersperse<Self::IntoIter> as Source>⟧.reads) self separator result }
+        ensures lists { EachList (⟦<Self as Source>⟧.lists) self (λ xs.
+            Self.Item.is_infallible separator
+            → ((y : Self.Item) → Self.Item.is_clone separator y → y ≡ separator)
+            → ⟦<Intersperse<Self::IntoIter> as Source>⟧.gives_items result
+            (map Ok (separated separator xs))) }
         ensures runs { (it : Self.IntoIter) × Self.into_iter_gives self it
             × BeginsRuns Self.IntoIter.next_gives (first_of_intersperse result)
             (rest_of_intersperse result) it }
@@ -348,6 +400,10 @@ pub trait NonEmptyIterator: IntoIterator {
         Self: Sized,
         ensures holds { (source_of_map result ≡ self) × (closure_of_map result ≡ f) }
         ensures gives { MapGives (⟦<Self as Source>⟧.reads) (⟦<Map<Self, F> as Source>⟧.reads) F.FnMut self f result }
+        ensures lists { MapsList F.FnMut f (⟦<Map<Self, F> as Source>⟧.gives_items) self result
+            (⟦<Self as Source>⟧.lists) }
+        ensures shown { MapsShown F.FnMut f (⟦<Map<Self, F> as Source>⟧.gives_items) self result
+            (⟦<Self as Source>⟧.shows) }
     {
         Map { iter: self, f }
     }
@@ -360,6 +416,8 @@ pub trait NonEmptyIterator: IntoIterator {
         requires { ⟦<Self as Source>⟧.ends self }
         ensures gives { (xs : List Self.Item) × ⟦<Self as Source>⟧.reads true self xs
             × IsFirstGreatest (less_by Self.Item.cmp) xs result }
+        ensures lists { EachList (⟦<Self as Source>⟧.lists) self (λ xs. Contains xs result
+            × All (λ x. less_by Self.Item.cmp result x ≡ false) xs) }
         ensures runs { RunsWhole Self.into_iter_gives Self.IntoIter.next_gives self (λ p.
             AnyItem p (λ x. x ≡ result)
             × AllItems p (λ x. less_by Self.Item.cmp result x ≡ false)) }
@@ -428,6 +486,8 @@ pub trait NonEmptyIterator: IntoIterator {
         requires { ⟦<Self as Source>⟧.ends self }
         ensures gives { (xs : List Self.Item) × ⟦<Self as Source>⟧.reads true self xs
             × IsFirstLeast (less_by Self.Item.cmp) xs result }
+        ensures lists { EachList (⟦<Self as Source>⟧.lists) self (λ xs. Contains xs result
+            × All (λ x. less_by Self.Item.cmp x result ≡ false) xs) }
         ensures runs { RunsWhole Self.into_iter_gives Self.IntoIter.next_gives self (λ p.
             AnyItem p (λ x. x ≡ result)
             × AllItems p (λ x. less_by Self.Item.cmp x result ≡ false)) }
@@ -505,6 +565,10 @@ pub trait NonEmptyIterator: IntoIterator {
             × ⟦<Self as Source>⟧.reads true self xs × IsPermutation xs ys
             × IsSortedByKeyClosure F.FnMut K.cmp f ys
             × IsStableByKeyClosure F.FnMut K.cmp f xs ys) }
+        ensures lists { IfOk result (λ ys. WalkGives Global ys ys
+            × EachList (⟦<Self as Source>⟧.lists) self (λ xs. IsPermutation xs ys
+            × IsSortedByKeyClosure F.FnMut K.cmp f ys
+            × IsStableByKeyClosure F.FnMut K.cmp f xs ys)) }
         ensures runs { IfOk result (λ ys.
             RunsWhole Self.into_iter_gives Self.IntoIter.next_gives self (λ p.
             IsPermutation p.items ys × IsSortedByKeyClosure F.FnMut K.cmp f ys
@@ -522,6 +586,8 @@ pub trait NonEmptyIterator: IntoIterator {
         Self::Item: Drop,
         requires { ⟦<Self as Source>⟧.starts self }
         ensures gives { GivesNth (⟦<Self as Source>⟧.reads) self n result }
+        ensures lists { EachList (⟦<Self as Source>⟧.lists) self (λ xs.
+            result ≡ slice_get xs n) }
         ensures runs { RunsSome Self.into_iter_gives Self.IntoIter.next_gives self (λ p.
             MatchOption result (IsTrue p.whole × (p.len ≤ n))
             (λ x. (p.len ≡ n + 1) × (p.at n ≡ Some x))) }
@@ -550,6 +616,11 @@ pub trait NonEmptyIterator: IntoIterator {
             → ⟦<Scan<Self, St, F> as Source>⟧.ends result }
         ensures gives { ScanGives (⟦<Self as Source>⟧.reads) (⟦<Scan<Self, St, F> as Source>⟧.reads)
             F.FnMut self init f result }
+        ensures lists { EachList (⟦<Self as Source>⟧.lists) self (λ xs.
+            (step : St → Self.Item → St) (out : St → Self.Item → B)
+            → ActsAsWithState F.FnMut f step out
+            → (list_scan step out init xs ≡ list_scan step out init xs)
+            × ⟦<Scan<Self, St, F> as Source>⟧.gives_items result (list_scan step out init xs)) }
     {
         Scan {
             iter: self,
@@ -565,6 +636,8 @@ pub trait NonEmptyIterator: IntoIterator {
         Self::Item: Drop,
         ensures holds { Self.into_iter_gives self (skip_source result) × (skip_count result ≡ n) }
         ensures gives { SkipGives (⟦<Self as Source>⟧.reads) (⟦<iter::Skip<Self::IntoIter> as Source>⟧.reads) n self result }
+        ensures lists { EachList (⟦<Self as Source>⟧.lists) self (λ xs.
+            GivesFronts (skip_steps Self.IntoIter.next_gives) (drop n xs) result) }
         ensures runs { (it : Self.IntoIter) × Self.into_iter_gives self it
             × EachRunFrom (skip_steps Self.IntoIter.next_gives) result (λ p.
             SomeRun Self.IntoIter.next_gives it (λ q. IsSkipRun p q n)) }
@@ -583,6 +656,10 @@ pub trait NonEmptyIterator: IntoIterator {
         Self::Item: Drop,
         ensures holds { Self.into_iter_gives self (skip_while_source result) × (skip_while_callee result ≡ pred) × (skip_while_done_skipping result ≡ false) }
         ensures gives { SkipWhileGives (⟦<Self as Source>⟧.reads) (⟦<iter::SkipWhile<Self::IntoIter, P> as Source>⟧.reads) P.FnMut self pred result }
+        ensures lists { EachList (⟦<Self as Source>⟧.lists) self (λ xs. (test : Self.Item → Bool)
+            → ActsAsAt P.FnMut pred test → (prefix_len test xs ≡ prefix_len test xs)
+            × GivesFronts (skip_while_steps Self.IntoIter.next_gives P.FnMut)
+            (drop (prefix_len test xs) xs) result) }
         ensures runs { (it : Self.IntoIter) × Self.into_iter_gives self it
             × EachRunFrom (skip_while_steps Self.IntoIter.next_gives P.FnMut) result (λ u.
             SomeRun Self.IntoIter.next_gives it (λ q. IsSkipWhileRun u q P.FnMut pred)) }
@@ -599,6 +676,8 @@ pub trait NonEmptyIterator: IntoIterator {
         ensures gives { (xs : List Self.Item)
             × (S.is_complete result → ⟦<Self as Source>⟧.reads true self xs)
             × S.sum_gives xs result }
+        ensures lists { EachList (⟦<Self as Source>⟧.lists) self (λ xs.
+            S.is_complete result → S.sum_gives xs result) }
         ensures runs { (it : Self.IntoIter) × Self.into_iter_gives self it
             × (S.is_complete result
             → WholeRun Self.IntoIter.next_gives it (λ p. S.sum_gives p.items result)) }
@@ -612,6 +691,10 @@ pub trait NonEmptyIterator: IntoIterator {
         Self: Sized,
         ensures holds { (source_of_take result ≡ self) × (count_of_take result ≡ non_zero_usize_get n) }
         ensures gives { TakeGives (⟦<Self as Source>⟧.reads) (⟦<Take<Self> as Source>⟧.reads) (non_zero_usize_get n) self result }
+        ensures lists { EachList (⟦<Self as Source>⟧.lists) self (λ xs.
+            ⟦<Take<Self> as Source>⟧.gives_items result (take (non_zero_usize_get n) xs)) }
+        ensures shown { EachShown (⟦<Self as Source>⟧.shows) self (λ view xs.
+            ⟦<Take<Self> as Source>⟧.gives_shown view result (take (non_zero_usize_get n) xs)) }
     {
         Take { iter: self, n }
     }
@@ -627,6 +710,11 @@ pub trait NonEmptyIterator: IntoIterator {
         Self::Item: Drop,
         ensures holds { Self.into_iter_gives self (take_while_source result) × (take_while_callee result ≡ pred) × (take_while_done result ≡ false) }
         ensures gives { TakeWhileGives (⟦<Self as Source>⟧.reads) (⟦<iter::TakeWhile<Self::IntoIter, P> as Source>⟧.reads) P.FnMut self pred result }
+        ensures lists { EachList (⟦<Self as Source>⟧.lists) self (λ xs. (test : Self.Item → Bool)
+            → ActsAsAt P.FnMut pred test
+            → (list_take_while test xs ≡ list_take_while test xs)
+            × GivesFronts (take_while_steps Self.IntoIter.next_gives P.FnMut)
+            (list_take_while test xs) result) }
         ensures runs { (it : Self.IntoIter) × Self.into_iter_gives self it
             × EachRunFrom (take_while_steps Self.IntoIter.next_gives P.FnMut) result (λ u.
             SomeRun Self.IntoIter.next_gives it (λ q. IsTakeWhileRun u q P.FnMut pred)) }
@@ -643,6 +731,8 @@ pub trait NonEmptyIterator: IntoIterator {
         ensures gives { (xs : List Self.Item)
             × (P.is_complete result → ⟦<Self as Source>⟧.reads true self xs)
             × P.product_gives xs result }
+        ensures lists { EachList (⟦<Self as Source>⟧.lists) self (λ xs.
+            P.is_complete result → P.product_gives xs result) }
         ensures runs { (it : Self.IntoIter) × Self.into_iter_gives self it
             × (P.is_complete result
             → WholeRun Self.IntoIter.next_gives it (λ p. P.product_gives p.items result)) }
@@ -660,6 +750,9 @@ pub trait NonEmptyIterator: IntoIterator {
         Self::Item: Drop,
         ensures holds { (first_of_zip result ≡ self) × (second_of_zip result ≡ other) }
         ensures gives { ZipGives (⟦<Self as Source>⟧.reads) (⟦<U as Source>⟧.reads) (⟦<Zip<Self, U> as Source>⟧.reads) self other result }
+        ensures lists { JoinsLists list_zip (⟦<Self as Source>⟧.lists) (⟦<U as Source>⟧.lists)
+            (MeetsList U.into_iter_gives U.IntoIter.next_gives)
+            (⟦<Zip<Self, U> as Source>⟧.gives_items) self other result }
     {
         Zip { a: self, b: other }
     }
@@ -681,6 +774,9 @@ pub trait NonEmptyIterator: IntoIterator {
         ensures gives { IfOk result (λ r. (ps : List (A × B))
             × ⟦<Self as Source>⟧.reads true self ps × FromA.collected (map (λ p. p.0) ps) r.0
             × FromB.collected (map (λ p. p.1) ps) r.1) }
+        ensures lists { IfOk result (λ r. EachList (⟦<Self as Source>⟧.lists) self (λ ps.
+            FromA.collected (map (λ p. p.0) ps) r.0
+            × FromB.collected (map (λ p. p.1) ps) r.1)) }
         ensures runs { IfOk result (λ r.
             RunsWhole Self.into_iter_gives Self.IntoIter.next_gives self (λ p.
             FromA.collected (map (λ x. x.0) p.items) r.0
@@ -704,6 +800,9 @@ pub trait NonEmptyIterator: IntoIterator {
         requires runs { ⟦<Self as Source>⟧.ends self }
         requires callable { (it : Self.IntoIter) → Self.into_iter_gives self it → AfterFirst Self.IntoIter.next_gives it (λ x rest. CallableInFold Self.IntoIter.next_gives F.FnMut rest f x) }
         ensures gives { ReducesAll (⟦<Self as Source>⟧.reads) F.FnMut self f result }
+        ensures lists { EachList (⟦<Self as Source>⟧.lists) self (λ xs.
+            (h : Self.Item → Self.Item → Self.Item) → ActsAsOnTwo F.FnMut f h
+            → Some result ≡ list_reduce h xs) }
         ensures runs { RunsWhole Self.into_iter_gives Self.IntoIter.next_gives self (λ p.
             IsReduceRun p F.FnMut f result) }
     {

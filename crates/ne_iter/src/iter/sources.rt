@@ -1,6 +1,7 @@
 //! What a source is, what becomes one, and what is collected from one.
-ghost use Rattle.std.specs.Prelude.{◌≡◌, Bool, true, List, IfOk};
+ghost use Rattle.std.specs.Prelude.{◌≡◌, ℕ, Bool, true, List, IfOk};
 ghost use Rattle.std.specs.Iterator.{IsFiniteIterable};
+ghost use Rattle.ne_vec.specs.Fronts.{Lists, Shows, GivesItems, GivesShown};
 ghost use Rattle.ne_iter.specs.Sources.{Reads, SameLists};
 ghost use Rattle.ne_iter.specs.SourceLaws.{SameLists-self};
 
@@ -12,8 +13,21 @@ use std::alloc::{AllocError, Global};
 /// `reads whole source xs` says that `source` may give the items `xs` first, and where `whole` is
 /// true may then end. `starts source` says that the first item may be drawn, and `ends source`
 /// that all of them may be, and that they end.
+///
+/// `lists source xs` says that `source` gives the items `xs` and no others, as far as it is drawn,
+/// and `shows view source xs` the same of what `view` makes of its items. The check's search does
+/// not look into these two; `gives_items` and `gives_shown` say besides what it is told of each run
+/// of the iterator.
 pub trait Source: IntoIterator {
     ghost reads: { Bool → Self → List Self.Item → Type 0 };
+
+    ghost lists: { Self → List Self.Item → Type 0 };
+
+    ghost shows: { (Self.Item → ℕ) → Self → List ℕ → Type 0 };
+
+    ghost gives_items: { Self → List Self.Item → Type 0 };
+
+    ghost gives_shown: { (Self.Item → ℕ) → Self → List ℕ → Type 0 };
 
     ghost starts: { Self → Type 0 };
 
@@ -22,6 +36,14 @@ pub trait Source: IntoIterator {
 
 impl<S: IntoIterator> Source for S {
     ghost reads = { Reads S.into_iter_gives S.IntoIter.next_gives };
+
+    ghost lists = { Lists S.into_iter_gives S.IntoIter.next_gives };
+
+    ghost shows = { Shows S.into_iter_gives S.IntoIter.next_gives };
+
+    ghost gives_items = { GivesItems S.into_iter_gives S.IntoIter.next_gives };
+
+    ghost gives_shown = { GivesShown S.into_iter_gives S.IntoIter.next_gives };
 
     ghost starts = { λ s. (it : S.IntoIter) → S.into_iter_gives s it → S.IntoIter.can_next it };
 

@@ -3,7 +3,7 @@
 //! true: it is what `GivesList` says of each list that is read.
 ghost use Rattle.std.specs.Prelude.{◌≡◌, ◌≤◌, ◌++◌, ◌||◌, ◌&&◌, ℕ, Bool, true, List, length, ltb, map, take};
 ghost use Rattle.std.specs.List.{enumerate_from};
-ghost use Rattle.ne_iter.specs.Firsts.{AreFirst};
+ghost use Rattle.ne_vec.specs.Fronts.{AreFirst};
 
 /// What list functions make of the first items of a list are the first items of what they make of
 /// the list; and the first items are the list, where they are all.

@@ -8,7 +8,7 @@ ghost use Rattle.ne_vec.specs.Fronts.{GivesItems, Lists};
 ghost use Rattle.ne_vec.specs.Lends.{std_walk};
 ghost use Rattle.ne_vec.specs.SliceRuns.{Cutting, ActsAsAtPair};
 ghost use Rattle.std.specs.List.{flat_map};
-ghost use Rattle.ne_iter.specs.Firsts.{AreFirst};
+ghost use Rattle.ne_vec.specs.Fronts.{AreFirst};
 ghost use Rattle.ne_iter.specs.Gives.{GivesList, ShowsList, ReadsEach};
 ghost use Rattle.ne_iter.specs.Looked.{LooksWhole};
 ghost use Rattle.ne_iter.specs.Parts.{item_of_once, items_of_array};
@@ -156,16 +156,14 @@ pub fn lists_are_read_whole<S: IntoIterator>(source: &S)
         → ⟦<S as Source>⟧.reads true source.now ys → ys ≡ xs }
 {}
 
-/// A source gives a list exactly if each iterator that it becomes does, run by run: `Lists` is the
-/// word by which the clauses `runs` of adapters and consumers speak of lists, and `GivesItems` says
-/// besides what follows for a run: a whole one has the list's items.
+/// A source gives a list exactly if `Lists` holds of it, the word by which the clauses `lists` of
+/// adapters and consumers speak of lists; `GivesItems` says besides what follows for a run of its
+/// iterator: a whole one has the list's items.
 pub fn lists_of_iterators<S: IntoIterator>(source: &S)
-    ensures runs { (it : S.IntoIter) (xs : List S.Item)
-        → GivesList (⟦<S as Source>⟧.reads) source.now xs → S.into_iter_gives source.now it
-        → GivesItems S.IntoIter.next_gives it xs }
+    ensures items { (xs : List S.Item) → GivesList (⟦<S as Source>⟧.reads) source.now xs
+        → GivesItems S.into_iter_gives S.IntoIter.next_gives source.now xs }
     ensures back { (xs : List S.Item)
-        → ((it : S.IntoIter) → S.into_iter_gives source.now it
-        → Lists S.IntoIter.next_gives it xs)
+        → Lists S.into_iter_gives S.IntoIter.next_gives source.now xs
         → GivesList (⟦<S as Source>⟧.reads) source.now xs }
 {}
 

@@ -3,7 +3,7 @@ use Rattle.std.specs.List.{enumerate_from}
 use Rattle.std.specs.Int.NonZero.{non_zero_usize_get}
 use Rattle.std.proofs.lemmas.List.FromFn.{length-enumerate_from}
 use Rattle.std.proofs.lemmas.Result.{IfOk-weaker}
-use Rattle.ne_iter.specs.Firsts.{AreFirst}
+use Rattle.ne_vec.specs.Fronts.{AreFirst}
 use Rattle.towers.proofs.thin.numbered_halves.Goals as goal
 
 -- From the vectors' items up through the adapters: what came so far are first items of each list.

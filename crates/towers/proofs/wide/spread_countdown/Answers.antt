@@ -6,7 +6,7 @@ use Rattle.std.proofs.lemmas.List.Folds.{flat_map-map}
 use Rattle.std.proofs.lemmas.List.FromFn.{length-enumerate_from}
 use Rattle.std.proofs.lemmas.Result.{IfOk-weaker}
 use Rattle.ne_vec.specs.Divisions.{joined}
-use Rattle.ne_iter.specs.Firsts.{AreFirst}
+use Rattle.ne_vec.specs.Fronts.{AreFirst}
 use Rattle.towers.specs.Own.{counted_down, start_of, left_of}
 use Rattle.towers.proofs.wide.spread_countdown.Goals as goal
 

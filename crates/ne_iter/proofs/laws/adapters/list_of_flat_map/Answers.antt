@@ -2,8 +2,8 @@ use Rattle.std.proofs.Common.{sym, subst}
 use Rattle.std.proofs.lemmas.List.Folds.{flat_map-map}
 use Rattle.std.specs.Prelude.{map}
 use Rattle.ne_iter.specs.Sources.{Reads}
-use Rattle.ne_iter.proofs.Fronts.{function_values}
-use Rattle.ne_iter.specs.Firsts.{AreFirst}
+use Rattle.ne_iter.proofs.FunctionCalls.{function_values}
+use Rattle.ne_vec.specs.Fronts.{AreFirst}
 use Rattle.ne_iter.proofs.ListFronts.{map_front, joined_fronts}
 use Rattle.ne_iter.proofs.laws.adapters.list_of_flat_map.Goals as goal
 

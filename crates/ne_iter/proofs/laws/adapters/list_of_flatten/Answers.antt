@@ -1,7 +1,7 @@
 use Rattle.std.proofs.Common.{sym, subst}
 use Rattle.std.specs.List.{flat_map}
 use Rattle.ne_iter.specs.Sources.{Reads}
-use Rattle.ne_iter.specs.Firsts.{AreFirst}
+use Rattle.ne_vec.specs.Fronts.{AreFirst}
 use Rattle.ne_iter.proofs.ListFronts.{joined_fronts}
 use Rattle.ne_iter.proofs.laws.adapters.list_of_flatten.Goals as goal
 

@@ -1,13 +1,5 @@
-use Rattle.std.proofs.Common.{sym, subst}
-use Rattle.std.specs.Prelude.{map}
-use Rattle.ne_iter.proofs.Fronts.{function_values}
-use Rattle.ne_iter.specs.Firsts.{AreFirst}
-use Rattle.ne_iter.proofs.ListFronts.{map_front}
+use Rattle.ne_iter.proofs.AdapterLists.{map_list}
 use Rattle.ne_iter.proofs.laws.adapters.list_of_map.Goals as goal
 
 pub returns : goal.returns
-returns g c mapped h xs gives acts list whole ys read =
-    let behind = gives whole ys read in
-    let values = function_values g.F.FnMut c.args.f.now h behind.0 ys behind.1 acts behind.3 in
-    subst (AreFirst whole (map h xs)) (sym values.0)
-    (map_front h whole xs behind.0 (list whole behind.0 behind.2))
+returns g c mapped h xs gives acts list = map_list gives h xs acts list

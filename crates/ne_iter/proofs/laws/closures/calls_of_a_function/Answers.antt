@@ -1,4 +1,4 @@
-use Rattle.ne_iter.proofs.Fronts.{function_values}
+use Rattle.ne_iter.proofs.FunctionCalls.{function_values}
 use Rattle.ne_iter.proofs.laws.closures.calls_of_a_function.Goals as goal
 
 pub returns : goal.returns

@@ -1,7 +1,7 @@
 use Rattle.std.proofs.Common.{sym, ◌∙◌}
 use Rattle.std.specs.Array.Iter.{array_into_iter_items, array_steps}
 use Rattle.std.proofs.lemmas.List.{nil_from_length}
-use Rattle.ne_iter.proofs.Fronts.{front, shown_front}
+use Rattle.ne_vec.specs.FrontLaws.{front, shown_front}
 use Rattle.ne_iter.proofs.laws.sources.arrays_give_their_items.Goals as goal
 
 pub returns-clause-array : goal.returns-clause-array

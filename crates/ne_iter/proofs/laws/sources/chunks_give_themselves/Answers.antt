@@ -1,5 +1,5 @@
 use Rattle.std.proofs.Common.{sym, ◌∙◌}
-use Rattle.ne_iter.proofs.Fronts.{first_front}
+use Rattle.ne_vec.specs.FrontLaws.{first_front}
 use Rattle.ne_iter.proofs.laws.sources.chunks_give_themselves.Goals as goal
 
 pub returns : goal.returns

@@ -1,5 +1,5 @@
 use Rattle.std.proofs.Common.{sym, ◌∙◌}
-use Rattle.ne_iter.proofs.Fronts.{shown_front}
+use Rattle.ne_vec.specs.FrontLaws.{shown_front}
 use Rattle.ne_iter.proofs.laws.sources.slices_show_their_items.Goals as goal
 
 pub returns-clause-slice : goal.returns-clause-slice

@@ -1,5 +1,5 @@
 use Rattle.std.proofs.Common.{sym, ◌∙◌}
-use Rattle.ne_iter.proofs.Fronts.{front}
+use Rattle.ne_vec.specs.FrontLaws.{front}
 use Rattle.ne_iter.proofs.laws.sources.sources_give_what_is_left.Goals as goal
 
 pub returns : goal.returns

@@ -1,5 +1,5 @@
 use Rattle.std.proofs.Common.{sym, ◌∙◌}
-use Rattle.ne_iter.proofs.Fronts.{viewed_front}
+use Rattle.ne_vec.specs.FrontLaws.{viewed_front}
 use Rattle.ne_iter.proofs.laws.sources.sources_show_what_is_left.Goals as goal
 
 pub returns : goal.returns

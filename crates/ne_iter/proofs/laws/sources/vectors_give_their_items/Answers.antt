@@ -1,5 +1,5 @@
 use Rattle.std.proofs.Common.{sym, ap, ◌∙◌, length}
-use Rattle.ne_iter.proofs.Fronts.{counted_front, shown_front}
+use Rattle.ne_vec.specs.FrontLaws.{counted_front, shown_front}
 use Rattle.ne_iter.proofs.laws.sources.vectors_give_their_items.Goals as goal
 
 pub returns-clause-vector : goal.returns-clause-vector

@@ -1,7 +1,7 @@
 use Rattle.std.proofs.Common.{sym, ap, ◌∙◌}
 use Rattle.std.proofs.lemmas.List.{nil_from_length}
 use Rattle.std.specs.Slice.Iter.{iter_mut_rest, iter_mut_steps}
-use Rattle.ne_iter.proofs.Fronts.{viewed_front}
+use Rattle.ne_vec.specs.FrontLaws.{viewed_front}
 use Rattle.ne_iter.proofs.laws.sources.writing_walks_show_their_items.Goals as goal
 
 pub returns : goal.returns

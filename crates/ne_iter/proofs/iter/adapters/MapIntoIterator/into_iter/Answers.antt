@@ -1,7 +1,5 @@
 use Rattle.std.proofs.Common.{sym, subst}
 use Rattle.ne_iter.specs.SourceRuns.{MapsRuns}
-use Rattle.ne_iter.specs.SourceLists.{MapsList}
-use Rattle.ne_iter.proofs.FrontRuns.{maps_list}
 use Rattle.ne_iter.proofs.iter.adapters.MapIntoIterator.into_iter.Goals as goal
 
 pub returns : goal.returns
@@ -14,7 +12,5 @@ returns g c =
         subst (g.I.IntoIterator.into_iter_gives c.args.self.iter) e c.into_iter.ensures.into_iter_gives,
         c.map.ensures.closure,
         subst (λ u. MapsRuns steps g.F.FnMut f u c.map.result) e c.map.ensures.runs,
-        subst (λ u. MapsList steps g.F.FnMut f u c.map.result) e
-            (maps_list steps c.into_iter.result g.F.FnMut f c.map.result c.map.ensures.runs),
       );
     }

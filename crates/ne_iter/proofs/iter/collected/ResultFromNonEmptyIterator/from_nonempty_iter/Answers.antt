@@ -1,7 +1,7 @@
 use Rattle.std.proofs.Common.{◌≡◌, List, [], ◌∷◌, ◌++◌, length, map, sym, ap, ◌∙◌, append_assoc, refl, true, false}
 use Rattle.std.proofs.lemmas.List.{map-append}
 use Rattle.std.specs.Prelude.{Result, Ok, Err}
-use Rattle.ne_iter.proofs.Fronts.{counted_front}
+use Rattle.ne_vec.specs.FrontLaws.{counted_front}
 use Rattle.ne_iter.proofs.Loops.{Reads-first, Reads-left, Reads-loop}
 use Rattle.ne_iter.proofs.iter.collected.ResultFromNonEmptyIterator.from_nonempty_iter.Goals as goal
 

@@ -1,5 +1,8 @@
 use Rattle.std.specs.Iterator.Adapters.{chain_first, chain_second}
 use Rattle.ne_iter.proofs.Runs.{DrainsIf-chain}
+use Rattle.std.specs.Prelude.{◌++◌}
+use Rattle.ne_iter.proofs.AdapterLists.{chain_list}
+use Rattle.ne_iter.proofs.ClauseLists.{joins, chains_shown}
 use Rattle.ne_iter.proofs.iter.non_empty.NonEmptyIterator.chain.Goals as goal
 
 pub returns-clause-gives : goal.returns-clause-gives
@@ -11,3 +14,9 @@ returns-clause-gives g c whole zs h =
       record { it = chain_second h.it; made = h.made.1; given = p.3 },
       p.4,
     )
+
+pub returns-clause-lists : goal.returns-clause-lists
+returns-clause-lists g c = joins ◌++◌ (chain_list (returns-clause-gives g c))
+
+pub returns-clause-shown : goal.returns-clause-shown
+returns-clause-shown g c = chains_shown (returns-clause-gives g c)

@@ -1,9 +1,19 @@
 use Rattle.std.proofs.Common.{◌≡◌, true}
 use Rattle.std.specs.Iterator.Adapters.{copied_source}
 use Rattle.ne_iter.proofs.CopiedRuns.{DrainsIf-copied}
+use Rattle.ne_vec.specs.FrontLaws.{marked}
+use Rattle.ne_iter.proofs.AdapterLists.{copied_list}
+use Rattle.ne_iter.proofs.ReadLists.{shows_read, read_lists}
 use Rattle.ne_iter.proofs.iter.non_empty.NonEmptyIterator.copied.Goals as goal
 
 pub returns-clause-gives : goal.returns-clause-gives
 returns-clause-gives g c whole ys h =
     let p = DrainsIf-copied (whole ≡ true) g.Self.IntoIter.Iterator.next_gives h.it ys h.given in
-    (p.0, record { it = copied_source h.it; made = h.made.0; given = p.1 }, p.2)
+    (p.0, record { it = copied_source h.it; made = h.made; given = p.1 }, p.2)
+
+pub returns-clause-lists : goal.returns-clause-lists
+returns-clause-lists g c xs shows = (
+  marked _ xs,
+  read_lists _ _ _ xs
+      (copied_list (returns-clause-gives g c) xs (shows_read _ _ _ (λ y. y.now) xs shows)),
+)

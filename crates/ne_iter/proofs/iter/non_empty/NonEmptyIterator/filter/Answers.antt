@@ -1,6 +1,22 @@
 use Rattle.std.proofs.Common.{subst, sym}
 use Rattle.ne_iter.proofs.KeptRuns.{FilterGives-from_steps}
+use Rattle.std.proofs.Common.{refl}
+use Rattle.std.specs.Prelude.{filter}
+use Rattle.ne_vec.specs.FrontLaws.{marked}
+use Rattle.ne_iter.proofs.AdapterLists.{filter_list}
+use Rattle.ne_iter.proofs.ClauseLists.{gives_fronts}
+use Rattle.ne_iter.proofs.ReadLists.{lists_read}
 use Rattle.ne_iter.proofs.iter.non_empty.NonEmptyIterator.filter.Goals as goal
 
 pub returns-clause-gives : goal.returns-clause-gives
 returns-clause-gives g c = FilterGives-from_steps g.Self.IntoIter.Iterator.next_gives g.P.FnMut g.Self.IntoIterator.into_iter_gives c.args.self c.args.predicate c.filter.result (subst (g.Self.IntoIterator.into_iter_gives c.args.self) (sym c.filter.ensures.source) c.into_iter.ensures.into_iter_gives) c.filter.ensures.closure
+
+pub returns-clause-lists : goal.returns-clause-lists
+returns-clause-lists g c xs lists = (
+  marked _ xs,
+  λ test acts. (
+    refl,
+    gives_fronts _ (filter test xs)
+        (filter_list (returns-clause-gives g c) test xs acts (lists_read _ _ _ xs lists)),
+  ),
+)

@@ -5,6 +5,11 @@ use Rattle.std.specs.List.{list_all}
 use Rattle.ne_iter.specs.Clones.{TriesClone}
 use Rattle.ne_iter.proofs.InterspersedRuns.{DrainsIf-interspersed}
 use Rattle.ne_iter.proofs.Traced.{begins}
+use Rattle.std.specs.Prelude.{map, Ok}
+use Rattle.ne_iter.specs.Separated.{separated}
+use Rattle.ne_vec.specs.FrontLaws.{marked}
+use Rattle.ne_iter.proofs.AdapterLists.{intersperse_list}
+use Rattle.ne_iter.proofs.ReadLists.{lists_read, read_lists}
 use Rattle.ne_iter.proofs.iter.non_empty.NonEmptyIterator.intersperse.Goals as goal
 
 pub returns-clause-gives : goal.returns-clause-gives
@@ -24,3 +29,11 @@ pub returns-clause-runs : goal.returns-clause-runs
 returns-clause-runs g c =
     let f = c.next-first.ensures.first in
     (f.0, f.1, begins g.Self.IntoIter.Iterator.next_gives f.0 c.next-first.result.0 c.next-first.result.1 f.2)
+
+pub returns-clause-lists : goal.returns-clause-lists
+returns-clause-lists g c xs lists = (
+  marked _ xs,
+  λ none same. read_lists _ _ _ (map Ok (separated c.args.separator xs))
+      (intersperse_list g.Self.Item.Clone.is_clone g.Self.Item.Clone.is_infallible
+      (returns-clause-gives g c) xs none same (lists_read _ _ _ xs lists)),
+)

@@ -4,6 +4,10 @@ use Rattle.ne_iter.specs.Answers.{less_by}
 use Rattle.ne_iter.proofs.Best.{best_of-takes, best_of-keeps, IsFirstLeast-best_of, less_by-from_partial_lt}
 use Rattle.ne_iter.proofs.Loops.{Reads-loop}
 use Rattle.ne_iter.proofs.Traced.{best_run_of}
+use Rattle.std.specs.Prelude.{◌≡◌, All, Contains}
+use Rattle.ne_iter.proofs.Extremes.{best_is}
+use Rattle.ne_vec.specs.FrontLaws.{marked}
+use Rattle.ne_iter.proofs.ReadLists.{of_read}
 use Rattle.ne_iter.proofs.iter.non_empty.NonEmptyIterator.min.Goals as goal
 
 pub loop-x-init : goal.loop-x-init
@@ -31,3 +35,13 @@ pub returns-clause-runs : goal.returns-clause-runs
 returns-clause-runs g c =
     let r = returns-clause-gives g c in
     best_run_of (less_by g.Self.Item.Ord.cmp) r.0 _ r.2.0 r.2.1 r.2.2 r.1
+
+pub returns-clause-lists : goal.returns-clause-lists
+returns-clause-lists g c xs lists = 
+    let r = returns-clause-gives g c in (
+      marked _ xs,
+      of_read _ _ _ xs lists (λ l. Contains l c.loop-x.best
+          × All (λ x. less_by g.Self.Item.Ord.cmp x c.loop-x.best ≡ false) l) r.0 r.1
+          (best_is (less_by g.Self.Item.Ord.cmp) (λ x y. less_by g.Self.Item.Ord.cmp y x ≡ false)
+          (λ x y h. h) r.0 r.2.0 c.loop-x.best r.2.1 r.2.2),
+    )

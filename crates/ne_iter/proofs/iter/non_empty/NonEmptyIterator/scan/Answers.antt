@@ -3,6 +3,11 @@ use denote.Param.Always.{always_mut}
 use Rattle.ne_iter.specs.Calls.{CallsWithState}
 use Rattle.ne_iter.specs.Scanned.{scanned_from, state_of, callee_of}
 use Rattle.ne_iter.proofs.ScannedRuns.{DrainsIf-scan, CallableInScan-always}
+use Rattle.std.proofs.Common.{refl}
+use Rattle.std.specs.List.{scan}
+use Rattle.ne_vec.specs.FrontLaws.{marked}
+use Rattle.ne_iter.proofs.AdapterLists.{scan_list}
+use Rattle.ne_iter.proofs.ReadLists.{lists_read, read_lists}
 use Rattle.ne_iter.proofs.iter.non_empty.NonEmptyIterator.scan.Goals as goal
 
 pub returns-clause-gives : goal.returns-clause-gives
@@ -21,3 +26,13 @@ returns-clause-ends g c runs always it made =
     (scanned_from it) (callee_of it) (state_of it)
     (subst (always_mut g.F.FnMut) (sym made.2) always) in
     ((source.0, callable), source.1)
+
+pub returns-clause-lists : goal.returns-clause-lists
+returns-clause-lists g c xs lists = (
+  marked _ xs,
+  λ step out acts. (
+    refl,
+    read_lists _ _ _ (scan step out c.args.init xs)
+        (scan_list (returns-clause-gives g c) step out xs acts (lists_read _ _ _ xs lists)),
+  ),
+)

@@ -1,6 +1,18 @@
 use Rattle.std.proofs.Common.{subst, sym}
 use Rattle.ne_iter.proofs.KeptRuns.{SkipGives-from_steps}
+use Rattle.std.specs.Prelude.{drop}
+use Rattle.ne_vec.specs.FrontLaws.{marked}
+use Rattle.ne_iter.proofs.AdapterLists.{skip_list}
+use Rattle.ne_iter.proofs.ClauseLists.{gives_fronts}
+use Rattle.ne_iter.proofs.ReadLists.{lists_read}
 use Rattle.ne_iter.proofs.iter.non_empty.NonEmptyIterator.skip.Goals as goal
 
 pub returns-clause-gives : goal.returns-clause-gives
 returns-clause-gives g c = SkipGives-from_steps g.Self.IntoIter.Iterator.next_gives g.Self.IntoIterator.into_iter_gives c.args.self c.args.n c.skip.result (subst (g.Self.IntoIterator.into_iter_gives c.args.self) (sym c.skip.ensures.source) c.into_iter.ensures.into_iter_gives) c.skip.ensures.count
+
+pub returns-clause-lists : goal.returns-clause-lists
+returns-clause-lists g c xs lists = (
+  marked _ xs,
+  gives_fronts _ (drop c.args.n xs)
+      (skip_list c.args.n (returns-clause-gives g c) xs (lists_read _ _ _ xs lists)),
+)

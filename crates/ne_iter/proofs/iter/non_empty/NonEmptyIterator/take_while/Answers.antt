@@ -1,6 +1,22 @@
 use Rattle.std.proofs.Common.{subst, sym}
 use Rattle.ne_iter.proofs.KeptRuns.{TakeWhileGives-from_steps}
+use Rattle.std.proofs.Common.{refl}
+use Rattle.std.specs.List.{take_while}
+use Rattle.ne_vec.specs.FrontLaws.{marked}
+use Rattle.ne_iter.proofs.AdapterLists.{take_while_list}
+use Rattle.ne_iter.proofs.ClauseLists.{gives_fronts}
+use Rattle.ne_iter.proofs.ReadLists.{lists_read}
 use Rattle.ne_iter.proofs.iter.non_empty.NonEmptyIterator.take_while.Goals as goal
 
 pub returns-clause-gives : goal.returns-clause-gives
 returns-clause-gives g c = TakeWhileGives-from_steps g.Self.IntoIter.Iterator.next_gives g.P.FnMut g.Self.IntoIterator.into_iter_gives c.args.self c.args.pred c.take_while.result (subst (g.Self.IntoIterator.into_iter_gives c.args.self) (sym c.take_while.ensures.source) c.into_iter.ensures.into_iter_gives) c.take_while.ensures.closure c.take_while.ensures.done
+
+pub returns-clause-lists : goal.returns-clause-lists
+returns-clause-lists g c xs lists = (
+  marked _ xs,
+  λ test acts. (
+    refl,
+    gives_fronts _ (take_while test xs)
+        (take_while_list (returns-clause-gives g c) test xs acts (lists_read _ _ _ xs lists)),
+  ),
+)

@@ -3,6 +3,8 @@ use Rattle.std.proofs.lemmas.List.{append-nil}
 use Rattle.ne_iter.proofs.Loops.{Reads-loop}
 use Rattle.ne_iter.proofs.Unzipped.{map-one_more}
 use Rattle.ne_iter.proofs.Traced.{whole_run_of, indexes}
+use Rattle.ne_vec.specs.FrontLaws.{marked}
+use Rattle.ne_iter.proofs.ReadLists.{of_read}
 use Rattle.ne_iter.proofs.iter.non_empty.NonEmptyIterator.unzip.Goals as goal
 
 pub loop-a-init : goal.loop-a-init
@@ -34,3 +36,11 @@ pub returns-clause-runs : goal.returns-clause-runs
 returns-clause-runs g c =
     let r = returns-clause-gives g c in
     whole_run_of r.1 _ (r.2, r.3, indexes r.0 (λ x. x.0), indexes r.0 (λ x. x.1))
+
+pub returns-clause-lists : goal.returns-clause-lists
+returns-clause-lists g c ps lists = 
+    let r = returns-clause-gives g c in (
+      marked _ ps,
+      of_read _ _ _ ps lists (λ l. g.FromA.Singleton.collected (map (λ p. p.0) l) c.loop-a.firsts
+          × g.FromB.Singleton.collected (map (λ p. p.1) l) c.loop-a.seconds) r.0 r.1 (r.2, r.3),
+    )

@@ -1,5 +1,8 @@
 use Rattle.std.specs.Iterator.Adapters.{zip_first, zip_second}
 use Rattle.ne_iter.proofs.Runs.{DrainsIf-zip}
+use Rattle.std.specs.List.{zip}
+use Rattle.ne_iter.proofs.AdapterLists.{zip_list}
+use Rattle.ne_iter.proofs.ClauseLists.{joins}
 use Rattle.ne_iter.proofs.iter.non_empty.NonEmptyIterator.zip.Goals as goal
 
 pub returns-clause-gives : goal.returns-clause-gives
@@ -15,3 +18,6 @@ returns-clause-gives g c whole ps h =
       p.7,
       p.8,
     )
+
+pub returns-clause-lists : goal.returns-clause-lists
+returns-clause-lists g c = joins zip (zip_list (returns-clause-gives g c))

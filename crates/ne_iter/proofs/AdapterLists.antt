@@ -1,0 +1,217 @@
+-- What each adapter gives where its source gives a list.
+-- `becomes` and `steps` are of the source, `made` and `next` of the adapter, `meets` and `other` of a
+-- second source.
+use Rattle.std.proofs.Common.{sym, ap, subst, ◌∙◌, ◌⊎◌, inl, inr}
+use Rattle.std.proofs.lemmas.List.{length-map, map-append}
+use Rattle.std.proofs.lemmas.Simd.{map-map}
+use Rattle.std.specs.Prelude.{◌≡◌, ℕ, ◌≤◌, Bool, true, false, ◌&&◌, ◌||◌, ltb, List, [], ◌∷◌, ◌++◌, length, map, take, drop, filter, filter_map, zip, Option, Result, Ok}
+use Rattle.std.specs.Borrow.{Bor, MutBor}
+use Rattle.std.specs.Fn.{Mut, CalledAt}
+use Rattle.std.specs.Iterator.{ActsAs, ActsAsAt}
+use Rattle.std.specs.List.{AllByRecursion, enumerate_from, prefix_len, scan, take_while}
+use Rattle.ne_vec.specs.Fronts.{AreFirst}
+use Rattle.ne_iter.specs.Calls.{ActsAsWithState}
+use Rattle.ne_iter.specs.Clones.{TriesClone}
+use Rattle.ne_iter.specs.Gives.{GivesList, ViewsList, ShowsList, FailsFirst, MapGives, EnumerateGives, TakeGives, ChainGives, ZipGives, ScanGives, CopiedGives, ClonedGives, IntersperseGives, FilterGives, FilterMapGives, SkipGives, SkipWhileGives, TakeWhileGives}
+use Rattle.ne_iter.specs.Keys.{items_of}
+use Rattle.ne_iter.specs.Separated.{separated}
+use Rattle.ne_iter.specs.Sources.{Reads}
+use Rattle.ne_iter.proofs.FunctionCalls.{function_values, shown_values, same_answers_at, fails_test}
+use Rattle.ne_iter.proofs.ListFronts.{map_front, enumerate_front, take_front, append_front, zip_front, filter_front, filter_answered, filter_map_front, filter_map_answered, drop_front, drop_passed_front, take_passed_front, take_passed_stopped, scan_front}
+use Rattle.ne_iter.proofs.ScannedRuns.{scanned_values}
+use Rattle.ne_iter.proofs.Unrefused.{clones_in_ok, only_ok, spaced_front}
+
+-- the source has ended, or an item came that does not pass
+stopped : {U A F : Type 0} (reads : Bool → U → List A → Type 0)
+    (calls : Mut F (Bor A × Unit {0}) Bool) (f q : F) (test : A → Bool) (u : U) (xs us : List A)
+    (whole : Bool) → ActsAsAt calls f test → q ≡ f → GivesList reads u xs
+    → AllByRecursion (λ x. test x ≡ true) us
+    → reads whole u us ⊎ ((x : A) × (h : F) × reads false u (us ++ x ∷ [])
+    × CalledAt calls q x false h)
+    → AreFirst whole (take_while test xs) us
+stopped reads calls f q test u xs us whole acts same list passed (inl read) =
+    take_passed_front test whole xs us passed (list whole us read)
+stopped reads calls f q test u xs us whole acts same list passed (inr (x, h, read, call)) =
+    let from_f = subst (λ q. CalledAt calls q x false h) same call in
+    take_passed_stopped test whole xs us x passed (sym (acts x false h from_f).1)
+    (list false (us ++ x ∷ []) read)
+
+module _ {U V A S T : Type 0} {becomes : U → S → Type 0} {steps : S → Option A → S → Type 0}
+    {made : V → T → Type 0} {u : U} {v : V} where
+  module _ {B F : Type 0} {next : T → Option B → T → Type 0} {calls : Mut F (A × Unit {0}) B} {f : F}
+      (gives : MapGives (Reads becomes steps) (Reads made next) calls u f v) where
+    pub map_list : (h : A → B) (xs : List A) → ActsAs calls f h → GivesList (Reads becomes steps) u xs
+        → GivesList (Reads made next) v (map h xs)
+    map_list h xs acts list whole ys read =
+        let behind = gives whole ys read in
+        let values = function_values calls f h behind.0 ys behind.1 acts behind.3 in
+        subst (AreFirst whole (map h xs)) (sym values.0)
+        (map_front h whole xs behind.0 (list whole behind.0 behind.2))
+
+    pub map_view : {C : Type 0} (view : A → C) (h : C → B) (xs : List C)
+        → ActsAs calls f (λ x. h (view x)) → ViewsList (Reads becomes steps) view u xs
+        → GivesList (Reads made next) v (map h xs)
+    map_view view h xs acts list whole ys read =
+        let behind = gives whole ys read in
+        let us = behind.0 in
+        let values = function_values calls f (λ x. h (view x)) us ys behind.1 acts behind.3 in
+        subst (AreFirst whole (map h xs)) (map-map h view us ∙ sym values.0)
+        (map_front h whole xs (map view us) (list whole us behind.2))
+
+  module _ {next : T → Option (ℕ × A) → T → Type 0}
+      (gives : EnumerateGives (Reads becomes steps) (Reads made next) u v) where
+    pub enumerate_list : (xs : List A) → GivesList (Reads becomes steps) u xs
+        → GivesList (Reads made next) v (enumerate_from 0 xs)
+    enumerate_list xs list whole ys read =
+        let behind = gives whole ys read in
+        subst (AreFirst whole (enumerate_from 0 xs)) (sym behind.2)
+        (enumerate_front whole xs behind.0 (list whole behind.0 behind.1))
+
+  module _ {next : T → Option A → T → Type 0} where
+    module _ {n : ℕ} (gives : TakeGives (Reads becomes steps) (Reads made next) n u v) where
+      pub take_list : (xs : List A) → GivesList (Reads becomes steps) u xs → GivesList (Reads made next) v (take n xs)
+      take_list xs list whole ys read =
+          let behind = gives whole ys read in
+          take_front n whole xs ys behind.1 (list _ ys behind.0)
+
+      pub take_view : {B : Type 0} (view : A → B) (xs : List B) → ViewsList (Reads becomes steps) view u xs
+          → ViewsList (Reads made next) view v (take n xs)
+      take_view view xs list whole ys read =
+          let behind = gives whole ys read in
+          let shown = map view ys in
+          let long = sym (length-map ys view) in
+          take_front n whole xs shown (subst (λ len. len ≤ n) long behind.1)
+          (subst (λ len. AreFirst (whole && ltb len n) xs shown) long (list _ ys behind.0))
+
+    pub skip_list : (n : ℕ) → SkipGives (Reads becomes steps) (Reads made next) n u v
+        → (xs : List A) → GivesList (Reads becomes steps) u xs → GivesList (Reads made next) v (drop n xs)
+    skip_list n gives xs list whole ys read =
+        let parts = gives whole ys read in
+        let front = list whole parts.0 parts.1 in
+        subst (AreFirst whole (drop n xs)) (sym parts.2)
+        (subst (λ l. AreFirst whole (drop n l) (drop n parts.0)) (sym front.1)
+        (drop_front n whole parts.0 front.0 front.2))
+
+    module _ {F : Type 0} {calls : Mut F (Bor A × Unit {0}) Bool} {f : F} where
+      pub filter_list : FilterGives (Reads becomes steps) (Reads made next) calls u f v
+          → (test : A → Bool) (xs : List A) → ActsAsAt calls f test → GivesList (Reads becomes steps) u xs
+          → GivesList (Reads made next) v (filter test xs)
+      filter_list gives test xs acts list whole ys read =
+          let parts = gives whole ys read in
+          let us = items_of parts.0 in
+          let values = shown_values calls f test parts.0 parts.1 acts parts.3 in
+          let all = parts.4 ∙ ap (λ ps. items_of (filter (λ p. p.1) ps)) values.0
+          ∙ filter_answered test us in
+          subst (AreFirst whole (filter test xs)) (sym all)
+          (filter_front test whole xs us (list whole us parts.2))
+
+      pub skip_while_list : SkipWhileGives (Reads becomes steps) (Reads made next) calls u f v
+          → (test : A → Bool) (xs : List A) → ActsAsAt calls f test → GivesList (Reads becomes steps) u xs
+          → GivesList (Reads made next) v (drop (prefix_len test xs) xs)
+      skip_while_list gives test xs acts list whole ys read =
+          let parts = gives whole ys read in
+          let passed = same_answers_at calls f test _ parts.0 parts.1 acts parts.3 in
+          let fails = fails_test calls f test ys acts
+          (subst (λ q. FailsFirst calls q ys) passed.1 parts.4) in
+          drop_passed_front test whole xs parts.0 ys passed.0 fails (list whole _ parts.2)
+
+      pub take_while_list : TakeWhileGives (Reads becomes steps) (Reads made next) calls u f v
+          → (test : A → Bool) (xs : List A) → ActsAsAt calls f test → GivesList (Reads becomes steps) u xs
+          → GivesList (Reads made next) v (take_while test xs)
+      take_while_list gives test xs acts list whole us read =
+          let parts = gives whole us read in
+          let passed = same_answers_at calls f test true us parts.0 acts parts.1 in
+          stopped (Reads becomes steps) calls f parts.0 test u xs us whole acts passed.1 list
+          passed.0 parts.2
+
+  module _ {B F : Type 0} {next : T → Option B → T → Type 0} {f : F} where
+    pub filter_map_list : {calls : Mut F (A × Unit {0}) (Option B)}
+        → FilterMapGives (Reads becomes steps) (Reads made next) calls u f v
+        → (h : A → Option B) (xs : List A) → ActsAs calls f h → GivesList (Reads becomes steps) u xs
+        → GivesList (Reads made next) v (filter_map h xs)
+    filter_map_list {calls} gives h xs acts list whole ys read =
+        let parts = gives whole ys read in
+        let values = function_values calls f h parts.0 parts.1 parts.2 acts parts.4 in
+        let all = parts.5 ∙ ap (filter_map (λ o. o)) values.0 ∙ filter_map_answered h parts.0 in
+        subst (AreFirst whole (filter_map h xs)) (sym all)
+        (filter_map_front h whole xs parts.0 (list whole parts.0 parts.3))
+
+    pub scan_list : {R : Type 0} {calls : Mut F (MutBor R × (A × Unit {0})) (B × (MutBor R × Unit {0}))}
+        {init : R} → ScanGives (Reads becomes steps) (Reads made next) calls u init f v
+        → (step : R → A → R) (out : R → A → B) (xs : List A) → ActsAsWithState calls f step out
+        → GivesList (Reads becomes steps) u xs → GivesList (Reads made next) v (scan step out init xs)
+    scan_list {calls = calls} {init} gives step out xs acts list whole ys read =
+        let parts = gives whole ys read in
+        let front = list whole parts.0 parts.3 in
+        let values = scanned_values calls f step out init parts.2 parts.0 ys parts.1 acts parts.4 in
+        subst (AreFirst whole (scan step out init xs)) (sym values.0)
+        (subst (λ l. AreFirst whole (scan step out init l) (scan step out init parts.0))
+        (sym front.1) (scan_front step out init whole parts.0 front.0 front.2))
+
+  pub intersperse_list : {E : Type 0} {next : T → Option (Result A E) → T → Type 0} {s : A}
+      (clones : A → A → Type 0) (infallible : A → Type 0)
+      → IntersperseGives (Reads becomes steps) (TriesClone clones infallible) (Reads made next) u s v
+      → (xs : List A) → infallible s → ((y : A) → clones s y → y ≡ s) → GivesList (Reads becomes steps) u xs
+      → GivesList (Reads made next) v (map Ok (separated s xs))
+  intersperse_list {s = s} clones infallible gives xs none same list whole zs read =
+      let parts = gives whole zs read in
+      spaced_front (TriesClone clones infallible s) s
+      (only_ok clones infallible s none same)
+      whole xs parts.0 parts.1 zs parts.3 parts.4 (list _ parts.0 parts.2)
+
+module _ {U V X S T : Type 0} {becomes : U → S → Type 0} {steps : S → Option (Bor X) → S → Type 0}
+    {made : V → T → Type 0} {u : U} {v : V} where
+  pub copied_list : {next : T → Option X → T → Type 0}
+      → CopiedGives (Reads becomes steps) (Reads made next) u v
+      → (xs : List X) → ShowsList (Reads becomes steps) u xs → GivesList (Reads made next) v xs
+  copied_list gives xs list whole ys read =
+      let behind = gives whole ys read in
+      subst (AreFirst whole xs) (sym behind.2) (list whole behind.0 behind.1)
+
+  pub cloned_list : {E : Type 0} {next : T → Option (Result X E) → T → Type 0}
+      (clones : X → X → Type 0) (infallible : X → Type 0)
+      → ClonedGives (Reads becomes steps) (TriesClone clones infallible) (Reads made next) u v
+      → (xs : List X) → ((x : X) → infallible x) → ((x y : X) → clones x y → y ≡ x)
+      → ShowsList (Reads becomes steps) u xs → GivesList (Reads made next) v (map Ok xs)
+  cloned_list clones infallible gives xs none same list whole ys read =
+      let behind = gives whole ys read in
+      let shown = map (λ x. x.now) behind.0 in
+      let all = clones_in_ok clones infallible none same behind.0 ys behind.2 in
+      subst (AreFirst whole (map Ok xs)) (sym all)
+      (map_front Ok whole xs shown (list whole behind.0 behind.1))
+
+module _ {U W V S R T A : Type 0} {becomes : U → S → Type 0} {steps : S → Option A → S → Type 0}
+    {meets : W → R → Type 0} {made : V → T → Type 0} {u : U} {w : W} {v : V} where
+  module _ {other : R → Option A → R → Type 0} {next : T → Option A → T → Type 0}
+      (gives : ChainGives (Reads becomes steps) (Reads meets other) (Reads made next) u w v) where
+    pub chain_list : (xs ys : List A) → GivesList (Reads becomes steps) u xs
+        → GivesList (Reads meets other) w ys → GivesList (Reads made next) v (xs ++ ys)
+    chain_list xs ys first second whole zs read =
+        let parts = gives whole zs read in
+        subst (AreFirst whole (xs ++ ys)) (sym parts.4)
+        (append_front whole xs ys parts.0 parts.1 (first _ parts.0 parts.2)
+        (second whole parts.1 parts.3))
+
+    pub chain_view : {B : Type 0} (view : A → B) (xs ys : List B)
+        → ViewsList (Reads becomes steps) view u xs → ViewsList (Reads meets other) view w ys
+        → ViewsList (Reads made next) view v (xs ++ ys)
+    chain_view view xs ys first second whole zs read =
+        let parts = gives whole zs read in
+        let us = map view parts.0 in
+        let vs = map view parts.1 in
+        let long = sym (length-map parts.1 view) in
+        subst (AreFirst whole (xs ++ ys))
+        (sym (map-append view parts.0 parts.1) ∙ sym (ap (map view) parts.4))
+        (append_front whole xs ys us vs
+        (subst (λ len. AreFirst (whole || ltb 0 len) xs us) long (first _ parts.0 parts.2))
+        (second whole parts.1 parts.3))
+
+  pub zip_list : {B : Type 0} {other : R → Option B → R → Type 0} {next : T → Option (A × B) → T → Type 0}
+      → ZipGives (Reads becomes steps) (Reads meets other) (Reads made next) u w v
+      → (xs : List A) (ys : List B) → GivesList (Reads becomes steps) u xs
+      → GivesList (Reads meets other) w ys → GivesList (Reads made next) v (zip xs ys)
+  zip_list gives xs ys first second whole ps read =
+      let parts = gives whole ps read in
+      subst (AreFirst whole (zip xs ys)) (sym parts.6)
+      (zip_front whole parts.2 parts.3 xs ys parts.0 parts.1 parts.7 parts.8
+      (first parts.2 parts.0 parts.4) (second parts.3 parts.1 parts.5))
