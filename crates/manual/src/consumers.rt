@@ -16,8 +16,10 @@ ghost use Rattle.std.specs.Prelude.{
   IfSome,
   IsTrue,
   nat_eq,
+  ltb,
+  eqb,
 };
-ghost use Rattle.std.specs.List.{All, Contains, fold, reduce as list_reduce};
+ghost use Rattle.std.specs.List.{All, Contains, find, fold, list_all, list_any, reduce as list_reduce};
 ghost use Rattle.std.specs.Int.NonZero.{non_zero_usize_get};
 ghost use Rattle.ne_iter.specs.Collected.{IsMapOf};
 
@@ -81,14 +83,14 @@ pub fn reduced(items: NEVec<u32>) -> u32
 
 /// Whether all items are below 10.
 pub fn all_small(items: NEVec<u32>) -> bool
-    ensures { IsTrue result → All (λ x. x < 10) items }
+    ensures { result ≡ list_all (λ x. ltb x 10) items }
 {
     items.into_nonempty_iter().all(|x| x < 10)
 }
 
-/// An item below 10.
+/// The first item below 10.
 pub fn some_small(items: NEVec<u32>) -> Option<u32>
-    ensures { IfSome result (λ x. Contains items x × (x < 10)) }
+    ensures { result ≡ find (λ x. ltb x 10) items }
 {
     items.into_nonempty_iter().find(|x| *x < 10)
 }
@@ -133,6 +135,18 @@ pub fn sum_of_both(items: NEVec<u32>, others: NEVec<u32>) -> u32
     items.into_nonempty_iter().chain(others).sum()
 }
 
+/// The greatest item of two vectors, both walked.
+pub fn greatest_of_two(items: &NEVec<u32>, others: &NEVec<u32>) -> u32
+    ensures among { Contains (items.now ++ others.now) result }
+    ensures bound { All (λ x. x ≤ result) (items.now ++ others.now) }
+{
+    items
+        .nonempty_iter()
+        .chain(others.nonempty_iter())
+        .copied()
+        .max()
+}
+
 /// The greatest item of two vectors.
 pub fn greatest_of_both(items: NEVec<u32>, others: NEVec<u32>) -> u32
     ensures among { Contains (items ++ others) result }
@@ -150,7 +164,7 @@ pub fn first_of(items: NEVec<u32>) -> u32
 
 /// Whether an item is 3.
 pub fn any_three(items: NEVec<u32>) -> bool
-    ensures { IsTrue result → Contains items 3 }
+    ensures { result ≡ list_any (λ x. eqb x 3) items }
 {
     items.into_nonempty_iter().any(|x| x == 3)
 }

@@ -2,6 +2,7 @@
 ghost use Rattle.std.specs.Prelude.{
   ◌≡◌,
   ◌/◌,
+  ◌%◌,
   ◌+◌,
   ◌<◌,
   ◌^◌,
@@ -14,8 +15,9 @@ ghost use Rattle.std.specs.Prelude.{
   take,
   IfOk,
   ltb,
+  [],
 };
-ghost use Rattle.std.specs.List.{enumerate_from, zip};
+ghost use Rattle.std.specs.List.{enumerate_from, scan, zip};
 ghost use Rattle.std.specs.Int.NonZero.{non_zero_usize_get};
 
 use nonempty_collections::{IntoNonEmptyIterator, NEVec, NonEmptyIterator, iter};
@@ -182,5 +184,113 @@ pub fn small_first_halves(
         .take(n)
         .map(|x| x / 2)
         .filter(|x| *x < 10)
+        .collect(alloc)
+}
+
+/// `enumerate`, and then `take`.
+pub fn first_numbered(
+    alloc: Global,
+    items: NEVec<u32>,
+    n: NonZeroUsize,
+) -> Result<NEVec<(usize, u32)>, AllocError>
+    ensures { IfOk result (λ v. v ≡ take (non_zero_usize_get n) (enumerate_from 0 items)) }
+{
+    items.into_nonempty_iter().enumerate().take(n).collect(alloc)
+}
+
+/// `chain`, and then `take`.
+pub fn first_of_both(
+    alloc: Global,
+    items: NEVec<u32>,
+    others: NEVec<u32>,
+    n: NonZeroUsize,
+) -> Result<NEVec<u32>, AllocError>
+    ensures { IfOk result (λ v. v ≡ take (non_zero_usize_get n) (items ++ others)) }
+{
+    items.into_nonempty_iter().chain(others).take(n).collect(alloc)
+}
+
+/// `zip` of two `copied`.
+pub fn shown_pairs(
+    alloc: Global,
+    items: &NEVec<u32>,
+    others: &NEVec<u32>,
+) -> Result<NEVec<(u32, u32)>, AllocError>
+    ensures { IfOk result (λ v. v ≡ zip items.now others.now) }
+{
+    items
+        .nonempty_iter()
+        .copied()
+        .zip(others.nonempty_iter().copied())
+        .collect(alloc)
+}
+
+/// `zip` of a `take` and a `map`.
+pub fn first_and_halves(
+    alloc: Global,
+    items: NEVec<u32>,
+    others: NEVec<u32>,
+    n: NonZeroUsize,
+) -> Result<NEVec<(u32, u32)>, AllocError>
+    ensures { IfOk result (λ v. v ≡ zip (take (non_zero_usize_get n) items)
+        (map (λ x. x / 2) others)) }
+{
+    items
+        .into_nonempty_iter()
+        .take(n)
+        .zip(others.into_nonempty_iter().map(|x| x / 2))
+        .collect(alloc)
+}
+
+/// `map`, `zip`, `enumerate` and `take`.
+pub fn first_numbered_pairs(
+    alloc: Global,
+    items: NEVec<u32>,
+    others: NEVec<u32>,
+    n: NonZeroUsize,
+) -> Result<NEVec<(usize, (u32, u32))>, AllocError>
+    ensures { IfOk result (λ v. v ≡ take (non_zero_usize_get n)
+        (enumerate_from 0 (zip (map (λ x. x / 2) items) others))) }
+{
+    items
+        .into_nonempty_iter()
+        .map(|x| x / 2)
+        .zip(others)
+        .enumerate()
+        .take(n)
+        .collect(alloc)
+}
+
+/// A vector, and then a literal array.
+pub fn with_two_more(alloc: Global, items: NEVec<u32>) -> Result<NEVec<u32>, AllocError>
+    ensures { IfOk result (λ v. v ≡ items ++ 7 ∷ 8 ∷ []) }
+{
+    items.into_nonempty_iter().chain([7, 8]).collect(alloc)
+}
+
+/// `take` over references, `map`, and the sum.
+pub fn sum_of_first_halves(items: &NEVec<u32>, n: NonZeroUsize) -> u32
+    requires { sum (map (λ x. x / 2) (take (non_zero_usize_get n) items.now)) < 2 ^ 32 }
+    ensures { result ≡ sum (map (λ x. x / 2) (take (non_zero_usize_get n) items.now)) }
+{
+    items.nonempty_iter().take(n).map(|x| *x / 2).sum()
+}
+
+/// `scan`, and then `take`: the first running sums.
+pub fn first_running_sums(
+    alloc: Global,
+    items: NEVec<u32>,
+    n: NonZeroUsize,
+) -> Result<NEVec<u32>, AllocError>
+    ensures { IfOk result (λ v. v ≡ take (non_zero_usize_get n)
+        (scan (λ a x. (a + x) % 2 ^ 32) (λ a x. (a + x) % 2 ^ 32) 0 items)) }
+{
+    items
+        .into_nonempty_iter()
+        .scan(0u32, |a, x| {
+            *a = a.wrapping_add(x);
+            *a
+        })
+        .take(n)
         .collect(alloc)
 }

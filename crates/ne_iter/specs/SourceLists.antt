@@ -1,10 +1,11 @@
 -- What a method says of the list that its source gives.
 -- `grind` takes such a fact at a term that fits the first call in its conclusion. So the mark of the
 -- source and its list stands there, and an equation of the new list with itself.
-use Rattle.std.specs.Prelude.{◌≡◌, ℕ, ◌<◌, ◌≤◌, map, take, true, Some, List, length, Option, slice_index_or}
+use Rattle.std.specs.Prelude.{◌≡◌, ℕ, ◌<◌, ◌≤◌, ◌++◌, map, true, Some, List, length, Option, slice_index_or}
 use Rattle.std.specs.Fn.{Mut}
 use Rattle.std.specs.Iterator.{ActsAs}
 use Rattle.std.specs.Iterator.Runs.{Run, EachRunFrom}
+use Rattle.std.specs.List.{zip}
 use Rattle.std.specs.Option.{option_map}
 use Rattle.ne_vec.specs.Fronts.{mark, view_mark}
 
@@ -43,11 +44,17 @@ module _ {U V A B F : Type 0} (calls : Mut F (A × Unit {0}) B) (f : F)
   MapsShown shows = EachShown shows u (λ view xs. (h : ℕ → B)
       → ActsAs calls f (λ x. h (view x)) → (map h xs ≡ map h xs) × gives v (map h xs))
 
--- two sources whose lists are joined, of which the second may be one that no call speaks of
-abbrev pub JoinsLists : {U W V A B C : Type 0} → (List A → List B → List C)
-    → (U → List A → Type 0) → (W → List B → Type 0) → (W → List B → Type 0)
-    → (V → List C → Type 0) → U → W → V → Type 0
-JoinsLists {A = A} {B = B} join lists others meets gives u w v =
-    EachList lists u (λ xs. EachList others w (λ ys. gives v (join xs ys)))
-    × ((xs : List A) (ys : List B) → (join xs ys ≡ join xs ys)
-    × (lists u xs → meets w ys → gives v (join xs ys)))
+-- `chain`: the lists of two sources, one after the other. The second may be one that no call speaks of.
+abbrev pub ChainsLists : {U W V A : Type 0} → (U → List A → Type 0) → (W → List A → Type 0)
+    → (W → List A → Type 0) → (V → List A → Type 0) → U → W → V → Type 0
+ChainsLists {A = A} lists others meets gives u w v = EachList lists u (λ xs.
+    EachList others w (λ ys. gives v (xs ++ ys))
+    × ((ys : List A) → (xs ++ ys ≡ xs ++ ys) × (meets w ys → gives v (xs ++ ys))))
+
+-- `zip`: the pairs of their items
+abbrev pub ZipsLists : {U W V A B : Type 0} → (U → List A → Type 0) → (W → List B → Type 0)
+    → (W → List B → Type 0) → (V → List (A × B) → Type 0) → U → W → V → Type 0
+ZipsLists {A = A} {B = B} lists others meets gives u w v =
+    EachList lists u (λ xs. EachList others w (λ ys. gives v (zip xs ys)))
+    × ((xs : List A) (ys : List B) → (zip xs ys ≡ zip xs ys)
+    × (lists u xs → meets w ys → gives v (zip xs ys)))

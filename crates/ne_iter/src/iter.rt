@@ -30,6 +30,7 @@ pub use sources::{FromNonEmptyIterator, IntoNonEmptyIterator, Source};
 pub fn once<T: Drop>(value: T) -> Once<T>
     ensures holds { item_of_once result ≡ value }
     ensures gives { GivesList (⟦<Once<T> as Source>⟧.reads) result (value ∷ []) }
+    ensures lists { ⟦<Once<T> as Source>⟧.gives_items result (value ∷ []) }
 {
     Once { item: value }
 }

@@ -4,7 +4,7 @@ ghost use Rattle.std.specs.Bool.{MatchBool};
 ghost use Rattle.std.specs.List.{All, Contains, enumerate_from, prefix_len, list_all, list_any};
 ghost use Rattle.std.specs.List.{filter as list_filter, filter_map as list_filter_map};
 ghost use Rattle.std.specs.List.{find as list_find, fold as list_fold, reduce as list_reduce};
-ghost use Rattle.std.specs.List.{scan as list_scan, take_while as list_take_while, zip as list_zip};
+ghost use Rattle.std.specs.List.{scan as list_scan, take_while as list_take_while};
 ghost use Rattle.std.specs.Iterator.{IsFinite, ActsAs, ActsAsAt, ActsAsOnTwo, MakesProgress, AfterFirst, CallableInFold, CallableWhile, CallableWhileAt, CallableOnAllAt};
 ghost use Rattle.std.specs.Iterator.Runs.{CountFits, EachRunFrom, SomeRun, WholeRun, AnyItem, AllItems, AllItemsGive, AnyItemGives, NoItemPasses, EndsAtFirstPassing, IsReduceRun, IndexesMappedItems, IsFilterRun, IsFilterMapRun, IsSkipRun, IsSkipWhileRun, IsTakeWhileRun};
 ghost use Rattle.std.specs.Iterator.Adapters.{filter_steps, filter_map_steps, skip_steps, skip_while_steps, take_while_steps, filter_source, filter_callee, filter_map_source, filter_map_callee, skip_source, skip_count, skip_while_source, skip_while_callee, skip_while_done_skipping, take_while_source, take_while_callee, take_while_done};
@@ -15,7 +15,7 @@ ghost use Rattle.ne_iter.specs.Sources.{IsNonEmpty, FirstAndRest};
 ghost use Rattle.ne_vec.specs.Fronts.{Shows, GivesFronts, mark, view_mark};
 ghost use Rattle.ne_vec.specs.WalkFronts.{WalkGives};
 ghost use Rattle.ne_iter.specs.SourceRuns.{RunsSome, RunsWhole, BeginsRuns};
-ghost use Rattle.ne_iter.specs.SourceLists.{EachList, EachShown, JoinsLists, MapsList, MapsShown, MeetsList};
+ghost use Rattle.ne_iter.specs.SourceLists.{ChainsLists, EachList, EachShown, MapsList, MapsShown, MeetsList, ZipsLists};
 ghost use Rattle.ne_iter.specs.Separated.{separated};
 ghost use Rattle.ne_iter.specs.Calls.{ActsAsWithState, ShownEach};
 ghost use Rattle.ne_iter.specs.Clones.{TriesClone};
@@ -120,7 +120,7 @@ pub trait NonEmptyIterator: IntoIterator {
         Self: Sized,
         ensures holds { (first_of_chain result ≡ self) × (second_of_chain result ≡ other) }
         ensures gives { ChainGives (⟦<Self as Source>⟧.reads) (⟦<U as Source>⟧.reads) (⟦<Chain<Self, U> as Source>⟧.reads) self other result }
-        ensures lists { JoinsLists ◌++◌ (⟦<Self as Source>⟧.lists) (⟦<U as Source>⟧.lists)
+        ensures lists { ChainsLists (⟦<Self as Source>⟧.lists) (⟦<U as Source>⟧.lists)
             (MeetsList U.into_iter_gives U.IntoIter.next_gives)
             (⟦<Chain<Self, U> as Source>⟧.gives_items) self other result }
         ensures shown { EachShown (⟦<Self as Source>⟧.shows) self (λ view xs. (ys : List ℕ)
@@ -750,7 +750,7 @@ pub trait NonEmptyIterator: IntoIterator {
         Self::Item: Drop,
         ensures holds { (first_of_zip result ≡ self) × (second_of_zip result ≡ other) }
         ensures gives { ZipGives (⟦<Self as Source>⟧.reads) (⟦<U as Source>⟧.reads) (⟦<Zip<Self, U> as Source>⟧.reads) self other result }
-        ensures lists { JoinsLists list_zip (⟦<Self as Source>⟧.lists) (⟦<U as Source>⟧.lists)
+        ensures lists { ZipsLists (⟦<Self as Source>⟧.lists) (⟦<U as Source>⟧.lists)
             (MeetsList U.into_iter_gives U.IntoIter.next_gives)
             (⟦<Zip<Self, U> as Source>⟧.gives_items) self other result }
     {

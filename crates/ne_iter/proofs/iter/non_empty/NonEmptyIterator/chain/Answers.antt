@@ -1,8 +1,7 @@
 use Rattle.std.specs.Iterator.Adapters.{chain_first, chain_second}
 use Rattle.ne_iter.proofs.Runs.{DrainsIf-chain}
-use Rattle.std.specs.Prelude.{◌++◌}
-use Rattle.ne_iter.proofs.AdapterLists.{chain_list}
-use Rattle.ne_iter.proofs.ClauseLists.{joins, chains_shown}
+use Rattle.ne_iter.proofs.AdapterLists.{chain_list, chain_view}
+use Rattle.ne_iter.proofs.ClauseLists.{chains_lists, chains_shown}
 use Rattle.ne_iter.proofs.iter.non_empty.NonEmptyIterator.chain.Goals as goal
 
 pub returns-clause-gives : goal.returns-clause-gives
@@ -16,7 +15,7 @@ returns-clause-gives g c whole zs h =
     )
 
 pub returns-clause-lists : goal.returns-clause-lists
-returns-clause-lists g c = joins ◌++◌ (chain_list (returns-clause-gives g c))
+returns-clause-lists g c = chains_lists (chain_list (returns-clause-gives g c))
 
 pub returns-clause-shown : goal.returns-clause-shown
-returns-clause-shown g c = chains_shown (returns-clause-gives g c)
+returns-clause-shown g c = chains_shown (chain_view (returns-clause-gives g c))

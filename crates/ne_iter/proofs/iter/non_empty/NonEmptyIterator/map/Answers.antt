@@ -2,6 +2,7 @@ use Rattle.std.proofs.Common.{subst}
 use Rattle.std.specs.Iterator.Adapters.{map_source}
 use Rattle.ne_iter.specs.Calls.{Calls}
 use Rattle.ne_iter.proofs.Runs.{DrainsIf-map}
+use Rattle.ne_iter.proofs.AdapterLists.{map_list, map_view}
 use Rattle.ne_iter.proofs.ClauseLists.{maps_list, maps_shown}
 use Rattle.ne_iter.proofs.iter.non_empty.NonEmptyIterator.map.Goals as goal
 
@@ -11,7 +12,7 @@ returns-clause-gives g c whole ys h =
     (p.0, p.1, record { it = map_source h.it; made = h.made.0; given = p.2 }, subst (λ f. Calls g.F.FnMut f p.0 ys p.1) h.made.1 p.3)
 
 pub returns-clause-lists : goal.returns-clause-lists
-returns-clause-lists g c = maps_list (returns-clause-gives g c)
+returns-clause-lists g c = maps_list (map_list (returns-clause-gives g c))
 
 pub returns-clause-shown : goal.returns-clause-shown
-returns-clause-shown g c = maps_shown (returns-clause-gives g c)
+returns-clause-shown g c = maps_shown (map_view (returns-clause-gives g c))

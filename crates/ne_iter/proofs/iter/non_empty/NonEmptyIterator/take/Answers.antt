@@ -2,8 +2,8 @@ use Rattle.std.proofs.Common.{rules, subst, ◌≤◌, length}
 use Rattle.std.specs.Iterator.Adapters.{take_source}
 use Rattle.ne_iter.proofs.Runs.{DrainsIf-take, both_true}
 use Rattle.std.specs.Prelude.{take}
-use Rattle.ne_iter.proofs.AdapterLists.{take_list}
-use Rattle.ne_iter.proofs.ClauseLists.{gives_each, takes_shown}
+use Rattle.ne_iter.proofs.AdapterLists.{take_list, take_view}
+use Rattle.ne_iter.proofs.ClauseLists.{gives_each, shows_each}
 use Rattle.ne_iter.proofs.iter.non_empty.NonEmptyIterator.take.Goals as goal
 
 pub returns-clause-gives : goal.returns-clause-gives
@@ -15,4 +15,4 @@ pub returns-clause-lists : goal.returns-clause-lists
 returns-clause-lists g c = gives_each (take _) (take_list (returns-clause-gives g c))
 
 pub returns-clause-shown : goal.returns-clause-shown
-returns-clause-shown g c = takes_shown (returns-clause-gives g c)
+returns-clause-shown g c = shows_each (take _) (take_view (returns-clause-gives g c))

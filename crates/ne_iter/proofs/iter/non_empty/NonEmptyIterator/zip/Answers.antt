@@ -1,8 +1,7 @@
 use Rattle.std.specs.Iterator.Adapters.{zip_first, zip_second}
 use Rattle.ne_iter.proofs.Runs.{DrainsIf-zip}
-use Rattle.std.specs.List.{zip}
 use Rattle.ne_iter.proofs.AdapterLists.{zip_list}
-use Rattle.ne_iter.proofs.ClauseLists.{joins}
+use Rattle.ne_iter.proofs.ClauseLists.{zips_lists}
 use Rattle.ne_iter.proofs.iter.non_empty.NonEmptyIterator.zip.Goals as goal
 
 pub returns-clause-gives : goal.returns-clause-gives
@@ -20,4 +19,4 @@ returns-clause-gives g c whole ps h =
     )
 
 pub returns-clause-lists : goal.returns-clause-lists
-returns-clause-lists g c = joins zip (zip_list (returns-clause-gives g c))
+returns-clause-lists g c = zips_lists (zip_list (returns-clause-gives g c))
