@@ -7,9 +7,9 @@ use Rattle.std.specs.List.{zip}
 use Rattle.ne_vec.specs.Fronts.{Lists, Shows, GivesItems, GivesShown, GivesFronts, view_mark}
 use Rattle.ne_vec.specs.FrontLaws.{marked, view_marked}
 use Rattle.ne_iter.specs.Gives.{GivesList, ViewsList}
-use Rattle.ne_iter.specs.SourceLists.{ChainsLists, EachList, EachShown, MapsList, MapsShown, MeetsList, ZipsLists}
-use Rattle.ne_iter.specs.Sources.{Reads}
-use Rattle.ne_iter.proofs.ReadLists.{lists_read, read_lists, shows_read, read_shows, meets_read}
+use Rattle.ne_iter.specs.SourceLists.{BecomesList, ChainsLists, EachList, EachShown, MapsList, MapsShown, MeetsList, ZipsLists}
+use Rattle.ne_iter.specs.Sources.{Reads, SameLists}
+use Rattle.ne_iter.proofs.ReadLists.{lists_read, read_lists, shows_read, read_shows, meets_read, becomes_read}
 
 module _ {U V A S T : Type 0} {becomes : U → S → Type 0} {steps : S → Option A → S → Type 0}
     {made : V → T → Type 0} {u : U} {v : V} where
@@ -93,11 +93,13 @@ module _ {U W V S R T A : Type 0} {becomes : U → S → Type 0} {steps : S → 
     )
 
   module _ {B : Type 0} {other : R → Option B → R → Type 0} {next : T → Option (A × B) → T → Type 0} where
-    pub zips_lists : ((xs : List A) (ys : List B) → GivesList (Reads becomes steps) u xs
+    pub zips_lists : {X Y : Type 0} {makes : W → X → Type 0} {made' : X → Y → Type 0}
+        {next' : Y → Option B → Y → Type 0} → SameLists meets other makes made' next'
+        → ((xs : List A) (ys : List B) → GivesList (Reads becomes steps) u xs
         → GivesList (Reads meets other) w ys → GivesList (Reads made next) v (zip xs ys))
-        → ZipsLists (Lists becomes steps) (Lists meets other) (MeetsList meets other)
+        → ZipsLists (Lists becomes steps) (Lists meets other) (BecomesList makes made' next')
         (GivesItems made next) u w v
-    zips_lists law = (
+    zips_lists same law = (
       (λ xs first. (
         marked u xs,
         λ ys second. (
@@ -109,7 +111,7 @@ module _ {U W V S R T A : Type 0} {becomes : U → S → Type 0} {steps : S → 
       λ xs ys. (
         refl,
         λ first second. read_lists _ _ v (zip xs ys)
-            (law xs ys (lists_read _ _ u xs first) (meets_read _ _ w ys second)),
+            (law xs ys (lists_read _ _ u xs first) (becomes_read _ _ _ _ _ same w ys second)),
       ),
     )
 

@@ -7,8 +7,8 @@ use Rattle.std.specs.Iterator.Runs.{Run}
 use Rattle.ne_vec.specs.Fronts.{Lists, Shows, GivesItems, GivesShown}
 use Rattle.ne_vec.proofs.RunFronts.{gives_items, gives_shown, run_drains}
 use Rattle.ne_iter.specs.Gives.{GivesList, ViewsList}
-use Rattle.ne_iter.specs.SourceLists.{MeetsList}
-use Rattle.ne_iter.specs.Sources.{Reads}
+use Rattle.ne_iter.specs.SourceLists.{BecomesList, MeetsList}
+use Rattle.ne_iter.specs.Sources.{Reads, SameLists}
 use Rattle.ne_iter.proofs.ListFronts.{whole_front}
 use Rattle.ne_iter.proofs.RunFronts.{front_of}
 
@@ -55,3 +55,12 @@ module _ {U S A : Type 0} (becomes : U → S → Type 0) (steps : S → Option A
     of_run it p made from whole =
         let f = lists it made p.whole p.items (run_drains steps p it from) in
         subst P (sym (f.1 ∙ ap (λ l. p.items ++ l) (f.2 whole) ∙ append-nil p.items))
+
+-- what becomes a source reads what that source does
+pub becomes_read : {W R V T A : Type 0} (meets : W → R → Type 0) (other : R → Option A → R → Type 0)
+    (makes : W → V → Type 0) (becomes : V → T → Type 0) (steps : T → Option A → T → Type 0)
+    → SameLists meets other makes becomes steps → (w : W) (xs : List A)
+    → BecomesList makes becomes steps w xs → GivesList (Reads meets other) w xs
+becomes_read meets other makes becomes steps same w xs lists whole ys read =
+    let there = (same w whole ys).0 read in
+    lists_read becomes steps there.0 xs (lists there.0 there.1) whole ys there.2

@@ -7,7 +7,7 @@ use Rattle.std.specs.Iterator.{ActsAs}
 use Rattle.std.specs.Iterator.Runs.{Run, EachRunFrom}
 use Rattle.std.specs.List.{zip}
 use Rattle.std.specs.Option.{option_map}
-use Rattle.ne_vec.specs.Fronts.{mark, view_mark}
+use Rattle.ne_vec.specs.Fronts.{Lists, mark, view_mark}
 
 -- The items of a run are the first of xs, and all of them if the run is whole: how a std iterator's
 -- own clause says it.
@@ -22,6 +22,11 @@ abbrev pub MeetsList : {U S A : Type 0} → (U → S → Type 0) → (S → Opti
     → U → List A → Type 0
 MeetsList {S = S} becomes steps u xs =
     (it : S) → becomes u it → EachRunFrom steps it (λ p. FrontOf p xs)
+
+-- What becomes a source becomes one that gives the items of xs.
+abbrev pub BecomesList : {W V T A : Type 0} → (W → V → Type 0) → (V → T → Type 0)
+    → (T → Option A → T → Type 0) → W → List A → Type 0
+BecomesList {V = V} makes becomes steps w xs = (v : V) → makes w v → Lists becomes steps v xs
 
 -- P holds of each list that the source gives
 abbrev pub EachList : {U A : Type 0} → (U → List A → Type 0) → U → (List A → Type 0) → Type 0

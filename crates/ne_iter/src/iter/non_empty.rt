@@ -15,7 +15,7 @@ ghost use Rattle.ne_iter.specs.Sources.{IsNonEmpty, FirstAndRest};
 ghost use Rattle.ne_vec.specs.Fronts.{Shows, GivesFronts, mark, view_mark};
 ghost use Rattle.ne_vec.specs.WalkFronts.{WalkGives};
 ghost use Rattle.ne_iter.specs.SourceRuns.{RunsSome, RunsWhole, BeginsRuns};
-ghost use Rattle.ne_iter.specs.SourceLists.{ChainsLists, EachList, EachShown, MapsList, MapsShown, MeetsList, ZipsLists};
+ghost use Rattle.ne_iter.specs.SourceLists.{BecomesList, ChainsLists, EachList, EachShown, MapsList, MapsShown, MeetsList, ZipsLists};
 ghost use Rattle.ne_iter.specs.Separated.{separated};
 ghost use Rattle.ne_iter.specs.Calls.{ActsAsWithState, ShownEach};
 ghost use Rattle.ne_iter.specs.Clones.{TriesClone};
@@ -751,7 +751,8 @@ pub trait NonEmptyIterator: IntoIterator {
         ensures holds { (first_of_zip result ≡ self) × (second_of_zip result ≡ other) }
         ensures gives { ZipGives (⟦<Self as Source>⟧.reads) (⟦<U as Source>⟧.reads) (⟦<Zip<Self, U> as Source>⟧.reads) self other result }
         ensures lists { ZipsLists (⟦<Self as Source>⟧.lists) (⟦<U as Source>⟧.lists)
-            (MeetsList U.into_iter_gives U.IntoIter.next_gives)
+            (BecomesList U.into_nonempty_iter_gives U.IntoNEIter.into_iter_gives
+            U.IntoNEIter.IntoIter.next_gives)
             (⟦<Zip<Self, U> as Source>⟧.gives_items) self other result }
     {
         Zip { a: self, b: other }

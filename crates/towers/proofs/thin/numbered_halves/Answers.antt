@@ -28,4 +28,4 @@ returns c = IfOk-weaker c.numbered.result _ _ (λ v h.
     (subst (λ w. AreFirst w pairs numbered) (h.8 ∙ ap (λ len. ltb len n) long) all) in
     h.10 ∙ c.first_items_stay_first-2.ensures.all (take n pairs) numbered taken
     ∙ ap (λ l. take n (enumerate_from 0 (map (λ x. x / 2) l ++ c.args.other.items)))
-    c.into_nonempty_iter.ensures.into_nonempty_iter_gives) c.numbered.ensures
+    c.into_nonempty_iter.ensures.into_nonempty_iter_gives.0) c.numbered.ensures
