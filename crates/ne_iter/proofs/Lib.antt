@@ -16,6 +16,7 @@ pub mod FrontRuns
 pub mod Traced
 pub mod Loops
 pub mod Best
+pub mod Keyed
 pub mod Readers
 pub mod Grouped
 pub mod Divided
