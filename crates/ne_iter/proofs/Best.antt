@@ -9,10 +9,12 @@ use Rattle.std.specs.List.{All, best_of, Contains, FoldsTo}
 use Rattle.std.specs.Ordering.{is_lt, is_some_and, partial_lt}
 use Rattle.std.specs.declared.cmp.Ordering.{Ordering}
 use Rattle.std.proofs.lemmas.Fn.{chained_keeps}
-use Rattle.std.proofs.lemmas.List.Elements.{All-contains_itself, All-cons, All-head, All-tail, Contains-append_left, Contains-push}
+use Rattle.std.proofs.lemmas.List.Elements.{All-contains_itself, All-cons, All-head, All-tail}
+use Rattle.std.proofs.lemmas.List.Elements.{Contains-append_left, Contains-push}
 use Rattle.std.proofs.lemmas.List.MinMax.{IsFirstBest-from_best_of, IsStrictWeakOrder-flip}
 use Rattle.std.proofs.lemmas.Option.{slice_get-get_or}
-use Rattle.ne_iter.specs.Answers.{AnswersJustWhere, KeepsBetter, IsFirstGreatest, IsFirstLeast, less_by}
+use Rattle.ne_iter.specs.Answers.{AnswersJustWhere, KeepsBetter, less_by}
+use Rattle.ne_iter.specs.Answers.{IsFirstGreatest, IsFirstLeast}
 
 module _ {V F A : Type 0} (view : A → V) (calls : Shared F (Bor V × (Bor V × Unit {0})) Bool)
     (f : F) where

@@ -47,7 +47,8 @@ module _ {A B F G : Type 0} (asks : Mut F (Bor A × Unit {0}) B)
         takes q x (callable.at xs t (asked q) x u run (asked_each f xs q turns) last);
   }
 
-keyed_cond : {A B : Type 0} (t : Bool) (p q : B × A) → keyed (cond t p q) ≡ cond t (keyed p) (keyed q)
+keyed_cond : {A B : Type 0} (t : Bool) (p q : B × A)
+    → keyed (cond t p q) ≡ cond t (keyed p) (keyed q)
 keyed_cond true p q = refl
 keyed_cond false p q = refl
 

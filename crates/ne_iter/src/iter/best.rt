@@ -59,10 +59,7 @@ where
         |x|
             requires { TakesAt F.FnMut key x }
             ensures { (x ≡ result.1) × CalledAt F.FnMut key.entry x result.0 key.exit }
-        {
-            let next_key = key(&x);
-            (next_key, x)
-        },
+        { (key(&x), x) },
     );
     let (_key, item) = best(
         pairs,

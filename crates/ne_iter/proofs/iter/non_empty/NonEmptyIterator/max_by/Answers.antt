@@ -11,7 +11,8 @@ returns g c =
       kept.2,
       (
         Contains-kept (λ y. y) _ _ kept.0 kept.1 c.best.result kept.3,
-        λ less order answers. IsFirstGreatest-kept (λ y. y) _ _ less order kept.0 kept.1 c.best.result
+        λ less order answers.
+            IsFirstGreatest-kept (λ y. y) _ _ less order kept.0 kept.1 c.best.result
             (AnswersAs-through _ _ g.F.Fn c.args.compare items is_lt less
             (λ v w t says. search (rules, says)) answers) kept.3,
       ),

@@ -15,6 +15,7 @@ returns g c =
       kept.5,
       IsFirstLeast-kept (λ p. p.1) _ _ (λ p q. less_by g.B.Ord.cmp p.1 q.1)
           (ranks_by key.total (λ p. p.1)) kept.0 kept.1 (c.best_by_key.result, kept.2)
-          (λ p q t a b says. less_by-from_partial_lt key.matches_partial_cmp q.1 p.1 t (search rules))
+          (λ p q t a b says.
+          less_by-from_partial_lt key.matches_partial_cmp q.1 p.1 t (search rules))
           kept.6,
     )
