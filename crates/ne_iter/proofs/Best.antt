@@ -1,58 +1,105 @@
--- A loop that keeps the best item so far: its steps, and what it holds at the end. One item beats another by a test.
+-- The item that is kept of those that come: it is one of them, and by a test that ranks them the
+-- first least or the first greatest. One item beats another by a test.
 use Rattle.std.proofs.Common.{ap, subst, sym, ◌∙◌}
-use Rattle.std.specs.Prelude.{◌≡◌, Bool, true, false, cond, List, [], ◌∷◌, ◌++◌, map, Option, Some, refl}
+use Rattle.std.specs.Prelude.{◌≡◌, Bool, true, false, cond, List, [], ◌∷◌, ◌++◌, Option, Some}
 use Rattle.std.specs.Borrow.{Bor}
 use Rattle.std.specs.Cmp.{Agrees, IsStrictWeakOrder}
-use Rattle.std.specs.Fn.{CalledAt, Mut, Shared}
-use Rattle.std.specs.List.{best_of, FoldsTo}
+use Rattle.std.specs.Fn.{FnReturnsAtPair, Shared}
+use Rattle.std.specs.List.{All, best_of, Contains, FoldsTo}
 use Rattle.std.specs.Ordering.{is_lt, is_some_and, partial_lt}
 use Rattle.std.specs.declared.cmp.Ordering.{Ordering}
-use Rattle.std.proofs.lemmas.List.Elements.{Contains-append_left}
+use Rattle.std.proofs.lemmas.Fn.{chained_keeps}
+use Rattle.std.proofs.lemmas.List.Elements.{All-contains_itself, All-cons, All-head, All-tail}
+use Rattle.std.proofs.lemmas.List.Elements.{Contains-append_left, Contains-push}
 use Rattle.std.proofs.lemmas.List.MinMax.{IsFirstBest-from_best_of, IsStrictWeakOrder-flip}
 use Rattle.std.proofs.lemmas.Option.{slice_get-get_or}
-use Rattle.ne_iter.specs.Answers.{AnswersJustWhere, IsFirstGreatest, IsFirstLeast, less_by}
-use Rattle.ne_iter.specs.Calls.{ShownEach}
+use Rattle.ne_iter.specs.Answers.{AnswersJustWhere, KeepsBetter, less_by}
+use Rattle.ne_iter.specs.Answers.{IsFirstGreatest, IsFirstLeast}
 
-module _ {A : Type 0} (beats : A → A → Bool) where
-  best_of-push : (first : A) (xs : List A) (x : A) → best_of beats first (xs ++ x ∷ []) ≡ cond (beats x (best_of beats first xs)) x (best_of beats first xs)
-  best_of-push first [] x = refl
-  best_of-push first (y ∷ ys) x = best_of-push (cond (beats y first) y first) ys x
+module _ {V F A : Type 0} (view : A → V) (calls : Shared F (Bor V × (Bor V × Unit {0})) Bool)
+    (f : F) where
+  -- what holds of both items of a turn holds of the one that is kept
+  kept_has : (P : A → Type 0) (kept x next : A) → KeepsBetter view calls f kept x next
+      → P kept → P x → P next
+  kept_has P kept x next (true, says, e) p q = subst P (sym e) q
+  kept_has P kept x next (false, says, e) p q = subst P (sym e) p
 
-  best_of-step : (first : A) (xs : List A) (best x : A) (t : Bool) → best ≡ best_of beats first xs → beats x best ≡ t → cond t x best ≡ best_of beats first (xs ++ x ∷ [])
-  best_of-step first xs best x t e h = sym (best_of-push first xs x ∙ ap (λ b. cond (beats x b) x b) (sym e) ∙ ap (λ q. cond q x best) h)
+  -- the item that is kept is one of those that came
+  pub Contains-kept : (first : A) (xs : List A) (kept : A)
+      → FoldsTo (KeepsBetter view calls f) first xs kept → Contains (first ∷ xs) kept
+  Contains-kept first xs kept =
+      chained_keeps (KeepsBetter view calls f) (λ ys m. Contains (first ∷ ys) m)
+      (λ ys m x next has turn. kept_has (Contains (first ∷ (ys ++ x ∷ []))) m x next turn
+      (Contains-append_left (first ∷ ys) (x ∷ []) m has) (Contains-push (first ∷ ys) x))
+      xs first kept (Contains-push [] first)
 
-  -- the next item x takes the place of the best one, or does not
-  pub best_of-takes : (first : A) (xs : List A) (best x : A) → best ≡ best_of beats first xs → beats x best ≡ true → x ≡ best_of beats first (xs ++ x ∷ [])
-  best_of-takes first xs best x e h = best_of-step first xs best x true e h
+  -- at two of the items zs, f answers whether the second beats the first
+  abbrev pub AnswersAs : (A → A → Bool) → List A → Type 0
+  AnswersAs beats zs = (x y : A) (t : Bool) → Contains zs x → Contains zs y
+      → FnReturnsAtPair calls f (view x) (view y) t → t ≡ beats y x
 
-  pub best_of-keeps : (first : A) (xs : List A) (best x : A) → best ≡ best_of beats first xs → beats x best ≡ false → best ≡ best_of beats first (xs ++ x ∷ [])
-  best_of-keeps first xs best x e h = best_of-step first xs best x false e h
+  -- so the best of them is kept
+  best_of-kept : (beats : A → A → Bool) (zs : List A) → AnswersAs beats zs
+      → (first : A) (xs : List A) (kept : A) → All (Contains zs) (first ∷ xs)
+      → FoldsTo (KeepsBetter view calls f) first xs kept → kept ≡ best_of beats first xs
+  best_of-kept beats zs answers first [] kept all e = sym e
+  best_of-kept beats zs answers first (x ∷ xs) kept all (next, turn, rest) =
+      let one = Contains zs in
+      let here = All-head one first (x ∷ xs) all in
+      let others = All-tail one first (x ∷ xs) all in
+      let there = All-head one x xs others in
+      let both = kept_has one first x next turn here there in
+      best_of-kept beats zs answers next xs kept
+      (All-cons one next xs both (All-tail one x xs others)) rest
+      ∙ ap (λ b. best_of beats b xs)
+      (turn.2 ∙ ap (λ t. cond t x first) (answers first x turn.0 here there turn.1))
 
-module _ {A : Type 0} (less : A → A → Bool) (o : IsStrictWeakOrder less) where
-  pub IsFirstLeast-best_of : (first : A) (xs : List A) (best : A) → best ≡ best_of less first xs → IsFirstLeast less (first ∷ xs) best
+module _ {A : Type 0} (less : A → A → Bool) (order : IsStrictWeakOrder less) where
+  IsFirstLeast-best_of : (first : A) (xs : List A) (best : A)
+      → best ≡ best_of less first xs → IsFirstLeast less (first ∷ xs) best
   IsFirstLeast-best_of first xs best e =
-      let p = IsFirstBest-from_best_of o first xs in
+      let p = IsFirstBest-from_best_of order first xs in
       (p.0, p.1, slice_get-get_or (first ∷ xs) p.0 first p.1.0 ∙ ap Some (p.2 ∙ sym e))
 
-module _ {A : Type 0} (less : A → A → Bool) (o : IsStrictWeakOrder less) where
-  pub IsFirstGreatest-best_of : (first : A) (xs : List A) (best : A) → best ≡ best_of (λ x y. less y x) first xs → IsFirstGreatest less (first ∷ xs) best
-  IsFirstGreatest-best_of = IsFirstLeast-best_of (λ x y. less y x) (IsStrictWeakOrder-flip less o)
+module _ {V F A : Type 0} (view : A → V) (calls : Shared F (Bor V × (Bor V × Unit {0})) Bool)
+    (f : F) (less : A → A → Bool) (order : IsStrictWeakOrder less) where
+  -- where f answers that the next item is less, the first least is kept
+  pub IsFirstLeast-kept : (first : A) (xs : List A) (kept : A)
+      → AnswersAs view calls f less (first ∷ xs)
+      → FoldsTo (KeepsBetter view calls f) first xs kept → IsFirstLeast less (first ∷ xs) kept
+  IsFirstLeast-kept first xs kept answers turns =
+      IsFirstLeast-best_of less order first xs kept
+      (best_of-kept view calls f less (first ∷ xs) answers first xs kept
+      (All-contains_itself (first ∷ xs)) turns)
 
--- what `<` answered, said by `cmp`
-pub less_by-from_partial_lt : {A : Type 0} {C : A → A → Option Ordering} {R : A → A → Ordering} → Agrees C R → (x y : A) (r t : Bool) → r ≡ partial_lt C x y → r ≡ t → less_by R x y ≡ t
-less_by-from_partial_lt a x y r t e h = ap (is_some_and is_lt) (sym (a x y)) ∙ sym e ∙ h
+module _ {V F A : Type 0} (view : A → V) (calls : Shared F (Bor V × (Bor V × Unit {0})) Bool)
+    (f : F) (less : A → A → Bool) (order : IsStrictWeakOrder less) where
+  -- where it answers that the next item is greater, the first greatest
+  pub IsFirstGreatest-kept : (first : A) (xs : List A) (kept : A)
+      → AnswersAs view calls f (λ x y. less y x) (first ∷ xs)
+      → FoldsTo (KeepsBetter view calls f) first xs kept → IsFirstGreatest less (first ∷ xs) kept
+  IsFirstGreatest-kept =
+      IsFirstLeast-kept view calls f (λ x y. less y x) (IsStrictWeakOrder-flip less order)
 
--- what holds of the calls at all items holds of those at the first ones
-pub AnswersJustWhere-fewer : {F A : Type 0} (calls : Shared F (Bor A × (Bor A × Unit {0})) Ordering) (f : F) (xs ys : List A) (meant : Ordering → Bool) (test : A → A → Bool)
-    → AnswersJustWhere calls f (xs ++ ys) meant test → AnswersJustWhere calls f xs meant test
-AnswersJustWhere-fewer calls f xs ys meant test h x y r a b c = h x y r (Contains-append_left xs ys x a) (Contains-append_left xs ys y b) c
+-- what `<` answers, said by `cmp`
+pub less_by-from_partial_lt : {A : Type 0} {C : A → A → Option Ordering} {R : A → A → Ordering}
+    → Agrees C R → (x y : A) (t : Bool) → t ≡ partial_lt C x y → t ≡ less_by R x y
+less_by-from_partial_lt a x y t e = e ∙ ap (is_some_and is_lt) (a x y)
 
-shown : {F A B : Type 0} (calls : Mut F (Bor A × Unit {0}) B) (f : F) (ps : List (A × B)) (g : F)
-    → ShownEach calls f ps g → FoldsTo (λ p x q. (r : B) × CalledAt calls p x r q) f (map (λ p. p.0) ps) g
-shown calls f [] g e = e
-shown calls f (p ∷ ps) g (h, c, rest) = (h, (p.1, c), shown calls h ps g rest)
-
--- the calls for keys, where the answers are left out
-pub FoldsTo-shown : {F A B : Type 0} (calls : Mut F (Bor A × Unit {0}) B) (f : F) (ps : List (A × B)) (g : F) (xs : List A)
-    → ShownEach calls f ps g → xs ≡ map (λ p. p.0) ps → FoldsTo (λ p x q. (r : B) × CalledAt calls p x r q) f xs g
-FoldsTo-shown {B} calls f ps g xs h e = subst (λ l. FoldsTo (λ p x q. (r : B) × CalledAt calls p x r q) f l g) (sym e) (shown calls f ps g h)
+-- where each call of f is one of h, and answers whether h answered what is meant
+pub AnswersAs-through : {F H A : Type 0} (calls : Shared F (Bor A × (Bor A × Unit {0})) Bool)
+    (f : F) (through : Shared H (Bor A × (Bor A × Unit {0})) Ordering) (h : H) (zs : List A)
+    (meant : Ordering → Bool) (test : A → A → Bool)
+    → ((v w : Bor A) (t : Bool) → calls.post f (v, (w, tt)) t
+    → (r : Ordering) × through.post h (v, (w, tt)) r × (t ≡ meant r))
+    → AnswersJustWhere through h zs meant test
+    → AnswersAs (λ x. x) calls f (λ x y. test y x) zs
+AnswersAs-through calls f through h zs meant test each answers x y t a b says =
+    let behind = each says.first says.second t says.says.met in
+    let at : FnReturnsAtPair through h x y behind.0 = record {
+      first = says.first;
+      second = says.second;
+      shows = says.shows;
+      says = record { met = behind.1 };
+    } in
+    behind.2 ∙ answers x y behind.0 a b at

@@ -14,6 +14,7 @@ pub mod KeptRuns
 pub mod Traced
 pub mod Loops
 pub mod Best
+pub mod Keyed
 pub mod Readers
 pub mod Grouped
 pub mod Divided

@@ -1,6 +1,6 @@
 -- The answers of the methods that use a source up. Each is said of a list that the source may give, to its end or up to the item that
 -- decided.
-use Rattle.std.specs.Prelude.{◌≡◌, ℕ, ◌≤◌, Bool, true, false, List, [], ◌∷◌, ◌++◌, length, Option, Some, MatchOption, slice_get}
+use Rattle.std.specs.Prelude.{◌≡◌, ℕ, ◌≤◌, Bool, true, false, cond, List, [], ◌∷◌, ◌++◌, length, Option, Some, MatchOption, slice_get}
 use Rattle.std.specs.Bool.{MatchBool}
 use Rattle.std.specs.Borrow.{Bor}
 use Rattle.std.specs.Cmp.{IsStrictWeakOrder}
@@ -55,8 +55,15 @@ module _ {A : Type 0} (less : A → A → Bool) where
 
 module _ {A : Type 0} where
   -- f may be called at any two items that the iterator may give.
-  abbrev pub CallableOnTwo : {S F : Type 0} → (S → Option A → S → Type 0) → Shared F (Bor A × (Bor A × Unit {0})) Ordering → S → F → Type 0
+  abbrev pub CallableOnTwo : {S F R : Type 0} → (S → Option A → S → Type 0) → Shared F (Bor A × (Bor A × Unit {0})) R → S → F → Type 0
   CallableOnTwo {S} steps calls it f = (xs : List A) (t : S) (x y : Bor A) → Yields steps it xs t → Contains xs x.now → Contains xs y.now → calls.pre f (x, (y, tt))
+
+  -- Of the item that is kept so far and the next one, x, the one that is kept then: x where f,
+  -- called on what view sees of the two, answers true.
+  abbrev pub KeepsBetter : {V F : Type 0} → (A → V) → Shared F (Bor V × (Bor V × Unit {0})) Bool
+      → F → A → A → A → Type 0
+  KeepsBetter view calls f kept x next = (better : Bool)
+      × FnReturnsAtPair calls f (view kept) (view x) better × (next ≡ cond better x kept)
 
   -- f, called at two items x and y of xs, gives the answer that is meant, `Less` by `is_lt` or `Greater` by `is_gt`, just where `test x y`.
   abbrev pub AnswersJustWhere : {F : Type 0} → Shared F (Bor A × (Bor A × Unit {0})) Ordering → F → List A → (Ordering → Bool) → (A → A → Bool) → Type 0

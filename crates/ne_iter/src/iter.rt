@@ -4,6 +4,7 @@ ghost use Rattle.ne_iter.specs.Parts.{item_of_once};
 ghost use Rattle.ne_iter.specs.Gives.{GivesList};
 
 mod adapters;
+mod best;
 mod collected;
 mod copies;
 mod flat;

@@ -24,6 +24,7 @@ ghost use Rattle.ne_iter.specs.Gives.{MapGives, EnumerateGives, TakeGives, Chain
 ghost use Rattle.ne_iter.specs.Peeks.{peekable_first, peekable_rest, PeekableGives};
 ghost use Rattle.ne_iter.specs.Answers.{TellsAll, TellsAny, FindsFirst, GivesNth, FoldsAll, ReducesAll, IsFirstGreatest, IsFirstLeast, PicksGreatest, PicksLeast, CallableOnTwo, less_by};
 
+use super::best::{best, best_by_key};
 use super::sources::{FromNonEmptyIterator, IntoNonEmptyIterator, Source};
 use super::{
     Chain, Cloned, Copied, Enumerate, FlatMap, Flatten, GroupBy, Intersperse, Map, NEGroupBy,
@@ -422,14 +423,7 @@ pub trait NonEmptyIterator: IntoIterator {
             AnyItem p (λ x. x ≡ result)
             × AllItems p (λ x. less_by Self.Item.cmp result x ≡ false)) }
     {
-        let (first, rest) = self.next();
-        let mut best = first;
-        for x in rest {
-            if best < x {
-                best = x;
-            }
-        }
-        best
+        best(self, |kept, next| kept < next)
     }
 
     /// The greatest item by `compare`, and of several equal ones the first. std's `max_by` answers the last of them.
@@ -444,14 +438,12 @@ pub trait NonEmptyIterator: IntoIterator {
         requires callable { (it : Self.IntoIter) → Self.into_iter_gives self it → CallableOnTwo Self.IntoIter.next_gives F.Fn it compare }
         ensures { (xs : List Self.Item) × ⟦<Self as Source>⟧.reads true self xs × PicksGreatest F.Fn compare xs result }
     {
-        let (first, rest) = self.next();
-        let mut best = first;
-        for x in rest {
-            if compare(&best, &x).is_lt() {
-                best = x;
-            }
-        }
-        best
+        best(
+            self,
+            |kept, next|
+                requires { F.pre compare kept next }
+            { compare(kept, next).is_lt() },
+        )
     }
 
     /// The item of the greatest key, and of several equal ones the first. std's `max_by_key` answers the last of them. The key is
@@ -464,18 +456,7 @@ pub trait NonEmptyIterator: IntoIterator {
         requires callable { (it : Self.IntoIter) → Self.into_iter_gives self it → CallableOnAllAt Self.IntoIter.next_gives F.FnMut it key }
         ensures { (ps : List (Self.Item × B)) × (k : B) × (g : F) × ⟦<Self as Source>⟧.reads true self (map (λ p. p.0) ps) × ShownEach F.FnMut key ps g × IsFirstGreatest (λ p q. less_by B.cmp p.1 q.1) ps (result, k) }
     {
-        let mut key = key;
-        let (first, rest) = self.next();
-        let mut best_key = key(&first);
-        let mut best = first;
-        for x in rest {
-            let next_key = key(&x);
-            if best_key < next_key {
-                best = x;
-                best_key = next_key;
-            }
-        }
-        best
+        best_by_key(self, key, |kept, next| kept < next)
     }
 
     /// The least item, and of several equal ones the first.
@@ -492,14 +473,7 @@ pub trait NonEmptyIterator: IntoIterator {
             AnyItem p (λ x. x ≡ result)
             × AllItems p (λ x. less_by Self.Item.cmp x result ≡ false)) }
     {
-        let (first, rest) = self.next();
-        let mut best = first;
-        for x in rest {
-            if x < best {
-                best = x;
-            }
-        }
-        best
+        best(self, |kept, next| next < kept)
     }
 
     /// The least item by `compare`, and of several equal ones the first.
@@ -514,14 +488,12 @@ pub trait NonEmptyIterator: IntoIterator {
         requires callable { (it : Self.IntoIter) → Self.into_iter_gives self it → CallableOnTwo Self.IntoIter.next_gives F.Fn it compare }
         ensures { (xs : List Self.Item) × ⟦<Self as Source>⟧.reads true self xs × PicksLeast F.Fn compare xs result }
     {
-        let (first, rest) = self.next();
-        let mut best = first;
-        for x in rest {
-            if compare(&best, &x).is_gt() {
-                best = x;
-            }
-        }
-        best
+        best(
+            self,
+            |kept, next|
+                requires { F.pre compare kept next }
+            { compare(kept, next).is_gt() },
+        )
     }
 
     /// The item of the least key, and of several equal ones the first. The key is asked once for each item.
@@ -533,18 +505,7 @@ pub trait NonEmptyIterator: IntoIterator {
         requires callable { (it : Self.IntoIter) → Self.into_iter_gives self it → CallableOnAllAt Self.IntoIter.next_gives F.FnMut it key }
         ensures { (ps : List (Self.Item × B)) × (k : B) × (g : F) × ⟦<Self as Source>⟧.reads true self (map (λ p. p.0) ps) × ShownEach F.FnMut key ps g × IsFirstLeast (λ p q. less_by B.cmp p.1 q.1) ps (result, k) }
     {
-        let mut key = key;
-        let (first, rest) = self.next();
-        let mut best_key = key(&first);
-        let mut best = first;
-        for x in rest {
-            let next_key = key(&x);
-            if next_key < best_key {
-                best = x;
-                best_key = next_key;
-            }
-        }
-        best
+        best_by_key(self, key, |kept, next| next < kept)
     }
 
     /// The items in the order of their keys, the least first; those of equal keys keep their order.

@@ -1,8 +1,7 @@
-use Rattle.std.proofs.Common.{refl, ◌∷◌, true, false}
+use Rattle.std.proofs.Common.{◌∷◌, rules}
 use Rattle.std.proofs.lemmas.List.MinMax.{ranks_by}
 use Rattle.ne_iter.specs.Answers.{less_by}
-use Rattle.ne_iter.proofs.Best.{best_of-takes, best_of-keeps, IsFirstLeast-best_of, less_by-from_partial_lt}
-use Rattle.ne_iter.proofs.Loops.{Reads-loop}
+use Rattle.ne_iter.proofs.Best.{IsFirstLeast-kept, less_by-from_partial_lt}
 use Rattle.ne_iter.proofs.Traced.{best_run_of}
 use Rattle.std.specs.Prelude.{◌≡◌, All, Contains}
 use Rattle.ne_iter.proofs.Extremes.{best_is}
@@ -10,25 +9,16 @@ use Rattle.ne_vec.specs.FrontLaws.{marked}
 use Rattle.ne_iter.proofs.ReadLists.{of_read}
 use Rattle.ne_iter.proofs.iter.non_empty.NonEmptyIterator.min.Goals as goal
 
-pub loop-x-init : goal.loop-x-init
-loop-x-init g c = refl
-
-pub loop-x-preserved-then-lt : goal.loop-x-preserved-then-lt
-loop-x-preserved-then-lt g c =
-    best_of-takes (less_by g.Self.Item.Ord.cmp) c.next-first.result.0 c.loop-x.yielded c.loop-x.best c.in-Some.x c.loop-x.invariant
-    (less_by-from_partial_lt g.met.Self.Item.Ord.matches_partial_cmp c.in-Some.x c.loop-x.best c.lt.result true c.lt.ensures c.if-lt.true)
-
-pub loop-x-preserved : goal.loop-x-preserved
-loop-x-preserved g c =
-    best_of-keeps (less_by g.Self.Item.Ord.cmp) c.next-first.result.0 c.loop-x.yielded c.loop-x.best c.in-Some.x c.loop-x.invariant
-    (less_by-from_partial_lt g.met.Self.Item.Ord.matches_partial_cmp c.in-Some.x c.loop-x.best c.lt.result false c.lt.ensures c.if-lt.false)
-
 pub returns-clause-gives : goal.returns-clause-gives
 returns-clause-gives g c =
-    let first = c.next-first.ensures.first in (
-      c.next-first.result.0 ∷ c.loop-x.yielded,
-      Reads-loop first.0 c.loop-x.x-iterator c.next.new.self first.1 first.2 c.into_iter-x-iterator.ensures.into_iter_gives c.loop-x.yielded_by c.in-None.ensures.steps,
-      IsFirstLeast-best_of (less_by g.Self.Item.Ord.cmp) (ranks_by g.met.Self.Item.Ord.total (λ x. x)) c.next-first.result.0 c.loop-x.yielded c.loop-x.best c.loop-x.invariant,
+    let kept = c.best.ensures in
+    let item = g.met.Self.Item.Ord in (
+      kept.0 ∷ kept.1,
+      kept.2,
+      IsFirstLeast-kept (λ y. y) _ _ (less_by g.Self.Item.Ord.cmp) (ranks_by item.total (λ x. x))
+          kept.0 kept.1 c.best.result
+          (λ x y t a b says. less_by-from_partial_lt item.matches_partial_cmp y x t (search rules))
+          kept.3,
     )
 
 pub returns-clause-runs : goal.returns-clause-runs
