@@ -27,6 +27,7 @@ pub mod ReadLists
 pub mod ClauseLists
 pub mod FirstAnswers
 pub mod PeekedLists
+pub mod KeyedBest
 pub mod FunctionCalls
 pub mod Extremes
 pub mod Unrefused

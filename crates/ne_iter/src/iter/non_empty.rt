@@ -436,7 +436,10 @@ pub trait NonEmptyIterator: IntoIterator {
         Self::Item: Drop,
         requires runs { ⟦<Self as Source>⟧.ends self }
         requires callable { (it : Self.IntoIter) → Self.into_iter_gives self it → CallableOnTwo Self.IntoIter.next_gives F.Fn it compare }
-        ensures { (xs : List Self.Item) × ⟦<Self as Source>⟧.reads true self xs × PicksGreatest F.Fn compare xs result }
+        ensures gives { (xs : List Self.Item) × ⟦<Self as Source>⟧.reads true self xs
+            × PicksGreatest F.Fn compare xs result }
+        ensures lists { EachList (⟦<Self as Source>⟧.lists) self (λ xs.
+            PicksGreatest F.Fn compare xs result) }
     {
         best(
             self,
@@ -454,7 +457,12 @@ pub trait NonEmptyIterator: IntoIterator {
         Self::Item: Drop,
         requires runs { ⟦<Self as Source>⟧.ends self }
         requires callable { (it : Self.IntoIter) → Self.into_iter_gives self it → CallableOnAllAt Self.IntoIter.next_gives F.FnMut it key }
-        ensures { (ps : List (Self.Item × B)) × (k : B) × (g : F) × ⟦<Self as Source>⟧.reads true self (map (λ p. p.0) ps) × ShownEach F.FnMut key ps g × IsFirstGreatest (λ p q. less_by B.cmp p.1 q.1) ps (result, k) }
+        ensures gives { (ps : List (Self.Item × B)) × (k : B) × (g : F)
+            × ⟦<Self as Source>⟧.reads true self (map (λ p. p.0) ps) × ShownEach F.FnMut key ps g
+            × IsFirstGreatest (λ p q. less_by B.cmp p.1 q.1) ps (result, k) }
+        ensures lists { EachList (⟦<Self as Source>⟧.lists) self (λ xs. (h : Self.Item → B)
+            → ActsAsAt F.FnMut key h → Contains xs result
+            × All (λ x. less_by B.cmp (h result) (h x) ≡ false) xs) }
     {
         best_by_key(self, key, |kept, next| kept < next)
     }
@@ -486,7 +494,10 @@ pub trait NonEmptyIterator: IntoIterator {
         Self::Item: Drop,
         requires runs { ⟦<Self as Source>⟧.ends self }
         requires callable { (it : Self.IntoIter) → Self.into_iter_gives self it → CallableOnTwo Self.IntoIter.next_gives F.Fn it compare }
-        ensures { (xs : List Self.Item) × ⟦<Self as Source>⟧.reads true self xs × PicksLeast F.Fn compare xs result }
+        ensures gives { (xs : List Self.Item) × ⟦<Self as Source>⟧.reads true self xs
+            × PicksLeast F.Fn compare xs result }
+        ensures lists { EachList (⟦<Self as Source>⟧.lists) self (λ xs.
+            PicksLeast F.Fn compare xs result) }
     {
         best(
             self,
@@ -503,7 +514,12 @@ pub trait NonEmptyIterator: IntoIterator {
         Self::Item: Drop,
         requires runs { ⟦<Self as Source>⟧.ends self }
         requires callable { (it : Self.IntoIter) → Self.into_iter_gives self it → CallableOnAllAt Self.IntoIter.next_gives F.FnMut it key }
-        ensures { (ps : List (Self.Item × B)) × (k : B) × (g : F) × ⟦<Self as Source>⟧.reads true self (map (λ p. p.0) ps) × ShownEach F.FnMut key ps g × IsFirstLeast (λ p q. less_by B.cmp p.1 q.1) ps (result, k) }
+        ensures gives { (ps : List (Self.Item × B)) × (k : B) × (g : F)
+            × ⟦<Self as Source>⟧.reads true self (map (λ p. p.0) ps) × ShownEach F.FnMut key ps g
+            × IsFirstLeast (λ p q. less_by B.cmp p.1 q.1) ps (result, k) }
+        ensures lists { EachList (⟦<Self as Source>⟧.lists) self (λ xs. (h : Self.Item → B)
+            → ActsAsAt F.FnMut key h → Contains xs result
+            × All (λ x. less_by B.cmp (h x) (h result) ≡ false) xs) }
     {
         best_by_key(self, key, |kept, next| next < kept)
     }

@@ -3,7 +3,7 @@ use Rattle.std.proofs.lemmas.List.MinMax.{ranks_by}
 use Rattle.ne_iter.specs.Answers.{less_by}
 use Rattle.ne_iter.proofs.Best.{IsFirstGreatest-kept, less_by-from_partial_lt}
 use Rattle.ne_iter.proofs.Traced.{best_run_of}
-use Rattle.std.specs.Prelude.{◌≡◌, All, Contains}
+use Rattle.std.specs.Prelude.{◌≡◌, false, All, Contains}
 use Rattle.ne_iter.proofs.Extremes.{best_is}
 use Rattle.ne_vec.specs.FrontLaws.{marked}
 use Rattle.ne_iter.proofs.ReadLists.{of_read}
@@ -30,8 +30,8 @@ pub returns-clause-lists : goal.returns-clause-lists
 returns-clause-lists g c xs lists = 
     let r = returns-clause-gives g c in (
       marked _ xs,
-      of_read _ _ _ xs lists (λ l. Contains l c.loop-x.best
-          × All (λ x. less_by g.Self.Item.Ord.cmp c.loop-x.best x ≡ false) l) r.0 r.1
+      of_read _ _ _ xs lists (λ l. Contains l c.best.result
+          × All (λ x. less_by g.Self.Item.Ord.cmp c.best.result x ≡ false) l) r.0 r.1
           (best_is (λ x y. less_by g.Self.Item.Ord.cmp y x) (λ x y. less_by g.Self.Item.Ord.cmp x y ≡ false)
-          (λ x y h. h) r.0 r.2.0 c.loop-x.best r.2.1 r.2.2),
+          (λ x y h. h) r.0 r.2.0 c.best.result r.2.1 r.2.2),
     )

@@ -1,10 +1,13 @@
 use Rattle.std.proofs.Common.{◌∷◌, rules}
 use Rattle.std.specs.Ordering.{is_gt}
 use Rattle.ne_iter.proofs.Best.{AnswersAs-through, Contains-kept, IsFirstLeast-kept}
+use Rattle.ne_iter.specs.Answers.{PicksLeast}
+use Rattle.ne_vec.specs.FrontLaws.{marked}
+use Rattle.ne_iter.proofs.ReadLists.{of_read}
 use Rattle.ne_iter.proofs.iter.non_empty.NonEmptyIterator.min_by.Goals as goal
 
-pub returns : goal.returns
-returns g c =
+pub returns-clause-gives : goal.returns-clause-gives
+returns-clause-gives g c =
     let kept = c.best.ensures in
     let items = kept.0 ∷ kept.1 in (
       items,
@@ -16,4 +19,11 @@ returns g c =
             (AnswersAs-through _ _ g.F.Fn c.args.compare items is_gt (λ x y. less y x)
             (λ v w t says. search (rules, says)) answers) kept.3,
       ),
+    )
+
+pub returns-clause-lists : goal.returns-clause-lists
+returns-clause-lists g c xs lists =
+    let r = returns-clause-gives g c in (
+      marked _ xs,
+      of_read _ _ _ xs lists (λ l. PicksLeast g.F.Fn c.args.compare l c.best.result) r.0 r.1 r.2,
     )

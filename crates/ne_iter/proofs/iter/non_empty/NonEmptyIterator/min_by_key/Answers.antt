@@ -2,10 +2,14 @@ use Rattle.std.proofs.Common.{◌∷◌, rules}
 use Rattle.std.proofs.lemmas.List.MinMax.{ranks_by}
 use Rattle.ne_iter.specs.Answers.{less_by}
 use Rattle.ne_iter.proofs.Best.{IsFirstLeast-kept, less_by-from_partial_lt}
+use Rattle.std.specs.Prelude.{◌≡◌, false, All, Contains}
+use Rattle.ne_vec.specs.FrontLaws.{marked}
+use Rattle.ne_iter.proofs.ReadLists.{of_read}
+use Rattle.ne_iter.proofs.KeyedBest.{keyed_least}
 use Rattle.ne_iter.proofs.iter.non_empty.NonEmptyIterator.min_by_key.Goals as goal
 
-pub returns : goal.returns
-returns g c =
+pub returns-clause-gives : goal.returns-clause-gives
+returns-clause-gives g c =
     let kept = c.best_by_key.ensures in
     let key = g.met.B.Ord in (
       kept.0 ∷ kept.1,
@@ -18,4 +22,13 @@ returns g c =
           (λ p q t a b says.
           less_by-from_partial_lt key.matches_partial_cmp q.1 p.1 t (search rules))
           kept.6,
+    )
+
+pub returns-clause-lists : goal.returns-clause-lists
+returns-clause-lists g c xs lists =
+    let r = returns-clause-gives g c in (
+      marked _ xs,
+      λ h acts. of_read _ _ _ xs lists (λ l. Contains l c.best_by_key.result
+          × All (λ x. less_by g.B.Ord.cmp (h x) (h c.best_by_key.result) ≡ false) l) _ r.3
+          (keyed_least g.B.Ord.cmp g.F.FnMut c.args.key h acts r.0 c.best_by_key.result r.1 r.2 r.4 r.5),
     )
