@@ -1,6 +1,6 @@
 //! Each adapter, collected.
-ghost use Rattle.std.specs.Prelude.{◌≡◌, ◌/◌, ◌<◌, ◌++◌, ◌∷◌, [], map, filter, take, drop, IfOk, ltb};
-ghost use Rattle.std.specs.List.{All, enumerate_from, zip, flat_map};
+ghost use Rattle.std.specs.Prelude.{◌≡◌, ◌/◌, ◌++◌, ◌∷◌, [], map, filter, take, drop, IfOk, ltb};
+ghost use Rattle.std.specs.List.{enumerate_from, take_while, zip, flat_map};
 ghost use Rattle.std.specs.Int.NonZero.{non_zero_usize_get};
 
 use nonempty_collections::{IntoNonEmptyIterator, NEVec, NonEmptyIterator, iter};
@@ -100,7 +100,7 @@ pub fn rest(alloc: Global, items: NEVec<u32>) -> Result<Vec<u32>, AllocError>
 
 /// The items in front of the first one that is 10 or more.
 pub fn small_front(alloc: Global, items: NEVec<u32>) -> Result<Vec<u32>, AllocError>
-    ensures { IfOk result (λ v. All (λ x. x < 10) v.items) }
+    ensures { IfOk result (λ v. v.items ≡ take_while (λ x. ltb x 10) items) }
 {
     items
         .into_nonempty_iter()

@@ -2,6 +2,7 @@
 ghost use Rattle.std.specs.Prelude.{
   ◌≡◌,
   ◌/◌,
+  ◌%◌,
   ◌+◌,
   ◌++◌,
   ◌<◌,
@@ -65,6 +66,14 @@ pub fn greatest_half(items: &NEVec<u32>) -> u32
     ensures bound { All (λ x. x ≤ result) (map (λ x. x / 2) items.now) }
 {
     items.nonempty_iter().map(|x| *x / 2).max()
+}
+
+/// The item of the greatest rest by 10.
+pub fn greatest_digit(items: NEVec<u32>) -> u32
+    ensures among { Contains items result }
+    ensures bound { All (λ x. x % 10 ≤ result % 10) items }
+{
+    items.into_nonempty_iter().max_by_key(|x| *x % 10)
 }
 
 /// A fold to a total.

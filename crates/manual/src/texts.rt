@@ -19,18 +19,25 @@ ghost use Rattle.std.specs.Prelude.{
   nat_eq,
   IfOk,
   IfSome,
-  IsTrue,
-  IsFalse,
-  IfNone,
   IsPermutation,
+  Some,
+  None,
   ltb,
+  max,
+  cond,
   true,
   false,
 };
 ghost use Rattle.std.specs.List.{
   All,
-  Any,
+  AllAdjacentBelow,
   Contains,
+  find,
+  list_all,
+  list_any,
+  prefix_len,
+  scan,
+  take_while,
   enumerate_from,
   zip,
   flat_map,
@@ -120,7 +127,10 @@ pub fn paired<'a>(
 ) -> Result<NEVec<(&'a str, &'a str)>, AllocError>
     ensures { IfOk result (λ v. v ≡ zip texts.entry others.entry) }
 {
-    texts.into_nonempty_iter().zip(others).collect(alloc)
+    texts
+        .into_nonempty_iter()
+        .zip(others.into_nonempty_iter())
+        .collect(alloc)
 }
 
 /// The texts of a source for each text.
@@ -142,7 +152,10 @@ pub fn flattened<'a>(
 }
 
 /// The greatest length so far, at each text.
-pub fn longest_so_far(alloc: Global, texts: NEVec<&str>) -> Result<NEVec<usize>, AllocError> {
+pub fn longest_so_far(alloc: Global, texts: NEVec<&str>) -> Result<NEVec<usize>, AllocError>
+    ensures { IfOk result (λ v. v ≡ scan (λ n t. max n (length t.now))
+        (λ n t. max n (length t.now)) 0 texts.entry) }
+{
     texts
         .into_nonempty_iter()
         .scan(0, |longest, t| {
@@ -223,7 +236,10 @@ pub fn least<'a>(texts: NEVec<&'a str>) -> &'a str
 }
 
 /// The longest text.
-pub fn longest<'a>(texts: NEVec<&'a str>) -> &'a str {
+pub fn longest<'a>(texts: NEVec<&'a str>) -> &'a str
+    ensures among { Contains texts.entry result }
+    ensures bound { All (λ t. length t.now ≤ length result.now) texts.entry }
+{
     texts.into_nonempty_iter().max_by_key(|t| t.len())
 }
 
@@ -251,24 +267,21 @@ pub fn reduced<'a>(texts: NEVec<&'a str>) -> &'a str
 
 /// Whether all texts are shorter than 10 bytes.
 pub fn all_short(texts: NEVec<&str>) -> bool
-    ensures all { IsTrue result → All (λ t. length t.now < 10) texts.entry }
-    ensures not_all { IsFalse result → Any (λ t. 10 ≤ length t.now) texts.entry }
+    ensures { result ≡ list_all (λ t. ltb (length t.now) 10) texts.entry }
 {
     texts.into_nonempty_iter().all(|t| t.len() < 10)
 }
 
 /// Whether a text is shorter than 10 bytes.
 pub fn any_short(texts: NEVec<&str>) -> bool
-    ensures any { IsTrue result → Any (λ t. length t.now < 10) texts.entry }
-    ensures none { IsFalse result → All (λ t. 10 ≤ length t.now) texts.entry }
+    ensures { result ≡ list_any (λ t. ltb (length t.now) 10) texts.entry }
 {
     texts.into_nonempty_iter().any(|t| t.len() < 10)
 }
 
-/// A text that is shorter than 10 bytes.
+/// The first text that is shorter than 10 bytes.
 pub fn some_short<'a>(texts: NEVec<&'a str>) -> Option<&'a str>
-    ensures found { IfSome result (λ t. Contains texts.entry t × (length t.now < 10)) }
-    ensures none { IfNone result (All (λ t. 10 ≤ length t.now) texts.entry) }
+    ensures { result ≡ find (λ t. ltb (length t.now) 10) texts.entry }
 {
     texts.into_nonempty_iter().find(|t| t.len() < 10)
 }
@@ -299,7 +312,8 @@ pub fn short<'a>(alloc: Global, texts: NEVec<&'a str>) -> Result<Vec<&'a str>, A
 
 /// The lengths of the texts that are shorter than 10 bytes.
 pub fn short_lengths(alloc: Global, texts: NEVec<&str>) -> Result<Vec<usize>, AllocError>
-    ensures { IfOk result (λ v. All (λ n. n < 10) v.items) }
+    ensures { IfOk result (λ v. v.items ≡ filter_map
+        (λ t. cond (ltb (length t.now) 10) (Some (length t.now)) None) texts.entry) }
 {
     texts
         .into_nonempty_iter()
@@ -316,7 +330,8 @@ pub fn rest<'a>(alloc: Global, texts: NEVec<&'a str>) -> Result<Vec<&'a str>, Al
 
 /// The texts from the first one on that has 10 bytes or more.
 pub fn from_first_long<'a>(alloc: Global, texts: NEVec<&'a str>) -> Result<Vec<&'a str>, AllocError>
-    ensures { IfOk result (λ v. IfSome (slice_get v.items 0) (λ t. 10 ≤ length t.now)) }
+    ensures { IfOk result (λ v. v.items ≡ drop
+        (prefix_len (λ t. ltb (length t.now) 10) texts.entry) texts.entry) }
 {
     texts
         .into_nonempty_iter()
@@ -326,7 +341,7 @@ pub fn from_first_long<'a>(alloc: Global, texts: NEVec<&'a str>) -> Result<Vec<&
 
 /// The texts in front of the first one that has 10 bytes or more.
 pub fn short_front<'a>(alloc: Global, texts: NEVec<&'a str>) -> Result<Vec<&'a str>, AllocError>
-    ensures { IfOk result (λ v. All (λ t. length t.now < 10) v.items) }
+    ensures { IfOk result (λ v. v.items ≡ take_while (λ t. ltb (length t.now) 10) texts.entry) }
 {
     texts
         .into_nonempty_iter()
@@ -336,7 +351,9 @@ pub fn short_front<'a>(alloc: Global, texts: NEVec<&'a str>) -> Result<Vec<&'a s
 
 /// The texts in the order of their lengths.
 pub fn sorted<'a>(alloc: Global, texts: NEVec<&'a str>) -> Result<NEVec<&'a str>, AllocError>
-    ensures { IfOk result (λ v. IsPermutation texts.entry v) }
+    ensures permutation { IfOk result (λ v. IsPermutation texts.entry v) }
+    ensures sorted { IfOk result (λ v. AllAdjacentBelow (λ s t. length s.now ≤ length t.now) v
+        (length v)) }
 {
     texts
         .into_nonempty_iter()
@@ -349,7 +366,8 @@ pub fn parted<'a>(
     alloc: Global,
     texts: NEVec<&'a str>,
 ) -> Result<(NEVec<&'a str>, NEVec<usize>), AllocError>
-    ensures { IfOk result (λ r. r.1 ≡ map (λ t. length t.now) texts.entry) }
+    ensures firsts { IfOk result (λ r. r.0 ≡ texts.entry) }
+    ensures lengths { IfOk result (λ r. r.1 ≡ map (λ t. length t.now) texts.entry) }
 {
     texts
         .into_nonempty_iter()

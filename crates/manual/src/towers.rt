@@ -268,14 +268,6 @@ pub fn with_two_more(alloc: Global, items: NEVec<u32>) -> Result<NEVec<u32>, All
     items.into_nonempty_iter().chain([7, 8]).collect(alloc)
 }
 
-/// `take` over references, `map`, and the sum.
-pub fn sum_of_first_halves(items: &NEVec<u32>, n: NonZeroUsize) -> u32
-    requires { sum (map (λ x. x / 2) (take (non_zero_usize_get n) items.now)) < 2 ^ 32 }
-    ensures { result ≡ sum (map (λ x. x / 2) (take (non_zero_usize_get n) items.now)) }
-{
-    items.nonempty_iter().take(n).map(|x| *x / 2).sum()
-}
-
 /// `scan`, and then `take`: the first running sums.
 pub fn first_running_sums(
     alloc: Global,

@@ -3,4 +3,4 @@ use Rattle.ne_iter.specs.ArrayLaws.{array_gives}
 use Rattle.ne_iter.proofs.array.ArrayIntoNonEmptyIterator.into_nonempty_iter.Goals as goal
 
 pub returns : goal.returns
-returns g c = record { into_nonempty_iter_gives = (refl, array_gives _ _ _ (λ it made. made.0.0)); }
+returns g c = record { into_nonempty_iter_gives = (refl, array_gives _ _ _ (λ it made. made.0.0)) }

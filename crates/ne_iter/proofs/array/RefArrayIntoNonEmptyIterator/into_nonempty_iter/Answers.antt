@@ -6,4 +6,4 @@ pub returns : goal.returns
 returns g c =
     let e : c.from.result ≡ c.args.self.now =
     (let h = c.from.ensures in let k = c.in-Some.ensures.same in cc) in
-    record { into_nonempty_iter_gives = (e, search rules, walk_shows _ _ e); }
+    record { into_nonempty_iter_gives = (e, search rules, walk_shows _ _ e) }

@@ -4,4 +4,4 @@ use Rattle.ne_iter.proofs.slice.NESliceIntoNonEmptyIterator.into_nonempty_iter.G
 pub returns : goal.returns
 returns g c =
     let e = c.from.ensures in
-    record { into_nonempty_iter_gives = (e, walk_shows _ _ e); }
+    record { into_nonempty_iter_gives = (e, walk_shows _ _ e) }

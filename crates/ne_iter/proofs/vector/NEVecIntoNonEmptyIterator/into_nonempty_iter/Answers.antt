@@ -5,4 +5,4 @@ use Rattle.ne_iter.proofs.vector.NEVecIntoNonEmptyIterator.into_nonempty_iter.Go
 pub returns : goal.returns
 returns g c =
     let e = c.from.ensures in
-    record { into_nonempty_iter_gives = (e, walk_gives _ _ e Global); }
+    record { into_nonempty_iter_gives = (e, walk_gives _ _ e Global) }

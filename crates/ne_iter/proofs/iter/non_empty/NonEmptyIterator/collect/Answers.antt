@@ -10,7 +10,7 @@ pub returns-clause-runs : goal.returns-clause-runs
 returns-clause-runs g c = IfOk-weaker c.from_nonempty_iter.result _ _ (λ v h. run_of h.1 (λ l. g.B.FromNonEmptyIterator.collected l v) h.2) c.from_nonempty_iter.ensures
 
 pub returns-clause-lists : goal.returns-clause-lists
-returns-clause-lists g c = 
+returns-clause-lists g c =
     IfOk-weaker c.from_nonempty_iter.result _ _ (λ v h xs lists. (
       marked c.args.self xs,
       λ complete. of_read _ _ _ xs lists (λ l. g.B.FromNonEmptyIterator.collected l v) h.0

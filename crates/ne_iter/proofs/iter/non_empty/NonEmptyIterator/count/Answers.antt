@@ -11,7 +11,7 @@ returns-clause-runs g c =
     (c.into_iter.result, c.into_iter.ensures.into_iter_gives, (r.0, r.1, r.2, c.in-Some.ensures ∙ r.3))
 
 pub returns-clause-lists : goal.returns-clause-lists
-returns-clause-lists g c xs lists = 
+returns-clause-lists g c xs lists =
     let ran = c.count.ensures.ran in (
       marked _ xs,
       of_drained _ _ _ xs lists (λ l. non_zero_usize_get c.in-Some.n ≡ length l) c.into_iter.result

@@ -12,5 +12,5 @@ returns-clause-gives g c whole ys h =
     (p.0, record { it = enumerate_source h.it; made = h.made.0; given = p.1 }, subst (λ n. ys ≡ enumerate_from n p.0) h.made.1 p.2)
 
 pub returns-clause-lists : goal.returns-clause-lists
-returns-clause-lists g c = 
+returns-clause-lists g c =
     gives_each (enumerate_from 0) (enumerate_list (returns-clause-gives g c))

@@ -5,7 +5,7 @@ use Rattle.ne_iter.proofs.ReadLists.{of_run}
 use Rattle.ne_iter.proofs.iter.non_empty.NonEmptyIterator.fold.Goals as goal
 
 pub returns-clause-lists : goal.returns-clause-lists
-returns-clause-lists g c xs lists = 
+returns-clause-lists g c xs lists =
     let run = c.fold.ensures.runs in (
       marked _ xs,
       λ h acts. of_run _ _ _ xs lists (λ l. c.fold.result ≡ fold h c.args.init l) c.into_iter.result

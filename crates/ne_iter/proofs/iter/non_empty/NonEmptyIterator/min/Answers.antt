@@ -27,7 +27,7 @@ returns-clause-runs g c =
     best_run_of (less_by g.Self.Item.Ord.cmp) r.0 _ r.2.0 r.2.1 r.2.2 r.1
 
 pub returns-clause-lists : goal.returns-clause-lists
-returns-clause-lists g c xs lists = 
+returns-clause-lists g c xs lists =
     let r = returns-clause-gives g c in (
       marked _ xs,
       of_read _ _ _ xs lists (λ l. Contains l c.best.result

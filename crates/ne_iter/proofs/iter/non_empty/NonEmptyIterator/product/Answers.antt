@@ -3,7 +3,7 @@ use Rattle.ne_iter.proofs.ReadLists.{of_drained}
 use Rattle.ne_iter.proofs.iter.non_empty.NonEmptyIterator.product.Goals as goal
 
 pub returns-clause-lists : goal.returns-clause-lists
-returns-clause-lists g c xs lists = 
+returns-clause-lists g c xs lists =
     let ran = c.product.ensures.ran in (
       marked _ xs,
       λ complete. of_drained _ _ _ xs lists (λ l. g.P.Product.product_gives l c.product.result) c.into_iter.result

@@ -6,7 +6,7 @@ use Rattle.ne_iter.proofs.ReadLists.{of_run}
 use Rattle.ne_iter.proofs.iter.non_empty.NonEmptyIterator.reduce.Goals as goal
 
 pub returns-clause-lists : goal.returns-clause-lists
-returns-clause-lists g c xs lists = 
+returns-clause-lists g c xs lists =
     let run = c.in-Some.ensures.runs in
     let first = run.3.1 in (
       marked _ xs,

@@ -3,7 +3,7 @@ use Rattle.ne_iter.proofs.ReadLists.{of_drained}
 use Rattle.ne_iter.proofs.iter.non_empty.NonEmptyIterator.sum.Goals as goal
 
 pub returns-clause-lists : goal.returns-clause-lists
-returns-clause-lists g c xs lists = 
+returns-clause-lists g c xs lists =
     let ran = c.sum.ensures.ran in (
       marked _ xs,
       λ complete. of_drained _ _ _ xs lists (λ l. g.S.Sum.sum_gives l c.sum.result) c.into_iter.result

@@ -38,7 +38,7 @@ returns-clause-runs g c =
     whole_run_of r.1 _ (r.2, r.3, indexes r.0 (λ x. x.0), indexes r.0 (λ x. x.1))
 
 pub returns-clause-lists : goal.returns-clause-lists
-returns-clause-lists g c ps lists = 
+returns-clause-lists g c ps lists =
     let r = returns-clause-gives g c in (
       marked _ ps,
       of_read _ _ _ ps lists (λ l. g.FromA.Singleton.collected (map (λ p. p.0) l) c.loop-a.firsts

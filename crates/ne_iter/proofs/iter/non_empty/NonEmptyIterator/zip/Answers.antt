@@ -19,5 +19,5 @@ returns-clause-gives g c whole ps h =
     )
 
 pub returns-clause-lists : goal.returns-clause-lists
-returns-clause-lists g c = 
+returns-clause-lists g c =
     zips_lists g.met.U.IntoNonEmptyIterator.same_lists (zip_list (returns-clause-gives g c))
