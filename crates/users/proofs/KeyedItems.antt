@@ -25,6 +25,7 @@ module _ {A : Type 0} (key : A → ℕ) where
         λ i d less.
             let here = get_or-map with_key xs i d (with_key d) less in
             let more = subst (λ n. i < n) (sym (length-map xs with_key)) less in
-            let least = ge_from_not_lt _ _ (subst (λ p. less_by nat_cmp p.1 k ≡ false) here (bound i (with_key d) more)) in
+            let least = ge_from_not_lt _ _
+            (subst (λ p. less_by nat_cmp p.1 k ≡ false) here (bound i (with_key d) more)) in
             subst (λ n. n ≤ key (get_or xs i d)) (sym keyed) least,
       )

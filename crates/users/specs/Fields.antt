@@ -12,8 +12,9 @@ use Rattle.users.specs.declared.validation.Fault.{Fault}
 abbrev pub number_of : List ℕ → Option ℕ
 number_of text =
     let digits = without_leading_plus text in
-    if nat_lt 0 (length digits) && all_ascii_digits digits && nat_lt (digits_value 10 digits) (2 ^ 32)
-    then Some (digits_value 10 digits) else None
+    let value = digits_value 10 digits in
+    if nat_lt 0 (length digits) && all_ascii_digits digits && nat_lt value (2 ^ 32)
+    then Some value else None
 
 -- What the field at a place says: its number, or that it is none.
 abbrev pub reading : ℕ → List ℕ → Result ℕ Fault

@@ -9,7 +9,8 @@ abbrev pub joined_by : List ℕ → List (String Global) → List ℕ
 joined_by separator parts = join_by string_bytes separator parts
 
 -- The query of these columns of this table, and, where there are some, on these conditions.
-abbrev pub query_text : List (String Global) → String Global → Option (List (String Global)) → List ℕ
+abbrev pub query_text : List (String Global) → String Global → Option (List (String Global))
+    → List ℕ
 query_text columns table None =
     codes "SELECT " ++ joined_by (codes ", ") columns ++ codes " FROM " ++ string_bytes table
 query_text columns table (Some conditions) =

@@ -85,8 +85,8 @@ pub fn push_joined(
     parts: &NEVec<String>,
     separator: &str,
 ) -> Result<(), AllocError>
-    ensures { OnOk result
-        (string_bytes text.new ≡ string_bytes text.old ++ join_by string_bytes separator.now parts.now) }
+    ensures { OnOk result (string_bytes text.new
+        ≡ string_bytes text.old ++ join_by string_bytes separator.now parts.now) }
 {
     let (first, rest) = parts.split_first();
     text.push_str(first.as_str())?;

@@ -19,17 +19,14 @@ ghost use Rattle.std.specs.Prelude.{
   sum,
   filter,
   ltb,
-  take,
   slice_get,
 };
-ghost use Rattle.std.specs.List.{All, Contains, enumerate_from, scan};
-ghost use Rattle.std.specs.Int.NonZero.{non_zero_usize_get};
+ghost use Rattle.std.specs.List.{All, Contains, scan};
 ghost use Rattle.users.specs.Turns.{rotated, finished, after, after_all};
 
 use nonempty_collections::{NEVec, NonEmptyIterator, laws};
 use std::alloc::{AllocError, Global};
 use std::marker::Model;
-use std::num::NonZeroUsize;
 
 /// The jobs in the order of their turns. There always is one.
 #[derive(Drop)]
@@ -96,8 +93,8 @@ impl<J: Drop> Queue<J> {
         self.jobs.as_mut_slice().rotate_left(1);
     }
 
-    /// Takes the job whose turn it is out, or answers `None`, exactly where it is the only one: that
-    /// one stays.
+    /// Takes the job whose turn it is out, or answers `None`, exactly where it is the only one:
+    /// that one stays.
     pub fn finish(&mut self) -> Option<J>
         ensures left { self.new ≡ finished self.old }
         ensures taken { MatchOption result (length self.old ≡ 1)

@@ -1,4 +1,4 @@
-use Rattle.std.proofs.Common.{◌≡◌, ℕ, false, map, rules, ap, sym, subst, ◌∙◌}
+use Rattle.std.proofs.Common.{◌≡◌, ℕ, false, map, rules, ap, subst, ◌∙◌}
 use Rattle.std.specs.Prelude.{All, Contains, ◌≤◌}
 use Rattle.std.specs.Ordering.{nat_cmp}
 use Rattle.ne_iter.specs.Answers.{less_by}
@@ -18,7 +18,8 @@ least_job c =
     let all = c.lists_are_read_whole.ensures jobs (map (λ p. p.0) found.0) copied found.3 in
     let keys = (c.keys_of_a_function.ensures.shown (λ j. j.minutes) found.0 found.2
     (λ x r f called. search rules) found.4).0 ∙ ap (map (λ j. (j, j.minutes))) (all ∙ same) in
-    let least = c.first_extremes_are_extremes.ensures.least (λ p q. less_by nat_cmp p.1 q.1) found.0 (c.min_by_key.result, found.1) found.5 in
+    let least = c.first_extremes_are_extremes.ensures.least
+    (λ p q. less_by nat_cmp p.1 q.1) found.0 (c.min_by_key.result, found.1) found.5 in
     least_by_key (λ j. j.minutes) c.args.self.now c.min_by_key.result found.1
     (subst (λ ps. Contains {X = Job × ℕ} ps (c.min_by_key.result, found.1)) keys least.0)
     (subst (λ ps. All {X = Job × ℕ} (λ p. less_by nat_cmp p.1 found.1 ≡ false) ps) keys least.1)
