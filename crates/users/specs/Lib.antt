@@ -1,0 +1,4 @@
+pub mod Fields
+pub mod Queries
+pub mod Reports
+pub mod Turns
