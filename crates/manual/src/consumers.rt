@@ -71,7 +71,7 @@ pub fn greatest_half(items: &NEVec<u32>) -> u32
 /// The item of the greatest rest by 10.
 pub fn greatest_digit(items: NEVec<u32>) -> u32
     ensures among { Contains items result }
-    ensures bound { All (λ x. x % 10 ≤ result % 10) items }
+    ensures bound { All (λ k. k ≤ result % 10) (map (λ x. x % 10) items) }
 {
     items.into_nonempty_iter().max_by_key(|x| *x % 10)
 }

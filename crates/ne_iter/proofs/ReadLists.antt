@@ -2,7 +2,7 @@
 use Rattle.std.proofs.Common.{refl, sym, ap, subst, append-nil, ◌∙◌}
 use Rattle.std.proofs.iter.runs.Made.{run, to_end}
 use Rattle.std.specs.Prelude.{◌≡◌, true, List, ◌++◌, Option}
-use Rattle.std.specs.Iterator.{Drains, DrainsIf}
+use Rattle.std.specs.Iterator.{Drains}
 use Rattle.std.specs.Iterator.Runs.{Run}
 use Rattle.ne_vec.specs.Fronts.{Lists, Shows, GivesItems, GivesShown}
 use Rattle.ne_vec.proofs.RunFronts.{gives_items, gives_shown, run_drains}

@@ -3,7 +3,7 @@ use Rattle.std.specs.Prelude.{◌≡◌, ◌^◌, ◌<◌, List, length}
 use Rattle.std.specs.Iterator.Runs.{EveryRun, ItemsAre, ItemsMapTo}
 use Rattle.std.specs.Iterator.Adapters.{IterYieldsInOrder}
 use Rattle.std.specs.Vec.Iter.{into_iter_items, into_iter_len, into_iter_steps}
-use Rattle.std.specs.Slice.Iter.{iter_rest, iter_steps, iter_mut_rest, iter_mut_steps}
+use Rattle.std.specs.Slice.Iter.{iter_rest, iter_mut_rest, iter_mut_steps}
 use Rattle.std.specs.declared.slice.Iter.{Iter}
 use Rattle.std.specs.declared.slice.IterMut.{IterMut}
 use Rattle.std.specs.declared.vec.IntoIter.{IntoIter}

@@ -24,7 +24,7 @@ ghost use Rattle.std.specs.Prelude.{
 ghost use Rattle.std.specs.List.{All, Contains, scan};
 ghost use Rattle.users.specs.Turns.{rotated, finished, after, after_all};
 
-use nonempty_collections::{NEVec, NonEmptyIterator, laws};
+use nonempty_collections::{NEVec, NonEmptyIterator};
 use std::alloc::{AllocError, Global};
 use std::marker::Model;
 
@@ -152,17 +152,12 @@ impl Queue<Job> {
     /// A job that takes the fewest minutes.
     pub fn shortest(&self) -> Job
         ensures among { Contains self.now result }
-        ensures least { All (λ j. result.minutes ≤ j.minutes) self.now }
+        ensures least { All (λ m. result.minutes ≤ m) (map (λ j. j.minutes) self.now) }
     {
-        let minutes = |job: &Job| job.minutes;
-        let jobs = self.jobs.nonempty_iter();
-        laws::vectors_give_their_items::<Job>();
-        laws::list_of_copied(&jobs);
-        let jobs = jobs.copied();
-        laws::lists_are_read_whole(&jobs);
-        laws::keys_of_a_function(&minutes);
-        laws::first_extremes_are_extremes::<(Job, u32)>();
-        jobs.min_by_key(minutes)
+        self.jobs
+            .nonempty_iter()
+            .copied()
+            .min_by_key(|job| job.minutes)
     }
 
     /// When each job begins, in minutes from now, modulo 2^64.
@@ -170,19 +165,15 @@ impl Queue<Job> {
         ensures { IfOk result (λ v.
             v ≡ scan (λ at j. (at + j.minutes) % 2 ^ 64) (λ at j. at) 0 self.now) }
     {
-        let begin = |at: &mut u64, job: Job| {
-            let beginning = *at;
-            *at = at.wrapping_add(u64::from(job.minutes));
-            beginning
-        };
-        let jobs = self.jobs.nonempty_iter();
-        laws::vectors_give_their_items::<Job>();
-        laws::list_of_copied(&jobs);
-        let jobs = jobs.copied();
-        laws::list_of_scan(&jobs, &begin);
-        let beginnings = jobs.scan(0, begin);
-        laws::lists_are_read_whole(&beginnings);
-        beginnings.collect(alloc)
+        self.jobs
+            .nonempty_iter()
+            .copied()
+            .scan(0, |at: &mut u64, job| {
+                let beginning = *at;
+                *at = at.wrapping_add(u64::from(job.minutes));
+                beginning
+            })
+            .collect(alloc)
     }
 
     /// The names of the jobs that take fewer minutes than `limit`.

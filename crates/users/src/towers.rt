@@ -1,20 +1,46 @@
-//! Towers of three to five adapters, over values, references and texts, each with the list that
-//! comes out.
-ghost use Rattle.std.specs.Prelude.{◌≡◌, ◌+◌, ◌<◌, ◌^◌, length};
+//! Towers of three to five adapters, over values and references, each with the list that comes
+//! out.
+ghost use Rattle.std.specs.Prelude.{◌≡◌, ◌+◌, ◌/◌, ◌%◌, ◌^◌, IfOk, map, take};
+ghost use Rattle.std.specs.List.{enumerate_from, scan};
 ghost use Rattle.std.specs.Int.NonZero.{non_zero_usize_get};
 
-use nonempty_collections::{NEVec, NonEmptyIterator};
+use nonempty_collections::{IntoNonEmptyIterator, NEVec, NonEmptyIterator};
+use std::alloc::{AllocError, Global};
 use std::num::NonZeroUsize;
 
-/// How many items two vectors have that are lent: `chain`, `copied`, `enumerate`.
-pub fn how_many_of_both(items: &NEVec<u32>, others: &NEVec<u32>) -> NonZeroUsize
-    requires { length items.now + length others.now < 2 ^ 64 }
-    ensures { non_zero_usize_get result ≡ length items.now + length others.now }
+/// The first `n` halves, with their places: `map`, `enumerate`, `take`.
+pub fn first_numbered(
+    alloc: Global,
+    items: NEVec<u32>,
+    n: NonZeroUsize,
+) -> Result<NEVec<(usize, u32)>, AllocError>
+    ensures { IfOk result (λ v.
+        v ≡ take (non_zero_usize_get n) (enumerate_from 0 (map (λ x. x / 2) items))) }
+{
+    items
+        .into_nonempty_iter()
+        .map(|x| x / 2)
+        .enumerate()
+        .take(n)
+        .collect(alloc)
+}
+
+/// The first `n` totals of the items so far, modulo 2^32: `copied`, `scan`, `take`.
+pub fn first_totals(
+    alloc: Global,
+    items: &NEVec<u32>,
+    n: NonZeroUsize,
+) -> Result<NEVec<u32>, AllocError>
+    ensures { IfOk result (λ v. v ≡ take (non_zero_usize_get n)
+        (scan (λ t x. (t + x) % 2 ^ 32) (λ t x. (t + x) % 2 ^ 32) 0 items.now)) }
 {
     items
         .nonempty_iter()
-        .chain(others.nonempty_iter())
         .copied()
-        .enumerate()
-        .count()
+        .scan(0, |total: &mut u32, x| {
+            *total = total.wrapping_add(x);
+            *total
+        })
+        .take(n)
+        .collect(alloc)
 }

@@ -460,9 +460,9 @@ pub trait NonEmptyIterator: IntoIterator {
         ensures gives { (ps : List (Self.Item × B)) × (k : B) × (g : F)
             × ⟦<Self as Source>⟧.reads true self (map (λ p. p.0) ps) × ShownEach F.FnMut key ps g
             × IsFirstGreatest (λ p q. less_by B.cmp p.1 q.1) ps (result, k) }
-        ensures lists { EachList (⟦<Self as Source>⟧.lists) self (λ xs. (h : Self.Item → B)
-            → ActsAsAt F.FnMut key h → Contains xs result
-            × All (λ x. less_by B.cmp (h result) (h x) ≡ false) xs) }
+        ensures lists { EachList (⟦<Self as Source>⟧.lists) self (λ xs. Contains xs result
+            × ((h : Self.Item → B) → ActsAsAt F.FnMut key h → (map h xs ≡ map h xs)
+            × All (λ k. less_by B.cmp (h result) k ≡ false) (map h xs))) }
     {
         best_by_key(self, key, |kept, next| kept < next)
     }
@@ -517,9 +517,9 @@ pub trait NonEmptyIterator: IntoIterator {
         ensures gives { (ps : List (Self.Item × B)) × (k : B) × (g : F)
             × ⟦<Self as Source>⟧.reads true self (map (λ p. p.0) ps) × ShownEach F.FnMut key ps g
             × IsFirstLeast (λ p q. less_by B.cmp p.1 q.1) ps (result, k) }
-        ensures lists { EachList (⟦<Self as Source>⟧.lists) self (λ xs. (h : Self.Item → B)
-            → ActsAsAt F.FnMut key h → Contains xs result
-            × All (λ x. less_by B.cmp (h x) (h result) ≡ false) xs) }
+        ensures lists { EachList (⟦<Self as Source>⟧.lists) self (λ xs. Contains xs result
+            × ((h : Self.Item → B) → ActsAsAt F.FnMut key h → (map h xs ≡ map h xs)
+            × All (λ k. less_by B.cmp k (h result) ≡ false) (map h xs))) }
     {
         best_by_key(self, key, |kept, next| next < kept)
     }

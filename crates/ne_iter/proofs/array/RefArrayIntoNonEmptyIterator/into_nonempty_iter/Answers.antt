@@ -1,4 +1,4 @@
-use Rattle.std.proofs.Common.{rules, ◌≡◌, length, ap, sym}
+use Rattle.std.proofs.Common.{rules, ◌≡◌}
 use Rattle.ne_vec.specs.WalkLaws.{walk_shows}
 use Rattle.ne_iter.proofs.array.RefArrayIntoNonEmptyIterator.into_nonempty_iter.Goals as goal
 

@@ -1,11 +1,11 @@
-use Rattle.std.proofs.Common.{◌∷◌, rules}
+use Rattle.std.proofs.Common.{◌∷◌, refl, rules}
 use Rattle.std.proofs.lemmas.List.MinMax.{ranks_by}
 use Rattle.ne_iter.specs.Answers.{less_by}
 use Rattle.ne_iter.proofs.Best.{IsFirstLeast-kept, less_by-from_partial_lt}
-use Rattle.std.specs.Prelude.{◌≡◌, false, All, Contains}
+use Rattle.std.specs.Prelude.{◌≡◌, false, map, All, Contains}
 use Rattle.ne_vec.specs.FrontLaws.{marked}
 use Rattle.ne_iter.proofs.ReadLists.{of_read}
-use Rattle.ne_iter.proofs.KeyedBest.{keyed_least}
+use Rattle.ne_iter.proofs.KeyedBest.{least_among, least_key}
 use Rattle.ne_iter.proofs.iter.non_empty.NonEmptyIterator.min_by_key.Goals as goal
 
 pub returns-clause-gives : goal.returns-clause-gives
@@ -26,9 +26,17 @@ returns-clause-gives g c =
 
 pub returns-clause-lists : goal.returns-clause-lists
 returns-clause-lists g c xs lists =
-    let r = returns-clause-gives g c in (
+    let r = returns-clause-gives g c in
+    let cmp = g.B.Ord.cmp in
+    let m = c.best_by_key.result in (
       marked _ xs,
-      λ h acts. of_read _ _ _ xs lists (λ l. Contains l c.best_by_key.result
-          × All (λ x. less_by g.B.Ord.cmp (h x) (h c.best_by_key.result) ≡ false) l) _ r.3
-          (keyed_least g.B.Ord.cmp g.F.FnMut c.args.key h acts r.0 c.best_by_key.result r.1 r.2 r.4 r.5),
+      (
+        of_read _ _ _ xs lists (λ l. Contains l m) _ r.3 (least_among cmp r.0 m r.1 r.5),
+        λ h acts. (
+          refl,
+          of_read _ _ _ xs lists
+              (λ l. All (λ k. less_by g.B.Ord.cmp k (h c.best_by_key.result) ≡ false) (map h l)) _ r.3
+              (least_key cmp g.F.FnMut c.args.key h acts r.0 m r.1 r.2 r.4 r.5),
+        ),
+      ),
     )
