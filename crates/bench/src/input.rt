@@ -27,7 +27,8 @@ pub fn scrambled(alloc: Global, n: NonZeroUsize) -> Result<NEVec<u64>, AllocErro
     Ok(items)
 }
 
-/// `n` numbers that rise by 1 now and then, in runs of about `mask + 1`, where that is a power of two.
+/// `n` numbers that rise by 1 now and then, in runs of about `mask + 1`, where that is a power of
+/// two.
 pub fn rising(alloc: Global, n: NonZeroUsize, mask: u64) -> Result<NEVec<u64>, AllocError> {
     let mut state = 1u64;
     let mut item = 0u64;

@@ -1,7 +1,7 @@
 //! Runs a workload over the collections, and prints a checksum of what came of it.
 //!
-//! `bench WORKLOAD SIZE` is timed beside a twin in Rust, over the Rust crate: see `compare/bench`. The checksum is there so that both
-//! can be compared, and that nothing is left out as unused.
+//! `bench WORKLOAD SIZE` is timed beside a twin in Rust, over the Rust crate: see `compare/bench`.
+//! The checksum is there so that both can be compared, and that nothing is left out as unused.
 #![tactic(auto)]
 
 mod input;

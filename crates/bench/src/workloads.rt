@@ -185,7 +185,8 @@ fn scan(alloc: Global, n: NonZeroUsize) -> Result<u64, AllocError> {
     Ok(checksum)
 }
 
-// The number of keys and the sum of all values, which tell nothing of the order in which a hash map is walked.
+// The number of keys and the sum of all values, which tell nothing of the order in which a hash map
+// is walked.
 fn hash_map(alloc: Global, n: NonZeroUsize) -> Result<u64, AllocError> {
     let items = paired(alloc, n)?.into_nonempty_iter();
     let map: HashMap<u64, u64> = items.collect(alloc)?;

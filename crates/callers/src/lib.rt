@@ -1,7 +1,8 @@
 //! Callers of the library, in a crate above it.
 //!
-//! What each of them ensures is proved from the public contracts of the calls that it makes. The tests hold what no contract says:
-//! worked rows, printed texts, and that each call succeeds where there is memory.
+//! What each of them ensures is proved from the public contracts of the calls that it makes. The
+//! tests hold what no contract says: worked rows, printed texts, and that each call succeeds where
+//! there is memory.
 #![tactic(auto)]
 
 #[cfg(test)]

@@ -172,13 +172,15 @@ pub(crate) fn halves_nonempty(alloc: Global, v: &NEVec<u32>) -> Result<Vec<u32>,
 
 // Keeps the small ones.
 pub(crate) fn small_ones(v: NEVec<u32>) -> Result<NEVec<u32>, Vec<u32>>
-    ensures { MatchResult result (λ w. w ≡ filter (λ x. nat_lt x 10) v) (λ _. filter (λ x. nat_lt x 10) v ≡ []) }
+    ensures { MatchResult result (λ w. w ≡ filter (λ x. nat_lt x 10) v)
+        (λ _. filter (λ x. nat_lt x 10) v ≡ []) }
 {
     v.retain(|x| *x < 10)
 }
 
 pub(crate) fn ends(s: &NESlice<'_, u8>) -> (u8, u8)
-    ensures { (slice_get s.now 0 ≡ Some result.0) × (slice_get s.now (length s.now - 1) ≡ Some result.1) }
+    ensures { (slice_get s.now 0 ≡ Some result.0)
+        × (slice_get s.now (length s.now - 1) ≡ Some result.1) }
 {
     (*s.first(), *s.last())
 }

@@ -1,5 +1,6 @@
 //! Each adapter, collected.
-ghost use Rattle.std.specs.Prelude.{◌≡◌, ◌/◌, ◌++◌, ◌∷◌, [], map, filter, take, drop, IfOk, ltb};
+ghost use Rattle.std.specs.Prelude.{◌≡◌, ◌/◌, ◌++◌, ◌∷◌, [], map, filter, take, drop, IfOk, Ok};
+ghost use Rattle.std.specs.Prelude.{ltb};
 ghost use Rattle.std.specs.List.{enumerate_from, take_while, zip, flat_map};
 ghost use Rattle.std.specs.Int.NonZero.{non_zero_usize_get};
 
@@ -19,6 +20,16 @@ pub fn halves_as_vec(alloc: Global, items: NEVec<u32>) -> Result<Vec<u32>, Alloc
     ensures { IfOk result (λ v. v.items ≡ map (λ x. x / 2) items) }
 {
     items.into_nonempty_iter().map(|x| x / 2).collect(alloc)
+}
+
+/// The items of a vector that is lent, by clones. Those of a number are never refused.
+pub fn cloned(
+    alloc: Global,
+    items: &NEVec<u32>,
+) -> Result<Result<NEVec<u32>, AllocError>, AllocError>
+    ensures { IfOk result (λ r. r ≡ Ok items.now) }
+{
+    items.nonempty_iter().cloned().collect(alloc)
 }
 
 /// The items with their places.

@@ -5,7 +5,7 @@ ghost use Rattle.std.specs.List.{All, Contains, enumerate_from};
 ghost use Rattle.std.specs.Int.NonZero.{non_zero_usize_get};
 ghost use Rattle.ne_vec.specs.Fronts.{Listed};
 
-use nonempty_collections::iter::Source;
+use nonempty_collections::iter::SourceWords;
 use nonempty_collections::{IntoNonEmptyIterator, NEVec, NonEmptyIterator};
 use std::alloc::{AllocError, Global};
 use std::num::NonZeroUsize;
@@ -15,7 +15,7 @@ pub fn halves<S: NonEmptyIterator<Item = u32>>(
     alloc: Global,
     source: S,
 ) -> Result<NEVec<u32>, AllocError>
-    requires { ⟦<S as Source>⟧.ends source }
+    requires { ⟦<S as SourceWords>⟧.ends source }
     ensures { IfOk result (λ v. (xs : List ℕ)
         → Listed S.into_iter_gives S.IntoIter.next_gives source xs
         → v ≡ map (λ x. x / 2) xs) }
@@ -29,7 +29,7 @@ pub fn first_halves<S: NonEmptyIterator<Item = u32>>(
     source: S,
     n: NonZeroUsize,
 ) -> Result<NEVec<u32>, AllocError>
-    requires { ⟦<S as Source>⟧.ends source }
+    requires { ⟦<S as SourceWords>⟧.ends source }
     ensures { IfOk result (λ v. (xs : List ℕ)
         → Listed S.into_iter_gives S.IntoIter.next_gives source xs
         → v ≡ take (non_zero_usize_get n) (map (λ x. x / 2) xs)) }
@@ -42,7 +42,7 @@ pub fn small<S: NonEmptyIterator<Item = u32>>(
     alloc: Global,
     source: S,
 ) -> Result<Vec<u32>, AllocError>
-    requires { ⟦<S as Source>⟧.ends source }
+    requires { ⟦<S as SourceWords>⟧.ends source }
     ensures { IfOk result (λ v. (xs : List ℕ)
         → Listed S.into_iter_gives S.IntoIter.next_gives source xs
         → v.items ≡ filter (λ x. ltb x 10) xs) }
@@ -52,7 +52,7 @@ pub fn small<S: NonEmptyIterator<Item = u32>>(
 
 /// The greatest item.
 pub fn greatest<S: NonEmptyIterator<Item = u32>>(source: S) -> u32
-    requires { ⟦<S as Source>⟧.ends source }
+    requires { ⟦<S as SourceWords>⟧.ends source }
     ensures among { (xs : List ℕ) → Listed S.into_iter_gives S.IntoIter.next_gives source xs
         → Contains xs result }
     ensures bound { (xs : List ℕ) → Listed S.into_iter_gives S.IntoIter.next_gives source xs

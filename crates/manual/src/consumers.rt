@@ -13,16 +13,24 @@ ghost use Rattle.std.specs.Prelude.{
   length,
   slice_get,
   Some,
+  Ok,
+  Err,
   IfOk,
   IfSome,
+  IsPermutation,
   IsTrue,
+  MatchResult,
   nat_eq,
   ltb,
   eqb,
+  cond,
 };
-ghost use Rattle.std.specs.List.{All, Contains, find, fold, list_all, list_any, reduce as list_reduce};
+ghost use Rattle.std.specs.List.{All, Contains, find, fold, list_all, list_any};
+ghost use Rattle.std.specs.List.{reduce as list_reduce};
 ghost use Rattle.std.specs.Int.NonZero.{non_zero_usize_get};
-ghost use Rattle.ne_iter.specs.Collected.{IsMapOf};
+ghost use Rattle.std.specs.Ordering.{nat_cmp};
+ghost use Rattle.ne_iter.specs.Collected.{IsMapOf, values_or_first_err};
+ghost use Rattle.ne_iter.specs.KeyOrder.{KeepsTies, KeysAscend};
 
 use nonempty_collections::{IntoNonEmptyIterator, NEVec, NonEmptyIterator};
 use std::alloc::{AllocError, Global};
@@ -180,10 +188,35 @@ pub fn any_three(items: NEVec<u32>) -> bool
 
 /// The items, or the first that is 10 or more.
 pub fn checked(alloc: Global, items: NEVec<u32>) -> Result<Result<NEVec<u32>, u32>, AllocError>
-    ensures { IfOk result (λ r. IfOk r (λ v. length v ≡ length items)) }
+    ensures { IfOk result (λ r. r ≡ values_or_first_err
+        (map (λ x. cond (ltb x 10) (Ok x) (Err x)) items)) }
 {
     items
         .into_nonempty_iter()
         .map(|x| if x < 10 { Ok(x) } else { Err(x) })
+        .collect(alloc)
+}
+
+/// The same in a vector that may be empty.
+pub fn checked_as_vec(alloc: Global, items: NEVec<u32>) -> Result<Result<Vec<u32>, u32>, AllocError>
+    ensures { IfOk result (λ r. MatchResult r
+        (λ v. values_or_first_err (map (λ x. cond (ltb x 10) (Ok x) (Err x)) items) ≡ Ok v.items)
+        (λ e. values_or_first_err (map (λ x. cond (ltb x 10) (Ok x) (Err x)) items) ≡ Err e)) }
+{
+    items
+        .into_nonempty_iter()
+        .map(|x| if x < 10 { Ok(x) } else { Err(x) })
+        .collect(alloc)
+}
+
+/// The items in the order of their last digits; those of one digit keep their order.
+pub fn by_digit(alloc: Global, items: NEVec<u32>) -> Result<NEVec<u32>, AllocError>
+    ensures permutation { IfOk result (λ v. IsPermutation items v) }
+    ensures ascend { IfOk result (λ v. KeysAscend (λ x. x % 10) nat_cmp v) }
+    ensures ties { IfOk result (λ v. KeepsTies (λ x. x % 10) nat_eq items v) }
+{
+    items
+        .into_nonempty_iter()
+        .sorted_by_key(alloc, |x| *x % 10)?
         .collect(alloc)
 }

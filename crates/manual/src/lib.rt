@@ -2,12 +2,16 @@
 //!
 //! What they ensure is proved from the public contracts of the calls that they make: there is no
 //! proof file, and no law is called. Most of them ensure the exact result; where the search finds
-//! less today, as at `sorted_by_key` and in a `Result`, a function ensures what it does find.
+//! less today, as at `flatten` of texts, a function ensures what it does find.
 #![tactic(auto)]
 
 pub mod adapters;
 pub mod any_source;
 pub mod consumers;
+pub mod joins;
+pub mod looks;
+pub mod nested;
+pub mod parts;
 pub mod runs;
 pub mod sources;
 pub mod texts;

@@ -1,9 +1,12 @@
-//! Runs of items by a key.
-ghost use Rattle.std.specs.Prelude.{◌/◌, nat_eq, IfOk};
+//! Runs of items by a key, and of a slice by a test of two items.
+ghost use Rattle.std.specs.Prelude.{◌≡◌, ◌/◌, length, map, nat_eq, IfOk};
+ghost use Rattle.std.specs.Int.NonZero.{non_zero_usize_get};
+ghost use Rattle.ne_vec.specs.Divisions.{by_first, by_previous, runs_of};
 ghost use Rattle.ne_iter.specs.Keys.{IsDividedBy};
 
-use nonempty_collections::{IntoNonEmptyIterator, NEVec, NonEmptyIterator};
+use nonempty_collections::{IntoNonEmptyIterator, NESlice, NEVec, NonEmptyIterator};
 use std::alloc::{AllocError, Global};
+use std::num::NonZeroUsize;
 
 /// The runs of items by their halves.
 pub fn by_halves(
@@ -16,4 +19,23 @@ pub fn by_halves(
         .into_nonempty_iter()
         .group_by(alloc, |x| *x / 2)
         .collect(alloc)
+}
+
+/// The lengths of the runs of one ten, each item compared with the first of its run.
+pub fn lengths_of_tens(alloc: Global, items: NESlice<'_, u32>) -> Result<NEVec<usize>, AllocError>
+    ensures { IfOk result (λ v. v ≡ map (λ run. length run)
+        (runs_of by_first (λ x y. nat_eq (x / 10) (y / 10)) items.entry)) }
+{
+    items
+        .runs_by(|x, y| *x / 10 == *y / 10)
+        .map(|run| run.len().get())
+        .collect(alloc)
+}
+
+/// How many runs of equal neighbours there are.
+pub fn how_many(items: &NESlice<'_, u32>) -> NonZeroUsize
+    ensures { non_zero_usize_get result ≡ length
+        (runs_of by_previous (λ x y. nat_eq x y) items.now) }
+{
+    items.adjacent_runs(|x, y| x == y).count()
 }

@@ -22,6 +22,8 @@ ghost use Rattle.std.specs.Prelude.{
   IsPermutation,
   Some,
   None,
+  Ok,
+  Err,
   ltb,
   max,
   cond,
@@ -48,8 +50,9 @@ ghost use Rattle.std.specs.Cmp.Lexicographic.{pointwise, slice_cmp};
 ghost use Rattle.std.specs.Ordering.{is_lt, nat_cmp};
 ghost use Rattle.std.specs.String.{string_bytes};
 ghost use Rattle.std.specs.Int.NonZero.{non_zero_usize_get};
-ghost use Rattle.ne_iter.specs.Collected.{IsMapOf, IsSetOf};
+ghost use Rattle.ne_iter.specs.Collected.{IsMapOf, IsSetOf, values_or_first_err};
 ghost use Rattle.ne_iter.specs.Interspersed.{interspersed};
+ghost use Rattle.ne_iter.specs.KeyOrder.{KeepsTies, KeysAscend};
 ghost use Rattle.ne_iter.specs.Keys.{IsDividedBy};
 
 use nonempty_collections::{IntoIteratorExt, IntoNonEmptyIterator, NEVec, NonEmptyIterator, iter};
@@ -82,7 +85,9 @@ pub fn shown<'a>(alloc: Global, texts: &NEVec<&'a str>) -> Result<NEVec<&'a str>
 pub fn cloned<'a>(
     alloc: Global,
     texts: &NEVec<&'a str>,
-) -> Result<Result<NEVec<&'a str>, AllocError>, AllocError> {
+) -> Result<Result<NEVec<&'a str>, AllocError>, AllocError>
+    ensures { IfOk result (λ r. r ≡ Ok texts.now) }
+{
     texts.nonempty_iter().cloned().collect(alloc)
 }
 
@@ -133,13 +138,26 @@ pub fn paired<'a>(
         .collect(alloc)
 }
 
-/// The texts of a source for each text.
-pub fn spread<'a>(alloc: Global, texts: NEVec<&'a str>) -> Result<NEVec<&'a str>, AllocError>
-    ensures { IfOk result (λ v. v ≡ flat_map (λ t. t ∷ []) texts.entry) }
+/// The texts of groups, each of which has a number.
+pub fn spread<'a>(
+    alloc: Global,
+    groups: NEVec<(usize, NEVec<&'a str>)>,
+) -> Result<NEVec<&'a str>, AllocError>
+    ensures { IfOk result (λ v. v ≡ flat_map (λ group. group.1) groups.entry) }
+{
+    groups
+        .into_nonempty_iter()
+        .flat_map(|group| group.1)
+        .collect(alloc)
+}
+
+/// A source of its length for each text.
+pub fn spread_lengths(alloc: Global, texts: NEVec<&str>) -> Result<NEVec<usize>, AllocError>
+    ensures { IfOk result (λ v. v ≡ flat_map (λ t. length t.now ∷ []) texts.entry) }
 {
     texts
         .into_nonempty_iter()
-        .flat_map(|t| iter::once(t))
+        .flat_map(|t| iter::once(t.len()))
         .collect(alloc)
 }
 
@@ -147,7 +165,9 @@ pub fn spread<'a>(alloc: Global, texts: NEVec<&'a str>) -> Result<NEVec<&'a str>
 pub fn flattened<'a>(
     alloc: Global,
     texts: NEVec<NEVec<&'a str>>,
-) -> Result<NEVec<&'a str>, AllocError> {
+) -> Result<NEVec<&'a str>, AllocError>
+    ensures { IfOk result (λ v. v ≡ flat_map (λ some. some) texts.entry) }
+{
     texts.into_nonempty_iter().flatten().collect(alloc)
 }
 
@@ -349,9 +369,11 @@ pub fn short_front<'a>(alloc: Global, texts: NEVec<&'a str>) -> Result<Vec<&'a s
         .collect(alloc)
 }
 
-/// The texts in the order of their lengths.
+/// The texts in the order of their lengths; those of one length keep their order.
 pub fn sorted<'a>(alloc: Global, texts: NEVec<&'a str>) -> Result<NEVec<&'a str>, AllocError>
-    ensures { IfOk result (λ v. IsPermutation texts.entry v) }
+    ensures permutation { IfOk result (λ v. IsPermutation texts.entry v) }
+    ensures ascend { IfOk result (λ v. KeysAscend (λ t. length t.now) nat_cmp v) }
+    ensures ties { IfOk result (λ v. KeepsTies (λ t. length t.now) nat_eq texts.entry v) }
 {
     texts
         .into_nonempty_iter()
@@ -391,7 +413,8 @@ pub fn checked<'a>(
     alloc: Global,
     texts: NEVec<&'a str>,
 ) -> Result<Result<NEVec<&'a str>, usize>, AllocError>
-    ensures { IfOk result (λ r. IfOk r (λ v. length v ≡ length texts.entry)) }
+    ensures { IfOk result (λ r. r ≡ values_or_first_err (map
+        (λ t. cond (ltb (length t.now) 10) (Ok t) (Err (length t.now))) texts.entry)) }
 {
     texts
         .into_nonempty_iter()

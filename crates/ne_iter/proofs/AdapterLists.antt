@@ -1,23 +1,35 @@
 -- What each adapter gives where its source gives a list.
--- `becomes` and `steps` are of the source, `made` and `next` of the adapter, `meets` and `other` of a
--- second source.
-use Rattle.std.proofs.Common.{sym, ap, subst, ◌∙◌, ◌⊎◌, inl, inr}
+-- `becomes` and `steps` are of the source, `made` and `next` of the adapter, `meets` and `other` of
+-- a second source.
+use Rattle.std.proofs.Common.{refl, sym, ap, subst, ◌∙◌, ◌⊎◌, inl, inr}
 use Rattle.std.proofs.lemmas.List.{length-map, map-append}
 use Rattle.std.proofs.lemmas.Simd.{map-map}
-use Rattle.std.specs.Prelude.{◌≡◌, ℕ, ◌≤◌, Bool, true, false, ◌&&◌, ◌||◌, ltb, List, [], ◌∷◌, ◌++◌, map, take, drop, filter, filter_map, zip, Option, Result, Ok}
+use Rattle.std.specs.Prelude.{◌≡◌, ℕ, ◌≤◌, Bool, true, false, ◌&&◌, ◌||◌, ltb, List}
+use Rattle.std.specs.Prelude.{[], ◌∷◌, ◌++◌, map, take, drop, filter, filter_map, zip, Option}
+use Rattle.std.specs.Prelude.{Result, Ok}
 use Rattle.std.specs.Borrow.{Bor, MutBor}
-use Rattle.std.specs.Fn.{Mut, CalledAt}
+use Rattle.std.specs.Fn.{Called, Mut, CalledAt}
 use Rattle.std.specs.Iterator.{ActsAs, ActsAsAt}
-use Rattle.std.specs.List.{AllByRecursion, enumerate_from, prefix_len, scan, take_while}
+use Rattle.std.specs.List.{AllByRecursion, AllZip, enumerate_from, flat_map, prefix_len, scan}
+use Rattle.std.specs.List.{take_while}
 use Rattle.ne_vec.specs.Fronts.{AreFirst}
-use Rattle.ne_iter.specs.Calls.{ActsAsWithState}
+use Rattle.ne_iter.specs.Calls.{ActsAsWithState, Calls}
 use Rattle.ne_iter.specs.Clones.{TriesClone}
-use Rattle.ne_iter.specs.Gives.{GivesList, ViewsList, ShowsList, FailsFirst, MapGives, EnumerateGives, TakeGives, ChainGives, ZipGives, ScanGives, CopiedGives, ClonedGives, IntersperseGives, FilterGives, FilterMapGives, SkipGives, SkipWhileGives, TakeWhileGives}
+use Rattle.ne_iter.specs.Gives.{GivesList, ViewsList, ShowsList, FailsFirst, MapGives}
+use Rattle.ne_iter.specs.Gives.{EnumerateGives, TakeGives, ChainGives, ZipGives, FlatMapGives}
+use Rattle.ne_iter.specs.Gives.{FlattenGives, ScanGives, CopiedGives, ClonedGives, IntersperseGives}
+use Rattle.ne_iter.specs.Gives.{FilterGives, FilterMapGives, SkipGives, SkipWhileGives}
+use Rattle.ne_iter.specs.Gives.{TakeWhileGives}
 use Rattle.ne_iter.specs.Keys.{items_of}
-use Rattle.ne_iter.specs.Separated.{separated}
+use Rattle.ne_iter.specs.Interspersed.{interspersed}
+use Rattle.ne_iter.specs.SourceLists.{AnswersLists}
 use Rattle.ne_iter.specs.Sources.{Reads}
 use Rattle.ne_iter.proofs.FunctionCalls.{function_values, shown_values, same_answers_at, fails_test}
-use Rattle.ne_iter.proofs.ListFronts.{map_front, enumerate_front, take_front, append_front, zip_front, filter_front, filter_answered, filter_map_front, filter_map_answered, drop_front, drop_passed_front, take_passed_front, take_passed_stopped, scan_front}
+use Rattle.ne_iter.proofs.ListFronts.{map_front, enumerate_front, take_front, append_front}
+use Rattle.ne_iter.proofs.ListFronts.{zip_front, joined_fronts, each_gives, filter_front}
+use Rattle.ne_iter.proofs.ListFronts.{filter_answered, filter_map_front, filter_map_answered}
+use Rattle.ne_iter.proofs.ListFronts.{drop_front, drop_passed_front, take_passed_front}
+use Rattle.ne_iter.proofs.ListFronts.{take_passed_stopped, scan_front}
 use Rattle.ne_iter.proofs.ScannedRuns.{scanned_values}
 use Rattle.ne_iter.proofs.Unrefused.{clones_in_ok, only_ok, spaced_front}
 
@@ -38,9 +50,11 @@ stopped reads calls f q test u xs us whole acts same list passed (inr (x, h, rea
 
 module _ {U V A S T : Type 0} {becomes : U → S → Type 0} {steps : S → Option A → S → Type 0}
     {made : V → T → Type 0} {u : U} {v : V} where
-  module _ {B F : Type 0} {next : T → Option B → T → Type 0} {calls : Mut F (A × Unit {0}) B} {f : F}
+  module _ {B F : Type 0} {next : T → Option B → T → Type 0} {calls : Mut F (A × Unit {0}) B}
+      {f : F}
       (gives : MapGives (Reads becomes steps) (Reads made next) calls u f v) where
-    pub map_list : (h : A → B) (xs : List A) → ActsAs calls f h → GivesList (Reads becomes steps) u xs
+    pub map_list : (h : A → B) (xs : List A) → ActsAs calls f h
+        → GivesList (Reads becomes steps) u xs
         → GivesList (Reads made next) v (map h xs)
     map_list h xs acts list whole ys read =
         let behind = gives whole ys read in
@@ -69,12 +83,14 @@ module _ {U V A S T : Type 0} {becomes : U → S → Type 0} {steps : S → Opti
 
   module _ {next : T → Option A → T → Type 0} where
     module _ {n : ℕ} (gives : TakeGives (Reads becomes steps) (Reads made next) n u v) where
-      pub take_list : (xs : List A) → GivesList (Reads becomes steps) u xs → GivesList (Reads made next) v (take n xs)
+      pub take_list : (xs : List A) → GivesList (Reads becomes steps) u xs
+          → GivesList (Reads made next) v (take n xs)
       take_list xs list whole ys read =
           let behind = gives whole ys read in
           take_front n whole xs ys behind.1 (list _ ys behind.0)
 
-      pub take_view : {B : Type 0} (view : A → B) (xs : List B) → ViewsList (Reads becomes steps) view u xs
+      pub take_view : {B : Type 0} (view : A → B) (xs : List B)
+          → ViewsList (Reads becomes steps) view u xs
           → ViewsList (Reads made next) view v (take n xs)
       take_view view xs list whole ys read =
           let behind = gives whole ys read in
@@ -84,7 +100,8 @@ module _ {U V A S T : Type 0} {becomes : U → S → Type 0} {steps : S → Opti
           (subst (λ len. AreFirst (whole && ltb len n) xs shown) long (list _ ys behind.0))
 
     pub skip_list : (n : ℕ) → SkipGives (Reads becomes steps) (Reads made next) n u v
-        → (xs : List A) → GivesList (Reads becomes steps) u xs → GivesList (Reads made next) v (drop n xs)
+        → (xs : List A) → GivesList (Reads becomes steps) u xs
+        → GivesList (Reads made next) v (drop n xs)
     skip_list n gives xs list whole ys read =
         let parts = gives whole ys read in
         let front = list whole parts.0 parts.1 in
@@ -94,7 +111,8 @@ module _ {U V A S T : Type 0} {becomes : U → S → Type 0} {steps : S → Opti
 
     module _ {F : Type 0} {calls : Mut F (Bor A × Unit {0}) Bool} {f : F} where
       pub filter_list : FilterGives (Reads becomes steps) (Reads made next) calls u f v
-          → (test : A → Bool) (xs : List A) → ActsAsAt calls f test → GivesList (Reads becomes steps) u xs
+          → (test : A → Bool) (xs : List A) → ActsAsAt calls f test
+          → GivesList (Reads becomes steps) u xs
           → GivesList (Reads made next) v (filter test xs)
       filter_list gives test xs acts list whole ys read =
           let parts = gives whole ys read in
@@ -106,7 +124,8 @@ module _ {U V A S T : Type 0} {becomes : U → S → Type 0} {steps : S → Opti
           (filter_front test whole xs us (list whole us parts.2))
 
       pub skip_while_list : SkipWhileGives (Reads becomes steps) (Reads made next) calls u f v
-          → (test : A → Bool) (xs : List A) → ActsAsAt calls f test → GivesList (Reads becomes steps) u xs
+          → (test : A → Bool) (xs : List A) → ActsAsAt calls f test
+          → GivesList (Reads becomes steps) u xs
           → GivesList (Reads made next) v (drop (prefix_len test xs) xs)
       skip_while_list gives test xs acts list whole ys read =
           let parts = gives whole ys read in
@@ -116,7 +135,8 @@ module _ {U V A S T : Type 0} {becomes : U → S → Type 0} {steps : S → Opti
           drop_passed_front test whole xs parts.0 ys passed.0 fails (list whole _ parts.2)
 
       pub take_while_list : TakeWhileGives (Reads becomes steps) (Reads made next) calls u f v
-          → (test : A → Bool) (xs : List A) → ActsAsAt calls f test → GivesList (Reads becomes steps) u xs
+          → (test : A → Bool) (xs : List A) → ActsAsAt calls f test
+          → GivesList (Reads becomes steps) u xs
           → GivesList (Reads made next) v (take_while test xs)
       take_while_list gives test xs acts list whole us read =
           let parts = gives whole us read in
@@ -136,10 +156,12 @@ module _ {U V A S T : Type 0} {becomes : U → S → Type 0} {steps : S → Opti
         subst (AreFirst whole (filter_map h xs)) (sym all)
         (filter_map_front h whole xs parts.0 (list whole parts.0 parts.3))
 
-    pub scan_list : {R : Type 0} {calls : Mut F (MutBor R × (A × Unit {0})) (B × (MutBor R × Unit {0}))}
+    pub scan_list : {R : Type 0} {calls : Mut F (MutBor R × (A × Unit {0}))
+        (B × (MutBor R × Unit {0}))}
         {init : R} → ScanGives (Reads becomes steps) (Reads made next) calls u init f v
         → (step : R → A → R) (out : R → A → B) (xs : List A) → ActsAsWithState calls f step out
-        → GivesList (Reads becomes steps) u xs → GivesList (Reads made next) v (scan step out init xs)
+        → GivesList (Reads becomes steps) u xs
+        → GivesList (Reads made next) v (scan step out init xs)
     scan_list {calls = calls} {init} gives step out xs acts list whole ys read =
         let parts = gives whole ys read in
         let front = list whole parts.0 parts.3 in
@@ -150,9 +172,11 @@ module _ {U V A S T : Type 0} {becomes : U → S → Type 0} {steps : S → Opti
 
   pub intersperse_list : {E : Type 0} {next : T → Option (Result A E) → T → Type 0} {s : A}
       (clones : A → A → Type 0) (infallible : A → Type 0)
-      → IntersperseGives (Reads becomes steps) (TriesClone clones infallible) (Reads made next) u s v
-      → (xs : List A) → infallible s → ((y : A) → clones s y → y ≡ s) → GivesList (Reads becomes steps) u xs
-      → GivesList (Reads made next) v (map Ok (separated s xs))
+      → IntersperseGives (Reads becomes steps) (TriesClone clones infallible) (Reads made next) u s
+      v
+      → (xs : List A) → infallible s → ((y : A) → clones s y → y ≡ s)
+      → GivesList (Reads becomes steps) u xs
+      → GivesList (Reads made next) v (map Ok (interspersed s xs))
   intersperse_list {s = s} clones infallible gives xs none same list whole zs read =
       let parts = gives whole zs read in
       spaced_front (TriesClone clones infallible s) s
@@ -206,7 +230,8 @@ module _ {U W V S R T A : Type 0} {becomes : U → S → Type 0} {steps : S → 
         (subst (λ len. AreFirst (whole || ltb 0 len) xs us) long (first _ parts.0 parts.2))
         (second whole parts.1 parts.3))
 
-  pub zip_list : {B : Type 0} {other : R → Option B → R → Type 0} {next : T → Option (A × B) → T → Type 0}
+  pub zip_list : {B : Type 0} {other : R → Option B → R → Type 0}
+      {next : T → Option (A × B) → T → Type 0}
       → ZipGives (Reads becomes steps) (Reads meets other) (Reads made next) u w v
       → (xs : List A) (ys : List B) → GivesList (Reads becomes steps) u xs
       → GivesList (Reads meets other) w ys → GivesList (Reads made next) v (zip xs ys)
@@ -215,3 +240,42 @@ module _ {U W V S R T A : Type 0} {becomes : U → S → Type 0} {steps : S → 
       subst (AreFirst whole (zip xs ys)) (sym parts.6)
       (zip_front whole parts.2 parts.3 xs ys parts.0 parts.1 parts.7 parts.8
       (first parts.2 parts.0 parts.4) (second parts.3 parts.1 parts.5))
+
+-- what the answers give, one after another, is what stands beside the items
+answers_given : {A W B F : Type 0} (reads : Bool → W → List B → Type 0)
+    (calls : Mut F (A × Unit {0}) W) (f : F) (inner : A → List B)
+    → AnswersLists calls f (GivesList reads) inner → (xs : List A) (us : List W) (p g : F)
+    → p ≡ f → Calls calls p xs us g → AllZip (λ x u. GivesList reads u (inner x)) xs us
+answers_given reads calls f inner answers [] [] p g same run = tt
+answers_given reads calls f inner answers [] (u ∷ us) p g same run = absurd run
+answers_given reads calls f inner answers (x ∷ xs) [] p g same run = absurd run
+answers_given reads calls f inner answers (x ∷ xs) (u ∷ us) p g same (h, call, run) =
+    let one = answers x u h (subst (λ q. Called calls q (x, tt) u h) same call) in
+    (one.1, answers_given reads calls f inner answers xs us h g one.0 run)
+
+module _ {U W V S T A B : Type 0} {becomes : U → S → Type 0} {steps : S → Option A → S → Type 0}
+    {reads : Bool → W → List B → Type 0} {made : V → T → Type 0} {next : T → Option B → T → Type 0}
+    {u : U} {v : V} where
+  pub flat_map_list : {F : Type 0} {calls : Mut F (A × Unit {0}) W} {f : F}
+      → FlatMapGives (Reads becomes steps) reads (Reads made next) calls u f v
+      → (inner : A → List B) (xs : List A) → AnswersLists calls f (GivesList reads) inner
+      → GivesList (Reads becomes steps) u xs → GivesList (Reads made next) v (flat_map inner xs)
+  flat_map_list {calls} {f} gives inner xs answers list whole zs read =
+      let parts = gives whole zs read in
+      let beside = answers_given reads calls f inner answers parts.0 parts.1 f parts.3 refl parts.5
+      in
+      subst (AreFirst whole (flat_map inner xs)) (sym parts.7)
+      (joined_fronts reads inner whole xs parts.0 parts.1 parts.2 (list whole parts.0 parts.4)
+      beside parts.6)
+
+pub flatten_list : {U W V S T B : Type 0} {becomes : U → S → Type 0}
+    {steps : S → Option W → S → Type 0} {reads : Bool → W → List B → Type 0}
+    {made : V → T → Type 0} {next : T → Option B → T → Type 0} {u : U} {v : V}
+    → FlattenGives (Reads becomes steps) reads (Reads made next) u v
+    → (inner : W → List B) (us : List W) → ((w : W) → GivesList reads w (inner w))
+    → GivesList (Reads becomes steps) u us → GivesList (Reads made next) v (flat_map inner us)
+flatten_list {reads = reads} gives inner us each list whole zs read =
+    let parts = gives whole zs read in
+    subst (AreFirst whole (flat_map inner us)) (sym parts.4)
+    (joined_fronts reads inner whole us parts.0 parts.0 parts.1 (list whole parts.0 parts.2)
+    (each_gives reads inner each parts.0) parts.3)

@@ -13,8 +13,8 @@ use Rattle.std.proofs.lemmas.List.Elements.{All-contains_itself, All-cons, All-h
 use Rattle.std.proofs.lemmas.List.Elements.{Contains-append_left, Contains-push}
 use Rattle.std.proofs.lemmas.List.MinMax.{IsFirstBest-from_best_of, IsStrictWeakOrder-flip}
 use Rattle.std.proofs.lemmas.Option.{slice_get-get_or}
-use Rattle.ne_iter.specs.Answers.{AnswersJustWhere, KeepsBetter, less_by}
-use Rattle.ne_iter.specs.Answers.{IsFirstGreatest, IsFirstLeast}
+use Rattle.ne_iter.specs.Consumers.{AnswersJustWhere, KeepsBetter, less_by}
+use Rattle.ne_iter.specs.Consumers.{IsFirstGreatest, IsFirstLeast}
 
 module _ {V F A : Type 0} (view : A → V) (calls : Shared F (Bor V × (Bor V × Unit {0})) Bool)
     (f : F) where

@@ -1,15 +1,19 @@
--- What each adapter's clause `gives` makes of the list that its source gives, for the clause `lists`.
+-- What each adapter's clause `gives` makes of the list that its source gives, for the clause
+-- `lists`.
 use Rattle.std.proofs.Common.{refl}
 use Rattle.std.specs.Prelude.{ℕ, List, Option, map, ◌++◌, ◌≡◌}
 use Rattle.std.specs.Fn.{Mut}
 use Rattle.std.specs.Iterator.{ActsAs}
-use Rattle.std.specs.List.{zip}
+use Rattle.std.specs.List.{flat_map, zip}
 use Rattle.ne_vec.specs.Fronts.{Lists, Shows, GivesItems, GivesShown, GivesFronts, view_mark}
 use Rattle.ne_vec.specs.FrontLaws.{marked, view_marked}
 use Rattle.ne_iter.specs.Gives.{GivesList, ViewsList}
-use Rattle.ne_iter.specs.SourceLists.{BecomesList, ChainsLists, EachList, EachShown, MapsList, MapsShown, MeetsList, ZipsLists}
+use Rattle.ne_iter.specs.SourceLists.{AnswersLists, BecomesList, ChainsLists, EachList, EachShown}
+use Rattle.ne_iter.specs.SourceLists.{FlattensLists, MapsList, MapsShown, MeetsList, SpreadsLists}
+use Rattle.ne_iter.specs.SourceLists.{ZipsLists}
 use Rattle.ne_iter.specs.Sources.{Reads, SameLists}
-use Rattle.ne_iter.proofs.ReadLists.{lists_read, read_lists, shows_read, read_shows, meets_read, becomes_read}
+use Rattle.ne_iter.proofs.ReadLists.{lists_read, read_lists, shows_read, read_shows, meets_read}
+use Rattle.ne_iter.proofs.ReadLists.{becomes_read}
 
 module _ {U V A S T : Type 0} {becomes : U → S → Type 0} {steps : S → Option A → S → Type 0}
     {made : V → T → Type 0} {u : U} {v : V} where
@@ -21,7 +25,8 @@ module _ {U V A S T : Type 0} {becomes : U → S → Type 0} {steps : S → Opti
   gives_each makes law xs lists =
       (marked u xs, read_lists _ _ v (makes xs) (law xs (lists_read _ _ u xs lists)))
 
-  module _ {B F : Type 0} {next : T → Option B → T → Type 0} {calls : Mut F (A × Unit {0}) B} {f : F} where
+  module _ {B F : Type 0} {next : T → Option B → T → Type 0} {calls : Mut F (A × Unit {0}) B}
+      {f : F} where
     pub maps_list : ((h : A → B) (xs : List A) → ActsAs calls f h
         → GivesList (Reads becomes steps) u xs → GivesList (Reads made next) v (map h xs))
         → MapsList calls f (GivesItems made next) u v (Lists becomes steps)
@@ -92,28 +97,72 @@ module _ {U W V S R T A : Type 0} {becomes : U → S → Type 0} {steps : S → 
       ),
     )
 
-  module _ {B : Type 0} {other : R → Option B → R → Type 0} {next : T → Option (A × B) → T → Type 0} where
-    pub zips_lists : {X Y : Type 0} {makes : W → X → Type 0} {made' : X → Y → Type 0}
-        {next' : Y → Option B → Y → Type 0} → SameLists meets other makes made' next'
-        → ((xs : List A) (ys : List B) → GivesList (Reads becomes steps) u xs
-        → GivesList (Reads meets other) w ys → GivesList (Reads made next) v (zip xs ys))
-        → ZipsLists (Lists becomes steps) (Lists meets other) (BecomesList makes made' next')
-        (GivesItems made next) u w v
-    zips_lists same law = (
-      (λ xs first. (
-        marked u xs,
-        λ ys second. (
-          marked w ys,
-          read_lists _ _ v (zip xs ys)
-              (law xs ys (lists_read _ _ u xs first) (lists_read _ _ w ys second)),
+  module _ {B : Type 0} {other : R → Option B → R → Type 0} {next : T → Option (A × B) → T → Type 0}
+    where
+      pub zips_lists : {X Y : Type 0} {makes : W → X → Type 0} {made' : X → Y → Type 0}
+          {next' : Y → Option B → Y → Type 0} → SameLists meets other makes made' next'
+          → ((xs : List A) (ys : List B) → GivesList (Reads becomes steps) u xs
+          → GivesList (Reads meets other) w ys → GivesList (Reads made next) v (zip xs ys))
+          → ZipsLists (Lists becomes steps) (Lists meets other) (BecomesList makes made' next')
+          (GivesItems made next) u w v
+      zips_lists same law = (
+        (λ xs first. (
+          marked u xs,
+          λ ys second. (
+            marked w ys,
+            read_lists _ _ v (zip xs ys)
+                (law xs ys (lists_read _ _ u xs first) (lists_read _ _ w ys second)),
+          ),
+        )),
+        λ xs ys. (
+          refl,
+          λ first second. read_lists _ _ v (zip xs ys)
+              (law xs ys (lists_read _ _ u xs first) (becomes_read _ _ _ _ _ same w ys second)),
         ),
-      )),
-      λ xs ys. (
-        refl,
-        λ first second. read_lists _ _ v (zip xs ys)
-            (law xs ys (lists_read _ _ u xs first) (becomes_read _ _ _ _ _ same w ys second)),
-      ),
-    )
+      )
+
+-- the lists of inner sources, one after another
+module _ {U W V S R T B : Type 0} {becomes : U → S → Type 0} {meets : W → R → Type 0}
+    {other : R → Option B → R → Type 0} {made : V → T → Type 0} {next : T → Option B → T → Type 0}
+    {u : U} {v : V} where
+  pub spreads_lists : {A F : Type 0} {steps : S → Option A → S → Type 0}
+      {calls : Mut F (A × Unit {0}) W} {f : F}
+      → ((inner : A → List B) (xs : List A)
+      → AnswersLists calls f (GivesList (Reads meets other)) inner
+      → GivesList (Reads becomes steps) u xs → GivesList (Reads made next) v (flat_map inner xs))
+      → SpreadsLists calls f (Lists becomes steps) (Lists meets other) (MeetsList meets other)
+      (GivesItems made next) u v
+  spreads_lists {steps = steps} {calls} {f} law xs lists = (
+    marked u xs,
+    λ inner.
+        let gives = λ (answers : AnswersLists calls f (GivesList (Reads meets other)) inner).
+        read_lists made next v (flat_map inner xs)
+        (law inner xs answers (lists_read becomes steps u xs lists)) in (
+          refl,
+          (λ answers. gives (λ x w g call.
+              let a = answers x w g call in (a.0, lists_read meets other w (inner x) a.1))),
+          (λ answers. gives (λ x w g call.
+              let a = answers x w g call in (a.0, meets_read meets other w (inner x) a.1))),
+        ),
+  )
+
+  pub flattens_lists : {steps : S → Option W → S → Type 0}
+      → ((inner : W → List B) (us : List W)
+      → ((w : W) → GivesList (Reads meets other) w (inner w))
+      → GivesList (Reads becomes steps) u us → GivesList (Reads made next) v (flat_map inner us))
+      → FlattensLists (Lists becomes steps) (Lists meets other) (MeetsList meets other)
+      (GivesItems made next) u v
+  flattens_lists {steps} law us lists = (
+    marked u us,
+    λ inner.
+        let gives = λ (each : (w : W) → GivesList (Reads meets other) w (inner w)).
+        read_lists made next v (flat_map inner us)
+        (law inner us each (lists_read becomes steps u us lists)) in (
+          refl,
+          (λ each. gives (λ w. lists_read meets other w (inner w) (each w))),
+          (λ each. gives (λ w. meets_read meets other w (inner w) (each w))),
+        ),
+  )
 
 -- an iterator of std, which becomes itself: what its runs give
 pub gives_fronts : {T B : Type 0} {next : T → Option B → T → Type 0} (v : T) (ys : List B)

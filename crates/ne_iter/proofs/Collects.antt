@@ -1,6 +1,8 @@
 -- What std's collecting into maps and sets makes, of a source that has an item.
 use mathlib.Core.Path.{fun_ext}
-use Rattle.std.proofs.Common.{◌≡◌, ◌<◌, ◌||◌, Bool, true, false, List, [], ◌∷◌, length, cond, reverse, arith, is_some, refl, sym, ap, subst, ◌∙◌, true≢false, Option, None, Some}
+use Rattle.std.proofs.Common.{◌≡◌, ◌<◌, ◌||◌, Bool, true, false, List, [], ◌∷◌, length, cond}
+use Rattle.std.proofs.Common.{reverse, arith, is_some, refl, sym, ap, subst, ◌∙◌, true≢false}
+use Rattle.std.proofs.Common.{Option, None, Some}
 use Rattle.std.proofs.lemmas.List.{reverse-append}
 use Rattle.std.proofs.lemmas.Map.Entries.{length-keys_of}
 use Rattle.std.proofs.lemmas.Map.Keys.{IsDistinct-from_sorted}
@@ -28,15 +30,23 @@ use Rattle.ne_iter.specs.SourceLaws.{some_item}
 use Rattle.ne_iter.specs.Sources.{IsNonEmpty, Reads, SameLists}
 
 -- what was made of the items that the source's iterator gave to its end
-module _ {U S V T A : Type 0} {becomes : U → S → Type 0} {steps : S → Option A → S → Type 0} {makes : U → V → Type 0} {becomes' : V → T → Type 0} {steps' : T → Option A → T → Type 0} where
+module _ {U S V T A : Type 0} {becomes : U → S → Type 0} {steps : S → Option A → S → Type 0}
+    {makes : U → V → Type 0} {becomes' : V → T → Type 0} {steps' : T → Option A → T → Type 0} where
   pub collects : SameLists becomes steps makes becomes' steps' → IsNonEmpty becomes' steps'
       → (u : U) (v : V) (it : T) → makes u v → becomes' v it
-      → {C E : Type 0} (gives collected : List A → C → Type 0) → ((xs : List A) (c : C) → 0 < length xs → gives xs c → collected xs c)
-      → (result : Result C E) → IfOk result (λ c. (xs : List A) × DrainsIf steps' ⊤ it xs × gives xs c)
+      → {C E : Type 0} (gives collected : List A → C → Type 0)
+      → ((xs : List A) (c : C) → 0 < length xs → gives xs c → collected xs c)
+      → (result : Result C E) → IfOk result (λ c. (xs : List A) × DrainsIf steps' ⊤ it xs
+      × gives xs c)
       → IfOk result (λ c. (xs : List A) × Reads becomes steps true u xs × collected xs c)
   collects same full u v it m b gives collected made result ran = IfOk-weaker result _ _ (λ c r.
-      let read : Reads becomes' steps' true v r.0 = record { it = it; made = b; given = (r.1.0, r.1.1, λ _. r.1.2 tt) } in
-      (r.0, (same u true r.0).1 v m read, made r.0 c (some_item becomes' steps' full v r.0 read) r.2)) ran
+      let read : Reads becomes' steps' true v
+      r.0 = record { it = it; made = b; given = (r.1.0, r.1.1, λ _. r.1.2 tt) } in (
+        r.0,
+        (same u true r.0).1 v m read,
+        made r.0 c (some_item becomes' steps' full v r.0 read)
+            r.2,
+      )) ran
 
 module _ {K : Type 0} {eq : K → K → Bool} (laws : IsEquivalence eq) where
   some_member : (ks : List K) (q : K) → is_member eq ks q ≡ true → 0 < length ks
@@ -44,16 +54,21 @@ module _ {K : Type 0} {eq : K → K → Bool} (laws : IsEquivalence eq) where
   some_member (k ∷ ks) q h = omega arith
 
   -- keys that are those of a list with an item
-  some_key : (xs ks : List K) → ((q : K) → is_member eq ks q ≡ is_member eq xs q) → 0 < length xs → 0 < length ks
+  some_key : (xs ks : List K) → ((q : K) → is_member eq ks q ≡ is_member eq xs q) → 0 < length xs
+      → 0 < length ks
   some_key [] ks same some = absurd (omega (arith, some))
-  some_key (x ∷ xs) ks same some = some_member ks x (same x ∙ ap (λ b. b || is_member eq xs x) (laws.refl x))
+  some_key (x ∷ xs) ks same some = some_member ks x
+      (same x ∙ ap (λ b. b || is_member eq xs x) (laws.refl x))
 
   module _ {X : Type 0} where
-    lookup-append : (test : K → Bool) (es fs : List (K × X)) → lookup test (es ++ fs) ≡ option_or (lookup test es) (lookup test fs)
+    lookup-append : (test : K → Bool) (es fs : List (K × X))
+        → lookup test (es ++ fs) ≡ option_or (lookup test es) (lookup test fs)
     lookup-append test [] fs = refl
     lookup-append test (e ∷ es) fs = by (test e.0) (lookup-append test es fs)
       where
-        by : (b : Bool) → lookup test (es ++ fs) ≡ option_or (lookup test es) (lookup test fs) → cond b (Some e.1) (lookup test (es ++ fs)) ≡ option_or (cond b (Some e.1) (lookup test es)) (lookup test fs)
+        by : (b : Bool) → lookup test (es ++ fs) ≡ option_or (lookup test es) (lookup test fs)
+            → cond b (Some e.1) (lookup test (es ++ fs))
+            ≡ option_or (cond b (Some e.1) (lookup test es)) (lookup test fs)
         by true h = refl
         by false h = h
 
@@ -62,48 +77,77 @@ module _ {K : Type 0} {eq : K → K → Bool} (laws : IsEquivalence eq) where
     option_or-none (Some x) = refl
 
     -- the value of the last pair is what the inserts leave
-    update_all-last_value : (f : K → Option X) (ps : List (K × X)) (q : K) → update_all eq f ps q ≡ option_or (last_value eq ps q) (f q)
+    update_all-last_value : (f : K → Option X) (ps : List (K × X)) (q : K)
+        → update_all eq f ps q ≡ option_or (last_value eq ps q) (f q)
     update_all-last_value f [] q = refl
     update_all-last_value f (p ∷ ps) q =
         update_all-last_value (update eq f p.0 (Some p.1)) ps q
         ∙ step (last_value eq ps q)
-        ∙ ap (λ o. option_or o (f q)) (sym (lookup-append (eq q) (reverse ps) (p ∷ [])) ∙ ap (lookup (eq q)) (sym (reverse-append (p ∷ []) ps)))
+        ∙ ap (λ o. option_or o (f q)) (sym (lookup-append (eq q) (reverse ps) (p ∷ []))
+        ∙ ap (lookup (eq q)) (sym (reverse-append (p ∷ []) ps)))
       where
         flip : (b : Bool) → cond b (Some p.1) (f q) ≡ option_or (cond b (Some p.1) None) (f q)
         flip true = refl
         flip false = refl
 
-        step : (o : Option X) → option_or o (update eq f p.0 (Some p.1) q) ≡ option_or (option_or o (cond (eq q p.0) (Some p.1) None)) (f q)
-        step None = flip (eq p.0 q) ∙ ap (λ b. option_or (cond b (Some p.1) None) (f q)) (sym (laws.symm q p.0))
+        step : (o : Option X) → option_or o (update eq f p.0 (Some p.1) q)
+            ≡ option_or (option_or o (cond (eq q p.0) (Some p.1) None)) (f q)
+        step None = flip (eq p.0 q) ∙ ap (λ b. option_or (cond b (Some p.1) None) (f q))
+            (sym (laws.symm q p.0))
         step (Some x) = refl
 
-    module _ (ps es : List (K × X)) (made : (q : K) → lookup (eq q) es ≡ update_all eq (λ _. None) ps q) where
+    module _ (ps es : List (K × X)) (made : (q : K)
+        → lookup (eq q) es ≡ update_all eq (λ _. None) ps q) where
       map_of-inserts : IsDistinct eq (keys_of es) → IsMapOf eq ps es
-      map_of-inserts d = (d, λ q. made q ∙ update_all-last_value (λ _. None) ps q ∙ option_or-none (last_value eq ps q))
+      map_of-inserts d = (
+        d,
+        λ q. made q ∙ update_all-last_value (λ _. None) ps q
+            ∙ option_or-none (last_value eq ps q),
+      )
 
       some_entry : 0 < length ps → 0 < length es
       some_entry some =
-          let same : (q : K) → is_member eq (keys_of es) q ≡ is_member eq (keys_of ps) q = λ q. sym (is_some-lookup (eq q) es) ∙ ap is_some (made q) ∙ is_some-update_all laws q (λ _. None) ps in
-          let keys = some_key (keys_of ps) (keys_of es) same (subst (λ n. 0 < n) (sym (length-keys_of ps)) some) in
+          let same : (q : K) → is_member eq (keys_of es) q ≡ is_member eq (keys_of ps) q = λ q.
+          sym (is_some-lookup (eq q) es) ∙ ap is_some (made q)
+          ∙ is_some-update_all laws q (λ _. None) ps in
+          let keys = some_key (keys_of ps) (keys_of es) same
+          (subst (λ n. 0 < n) (sym (length-keys_of ps)) some) in
           subst (λ n. 0 < n) (length-keys_of es) keys
 
-  pub hash_map_made : {X S : Type 0} (ps : List (K × X)) (m : HashMap K X S) → 0 < length ps → hash.IsFromIterResult eq ps m → IsMapOf eq ps m.entries × (0 < hash_map_len m)
-  hash_map_made ps m some h = (map_of-inserts ps m.entries h.0 h.1, some_entry ps m.entries h.0 some)
+  pub hash_map_made : {X S : Type 0} (ps : List (K × X)) (m : HashMap K X S) → 0 < length ps
+      → hash.IsFromIterResult eq ps m → IsMapOf eq ps m.entries × (0 < hash_map_len m)
+  hash_map_made ps m some h = (
+    map_of-inserts ps m.entries h.0 h.1,
+    some_entry ps m.entries h.0 some,
+  )
 
-  pub hash_set_made : {S : Type 0} (xs : List K) (s : HashSet K S) → 0 < length xs → hash_set.IsFromIterResult eq xs s → IsSetOf eq xs s.keys × (0 < hash_set_len s)
+  pub hash_set_made : {S : Type 0} (xs : List K) (s : HashSet K S) → 0 < length xs
+      → hash_set.IsFromIterResult eq xs s → IsSetOf eq xs s.keys × (0 < hash_set_len s)
   hash_set_made xs s some h = ((h.1, h.0), some_key xs s.keys h.0 some)
 
-module _ {K : Type 0} {eq : K → K → Bool} {cmp : K → K → Ordering} (total : IsTotalOrder cmp) (same : (a b : K) → eq a b ≡ eq_by_cmp cmp a b) where
+module _ {K : Type 0} {eq : K → K → Bool} {cmp : K → K → Ordering} (total : IsTotalOrder cmp)
+    (same : (a b : K) → eq a b ≡ eq_by_cmp cmp a b) where
   by_cmp : eq_by_cmp cmp ≡ eq
   by_cmp = sym (fun_ext (λ a. fun_ext (λ b. same a b)))
 
-  pub tree_map_made : {X : Type 0} (ps : List (K × X)) (m : BTreeMap K X) → 0 < length ps → tree.IsFromIterResult cmp ps m → IsMapOf eq ps m.entries × IsOrdered cmp m × (0 < btree_map_len m)
+  pub tree_map_made : {X : Type 0} (ps : List (K × X)) (m : BTreeMap K X) → 0 < length ps
+      → tree.IsFromIterResult cmp ps m → IsMapOf eq ps m.entries × IsOrdered cmp m
+      × (0 < btree_map_len m)
   tree_map_made ps m some h =
       let laws = eq_by_cmp_equiv total in
-      let is = map_of-inserts laws ps m.entries h.0 (IsDistinct-from_sorted cmp _ h.1) in
-      (subst (λ (e : K → K → Bool). IsMapOf e ps m.entries) by_cmp is, h.1, some_entry laws ps m.entries h.0 some)
+      let is = map_of-inserts laws ps m.entries h.0 (IsDistinct-from_sorted cmp _ h.1) in (
+        subst (λ (e : K → K → Bool). IsMapOf e ps m.entries) by_cmp is,
+        h.1,
+        some_entry laws ps m.entries h.0 some,
+      )
 
-  pub tree_set_made : (xs : List K) (s : BTreeSet K) → 0 < length xs → tree_set.IsFromIterResult cmp xs s → IsSetOf eq xs s.keys × AreOrdered cmp s × (0 < btree_set_len s)
+  pub tree_set_made : (xs : List K) (s : BTreeSet K) → 0 < length xs
+      → tree_set.IsFromIterResult cmp xs s → IsSetOf eq xs s.keys × AreOrdered cmp s
+      × (0 < btree_set_len s)
   tree_set_made xs s some h =
-      let laws = eq_by_cmp_equiv total in
-      (subst (λ (e : K → K → Bool). IsSetOf e xs s.keys) by_cmp (IsDistinct-from_sorted cmp _ h.1, h.0), h.1, some_key laws xs s.keys h.0 some)
+      let laws = eq_by_cmp_equiv total in (
+        subst (λ (e : K → K → Bool). IsSetOf e xs s.keys) by_cmp
+            (IsDistinct-from_sorted cmp _ h.1, h.0),
+        h.1,
+        some_key laws xs s.keys h.0 some,
+      )

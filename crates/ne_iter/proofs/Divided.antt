@@ -1,5 +1,6 @@
--- What readers say of whole lists: the division of what was drawn, by the keys and by a function.
-use Rattle.std.proofs.Common.{◌≡◌, ◌≢◌, Bool, List, [], ◌∷◌, ◌++◌, map, Option, refl, sym, ap, subst, ◌∙◌}
+-- What groupings say of whole lists: the division of what was drawn, by the keys and by a function.
+use Rattle.std.proofs.Common.{◌≡◌, ◌≢◌, Bool, List, [], ◌∷◌, ◌++◌, map, Option, refl, sym, ap}
+use Rattle.std.proofs.Common.{subst, ◌∙◌}
 use Rattle.std.proofs.lemmas.List.{map-append, append-nil}
 use Rattle.std.specs.Borrow.{Bor}
 use Rattle.std.specs.Fn.{Mut}
@@ -8,47 +9,76 @@ use Rattle.std.specs.List.{AllByRecursion}
 use Rattle.ne_vec.specs.Divisions.{joined, IsRun, IsDivision, by_first}
 use Rattle.ne_iter.specs.Calls.{ShownEach}
 use Rattle.ne_iter.specs.Keys.{items_of, same_key, DividesByKey}
-use Rattle.ne_iter.specs.Reader.{IsOver, StandsAt, HasRead}
-use Rattle.ne_iter.specs.ReaderLaws.{nil_mapped}
-use Rattle.ne_iter.specs.Reading.{Reading, Ahead, Unread, Held, Ended}
+use Rattle.ne_iter.specs.GroupingRuns.{IsOver, StandsAt, HasRead}
+use Rattle.ne_iter.specs.GroupingLaws.{nil_mapped}
+use Rattle.ne_iter.specs.Grouping.{Grouping, Ahead, Unread, Held, Ended}
 
-joined_mapped : {A B : Type 0} (f : A → B) (rs : List (List A)) → joined (map (map f) rs) ≡ map f (joined rs)
+joined_mapped : {A B : Type 0} (f : A → B) (rs : List (List A))
+    → joined (map (map f) rs) ≡ map f (joined rs)
 joined_mapped f [] = refl
-joined_mapped f (r ∷ rs) = ap (λ l. map f r ++ l) (joined_mapped f rs) ∙ sym (map-append f r (joined rs))
+joined_mapped f (r ∷ rs) = ap (λ l. map f r ++ l) (joined_mapped f rs)
+    ∙ sym (map-append f r (joined rs))
 
-pub runs_join : {A K : Type 0} (eq : K → K → Bool) (ps : List (A × K)) (rs : List (List A)) → DividesByKey eq ps rs → joined rs ≡ items_of ps
+pub runs_join : {A K : Type 0} (eq : K → K → Bool) (ps : List (A × K)) (rs : List (List A))
+    → DividesByKey eq ps rs → joined rs ≡ items_of ps
 runs_join eq ps rs d = ap joined d.2 ∙ (joined_mapped (λ p. p.0) d.0 ∙ ap items_of d.1.whole)
 
-all_some : {A K : Type 0} (eq : K → K → Bool) (runs : List (List (A × K))) → AllByRecursion (IsRun (by_first (same_key eq))) runs → AllByRecursion (λ r. r ≢ []) (map items_of runs)
+all_some : {A K : Type 0} (eq : K → K → Bool) (runs : List (List (A × K)))
+    → AllByRecursion (IsRun (by_first (same_key eq))) runs
+    → AllByRecursion (λ r. r ≢ []) (map items_of runs)
 all_some eq [] all = tt
-all_some eq (r ∷ runs) all = ((λ none. all.0.some (nil_mapped (λ p. p.0) r (sym none))), all_some eq runs all.1)
+all_some eq (r ∷ runs) all = (
+  (λ none. all.0.some (nil_mapped (λ p. p.0) r (sym none))),
+  all_some eq runs all.1,
+)
 
-pub no_run_is_empty : {A K : Type 0} (eq : K → K → Bool) (ps : List (A × K)) (rs : List (List A)) → DividesByKey eq ps rs → AllByRecursion (λ r. r ≢ []) rs
-no_run_is_empty eq ps rs d = subst (AllByRecursion (λ r. r ≢ [])) (sym d.2) (all_some eq d.0 d.1.runs)
+pub no_run_is_empty : {A K : Type 0} (eq : K → K → Bool) (ps : List (A × K)) (rs : List (List A))
+    → DividesByKey eq ps rs → AllByRecursion (λ r. r ≢ []) rs
+no_run_is_empty eq ps rs d = subst (AllByRecursion (λ r. r ≢ [])) (sym d.2)
+    (all_some eq d.0 d.1.runs)
 
-module _ {S K A F : Type 0} (steps : S → Option A → S → Type 0) (asks : Mut F (Bor A × Unit {0}) K) (eq : K → K → Bool) (s : S) (f : F) where
-  pub all_drained : (rs : List (List A)) (g : Reading S K A F) → HasRead steps asks eq s f rs g → IsOver g
-      → (ps : List (A × K)) × Drains steps s (items_of ps) × ShownEach asks f ps g.closure × DividesByKey eq ps rs
+module _ {S K A F : Type 0} (steps : S → Option A → S → Type 0) (asks : Mut F (Bor A × Unit {0}) K)
+    (eq : K → K → Bool) (s : S) (f : F) where
+  pub all_drained : (rs : List (List A)) (g : Grouping S K A F) → HasRead steps asks eq s f rs g
+      → IsOver g
+      → (ps : List (A × K)) × Drains steps s (items_of ps) × ShownEach asks f ps g.closure
+      × DividesByKey eq ps rs
   all_drained rs g read over =
-      let stands : StandsAt steps asks eq Ended s read.drawn g.source read.runs = subst (λ a. StandsAt steps asks eq a s read.drawn g.source read.runs) over read.stands in
+      let stands : StandsAt steps asks eq Ended s read.drawn g.source read.runs = subst
+      (λ a. StandsAt steps asks eq a s read.drawn g.source read.runs) over read.stands in
       (read.drawn, (g.source, stands.0), read.asked, (read.runs, stands.1, read.answered))
 
-  module _ (unique : (xs : List (A × K)) (rs others : List (List (A × K))) → IsDivision (by_first (same_key eq)) xs rs → IsDivision (by_first (same_key eq)) xs others → rs ≡ others)
-      (longer : (xs more : List (A × K)) (rs all : List (List (A × K))) (last : List (A × K)) → IsDivision (by_first (same_key eq)) xs (rs ++ last ∷ []) → IsDivision (by_first (same_key eq)) (xs ++ more) all → (rest : List (List (A × K))) × (all ≡ rs ++ rest)) where
+  module _ (unique : (xs : List (A × K)) (rs others : List (List (A × K)))
+      → IsDivision (by_first (same_key eq)) xs rs → IsDivision (by_first (same_key eq)) xs others
+      → rs ≡ others)
+      (longer : (xs more : List (A × K)) (rs all : List (List (A × K))) (last : List (A × K))
+      → IsDivision (by_first (same_key eq)) xs (rs ++ last ∷ [])
+      → IsDivision (by_first (same_key eq)) (xs ++ more) all → (rest : List (List (A × K)))
+      × (all ≡ rs ++ rest)) where
     -- whatever comes behind the items drawn, the runs answered are the first ones
-    are_first : (a : Ahead K A) (t : S) (drawn : List (A × K)) (runs : List (List (A × K))) (more : List (A × K)) (all : List (List (A × K))) → StandsAt steps asks eq a s drawn t runs
-        → (a ≡ Ended → more ≡ []) → IsDivision (by_first (same_key eq)) (drawn ++ more) all → (rest : List (List (A × K))) × (all ≡ runs ++ rest)
+    are_first : (a : Ahead K A) (t : S) (drawn : List (A × K)) (runs : List (List (A × K)))
+        (more : List (A × K)) (all : List (List (A × K))) → StandsAt steps asks eq a s drawn t runs
+        → (a ≡ Ended → more ≡ []) → IsDivision (by_first (same_key eq)) (drawn ++ more) all
+        → (rest : List (List (A × K))) × (all ≡ runs ++ rest)
     are_first Unread t drawn runs more all stands none d = (all, ap (λ l. l ++ all) (sym stands.1))
-    are_first (Held k x) t drawn runs more all stands none d = longer drawn more runs all ((x, k) ∷ []) stands.2 d
+    are_first (Held k x) t drawn runs more all stands none d = longer drawn more runs all
+        ((x, k) ∷ []) stands.2 d
     are_first Ended t drawn runs more all stands none d =
-        let same = subst (λ l. IsDivision (by_first (same_key eq)) l all) (append-nil drawn) (subst (λ l. IsDivision (by_first (same_key eq)) (drawn ++ l) all) (none refl) d) in
+        let same = subst (λ l. IsDivision (by_first (same_key eq)) l all) (append-nil drawn)
+        (subst (λ l. IsDivision (by_first (same_key eq)) (drawn ++ l) all) (none refl) d) in
         ([], unique drawn all runs same stands.1 ∙ sym (append-nil runs))
 
-    pub first_runs : (rs : List (List A)) (g : Reading S K A F) (read : HasRead steps asks eq s f rs g) (more : List (A × K)) (all : List (List A)) → (IsOver g → more ≡ [])
+    pub first_runs : (rs : List (List A)) (g : Grouping S K A F)
+        (read : HasRead steps asks eq s f rs g) (more : List (A × K)) (all : List (List A))
+        → (IsOver g → more ≡ [])
         → DividesByKey eq (read.drawn ++ more) all → (rest : List (List A)) × (all ≡ rs ++ rest)
     first_runs rs g read more all none d =
-        let m = are_first g.ahead g.source read.drawn read.runs more d.0 read.stands none d.1 in
-        (map items_of m.0, d.2 ∙ (ap (map items_of) m.1 ∙ (map-append items_of read.runs m.0 ∙ ap (λ l. l ++ map items_of m.0) (sym read.answered))))
+        let m = are_first g.ahead g.source read.drawn read.runs more d.0 read.stands none d.1 in (
+          map items_of m.0,
+          d.2 ∙ (ap (map items_of) m.1
+              ∙ (map-append items_of read.runs m.0
+              ∙ ap (λ l. l ++ map items_of m.0) (sym read.answered))),
+        )
 
 module _ {A K F : Type 0} (asks : Mut F (Bor A × Unit {0}) K) (eq : K → K → Bool) (h : A → K) where
   -- each item with the key that h has for it
@@ -61,23 +91,33 @@ module _ {A K F : Type 0} (asks : Mut F (Bor A × Unit {0}) K) (eq : K → K →
 
   runs_of_keyed : (rs : List (List A)) → map items_of (map (map keyed) rs) ≡ rs
   runs_of_keyed [] = refl
-  runs_of_keyed (r ∷ rs) = ap (λ l. l ∷ map items_of (map (map keyed) rs)) (items_of_keyed r) ∙ ap (λ l. r ∷ l) (runs_of_keyed rs)
+  runs_of_keyed (r ∷ rs) = ap (λ l. l ∷ map items_of (map (map keyed) rs)) (items_of_keyed r)
+      ∙ ap (λ l. r ∷ l) (runs_of_keyed rs)
 
-  pub keyed_alike : (r : List A) (x : A) → by_first (same_key eq) (map keyed r) (keyed x) ≡ by_first (λ a b. eq (h a) (h b)) r x
+  pub keyed_alike : (r : List A) (x : A) → by_first (same_key eq) (map keyed r) (keyed x)
+      ≡ by_first (λ a b. eq (h a) (h b)) r x
   keyed_alike [] x = refl
   keyed_alike (y ∷ r) x = refl
 
-  pub shown_keyed : (f : F) (ps : List (A × K)) (g : F) → ActsAsAt asks f h → ShownEach asks f ps g → ps ≡ map keyed (items_of ps)
+  pub shown_keyed : (f : F) (ps : List (A × K)) (g : F) → ActsAsAt asks f h → ShownEach asks f ps g
+      → ps ≡ map keyed (items_of ps)
   shown_keyed f [] g acts shown = refl
   shown_keyed f (p ∷ ps) g acts shown =
       let one = acts p.0 p.1 shown.0 shown.1 in
-      ap (λ k. (p.0, k) ∷ ps) one.1 ∙ ap (λ l. keyed p.0 ∷ l) (shown_keyed shown.0 ps g (subst (λ q. ActsAsAt asks q h) (sym one.0) acts) shown.2)
+      ap (λ k. (p.0, k) ∷ ps) one.1 ∙ ap (λ l. keyed p.0 ∷ l)
+      (shown_keyed shown.0 ps g (subst (λ q. ActsAsAt asks q h) (sym one.0) acts) shown.2)
 
-  pub divided_by_function : (f : F) (ps : List (A × K)) (rs : List (List A)) (g : F) (others : List (List A)) → ActsAsAt asks f h → ShownEach asks f ps g → DividesByKey eq ps rs
+  pub divided_by_function : (f : F) (ps : List (A × K)) (rs : List (List A)) (g : F)
+      (others : List (List A)) → ActsAsAt asks f h → ShownEach asks f ps g → DividesByKey eq ps rs
       → IsDivision (by_first (λ a b. eq (h a) (h b))) (items_of ps) others
-      → ((xs : List (A × K)) (rs others : List (List (A × K))) → IsDivision (by_first (same_key eq)) xs rs → IsDivision (by_first (same_key eq)) xs others → rs ≡ others)
+      → ((xs : List (A × K)) (rs others : List (List (A × K)))
+      → IsDivision (by_first (same_key eq)) xs rs
+      → IsDivision (by_first (same_key eq)) xs others → rs ≡ others)
       → IsDivision (by_first (same_key eq)) (map keyed (items_of ps)) (map (map keyed) others)
       → IsDivision (by_first (λ a b. eq (h a) (h b))) (items_of ps) rs
   divided_by_function f ps rs g others acts shown d there unique mapped =
-      let same = unique ps d.0 (map (map keyed) others) d.1 (subst (λ l. IsDivision (by_first (same_key eq)) l (map (map keyed) others)) (sym (shown_keyed f ps g acts shown)) mapped) in
-      subst (IsDivision (by_first (λ a b. eq (h a) (h b))) (items_of ps)) (sym (d.2 ∙ (ap (map items_of) same ∙ runs_of_keyed others))) there
+      let same = unique ps d.0 (map (map keyed) others) d.1
+      (subst (λ l. IsDivision (by_first (same_key eq)) l (map (map keyed) others))
+      (sym (shown_keyed f ps g acts shown)) mapped) in
+      subst (IsDivision (by_first (λ a b. eq (h a) (h b))) (items_of ps))
+      (sym (d.2 ∙ (ap (map items_of) same ∙ runs_of_keyed others))) there

@@ -1,14 +1,16 @@
 -- The greatest and the least of a list.
 use Rattle.std.proofs.Common.{subst, true≢false, ltb, eqb, ltb-false, get_or, le_antisymm}
-use Rattle.std.specs.Prelude.{◌≡◌, ℕ, ◌≤◌, Bool, true, false, cond, List, ◌∷◌, length, All, Contains, slice_get, Some, refl}
+use Rattle.std.specs.Prelude.{◌≡◌, ℕ, ◌≤◌, Bool, true, false, cond, List, ◌∷◌, length, All}
+use Rattle.std.specs.Prelude.{Contains, slice_get, Some, refl}
 use Rattle.std.specs.Cmp.{IsStrictWeakOrder}
 use Rattle.std.specs.List.{IsFirstBest}
 use Rattle.std.specs.Ordering.{is_lt, nat_cmp}
 use Rattle.std.specs.declared.cmp.Ordering.TheVariants.{Less, Equal, Greater}
 use Rattle.std.proofs.lemmas.Cmp.{nat_cmp_total}
-use Rattle.std.proofs.lemmas.List.MinMax.{IsFirstBest-from_best_of, IsStrictWeakOrder-flip, ranks_by}
+use Rattle.std.proofs.lemmas.List.MinMax.{IsFirstBest-from_best_of, IsStrictWeakOrder-flip}
+use Rattle.std.proofs.lemmas.List.MinMax.{ranks_by}
 use Rattle.std.proofs.lemmas.Option.{get_or_from_slice_get, slice_get-get_or}
-use Rattle.ne_iter.specs.Answers.{less_by}
+use Rattle.ne_iter.specs.Consumers.{less_by}
 
 not_less_by : (x y : ℕ) (a b : Bool) → ltb x y ≡ a
     → is_lt (cond a Less (cond b Equal Greater)) ≡ false → y ≤ x

@@ -1,12 +1,13 @@
 -- What the methods that may stop early answer of the list that their source gives, where their
 -- closure acts as a test.
 use Rattle.std.proofs.Common.{arith, sym, subst, ap, ◌∙◌}
-use Rattle.std.specs.Prelude.{◌≡◌, ℕ, zero, suc, ◌≤◌, ◌&&◌, ◌||◌, Bool, true, false, cond, List, [], ◌∷◌, ◌++◌, length, slice_get, Option, Some, None, refl}
+use Rattle.std.specs.Prelude.{◌≡◌, ℕ, zero, suc, ◌≤◌, ◌&&◌, ◌||◌, Bool, true, false, cond, List, []}
+use Rattle.std.specs.Prelude.{◌∷◌, ◌++◌, length, slice_get, Option, Some, None, refl}
 use Rattle.std.specs.Borrow.{Bor}
 use Rattle.std.specs.Fn.{Mut, Called, CalledAt}
 use Rattle.std.specs.Iterator.{ActsAs, ActsAsAt}
 use Rattle.std.specs.List.{AllByRecursion, find, list_all, list_any}
-use Rattle.ne_iter.specs.Answers.{TellsAll, TellsAny, FindsFirst, GivesNth}
+use Rattle.ne_iter.specs.Consumers.{TellsAll, TellsAny, FindsFirst, GivesNth}
 use Rattle.ne_iter.specs.Gives.{GivesList}
 use Rattle.ne_iter.proofs.FunctionCalls.{same_answers, same_answers_at}
 use Rattle.ne_iter.proofs.ListFronts.{whole_front}
@@ -43,7 +44,8 @@ module _ {A : Type 0} (test : A → Bool) where
         ap (λ b. cond b (Some u) (find test l)) h.0 ∙ rest.1,
       )
 
-after : {A : Type 0} (us more : List A) (x : A) → slice_get ((us ++ x ∷ []) ++ more) (length us) ≡ Some x
+after : {A : Type 0} (us more : List A) (x : A)
+    → slice_get ((us ++ x ∷ []) ++ more) (length us) ≡ Some x
 after [] more x = refl
 after (u ∷ us) more x = after us more x
 
@@ -92,7 +94,8 @@ module _ {U A : Type 0} (reads : Bool → U → List A → Type 0) (u : U) (xs :
 
   pub gives_nth : (n : ℕ) (r : Option A) → GivesNth reads u n r → r ≡ slice_get xs n
   gives_nth n None (us, (read, short)) =
-      sym (ap (λ l. slice_get l n) (sym (whole_front xs us (list true us read))) ∙ beyond us n short)
+      sym (ap (λ l. slice_get l n) (sym (whole_front xs us (list true us read)))
+      ∙ beyond us n short)
   gives_nth n (Some x) (us, (read, long)) =
       let f = list false _ read in
       sym (ap (λ l. slice_get l n) f.1

@@ -1,12 +1,13 @@
--- The runs that a reader has answered are the first runs of its source's list.
+-- The runs that a grouping has answered are the first runs of its source's list.
 use Rattle.std.proofs.Common.{ap, subst, sym, inl, inr, ◌⊎◌, ◌∙◌}
 use Rattle.std.proofs.lemmas.List.{append-nil}
-use Rattle.std.specs.Prelude.{◌≡◌, ◌≢◌, Bool, true, List, [], ◌∷◌, ◌++◌, Option, None, Some, MatchOption, refl}
+use Rattle.std.specs.Prelude.{◌≡◌, ◌≢◌, Bool, true, List, [], ◌∷◌, ◌++◌, Option, None, Some}
+use Rattle.std.specs.Prelude.{MatchOption, refl}
 use Rattle.ne_vec.specs.Divisions.{IsDivision}
 use Rattle.ne_iter.specs.Gives.{and_held}
 use Rattle.ne_iter.specs.Keys.{items_of}
 use Rattle.ne_vec.specs.Fronts.{AreFirst}
-use Rattle.ne_iter.proofs.Readers.{division_of_none}
+use Rattle.ne_iter.proofs.Groupings.{division_of_none}
 
 module _ {A : Type 0} (goes_on : List A → A → Bool)
     (unique : (xs : List A) (rs others : List (List A)) → IsDivision goes_on xs rs

@@ -1,5 +1,7 @@
--- What the calls of a reader lead to, and what that says of its source.
-use Rattle.std.proofs.Common.{◌≡◌, Bool, true, false, List, [], ◌∷◌, ◌++◌, map, Option, Some, None, Result, Ok, Err, refl, sym, ap, subst, ◌∙◌, append_assoc, ◌⊎◌, inl, inr}
+-- What the calls of a grouping lead to, and what that says of its source.
+use Rattle.std.proofs.Common.{◌≡◌, Bool, true, false, List, [], ◌∷◌, ◌++◌, map, Option, Some, None}
+use Rattle.std.proofs.Common.{Result, Ok, Err, refl, sym, ap, subst, ◌∙◌, append_assoc, ◌⊎◌, inl}
+use Rattle.std.proofs.Common.{inr}
 use Rattle.std.proofs.lemmas.List.{append-nil, map_push}
 use Rattle.std.specs.Borrow.{Bor}
 use Rattle.std.specs.Fn.{Mut}
@@ -11,15 +13,18 @@ use Rattle.ne_vec.specs.Divisions.{IsDivision, by_first}
 use Rattle.ne_iter.specs.Calls.{ShownEach}
 use Rattle.ne_iter.specs.Gives.{HasRuns, and_held}
 use Rattle.ne_iter.specs.Keys.{items_of, same_key, DividesByKey, IsDividedBy}
-use Rattle.ne_iter.specs.Reader.{IsOver, StandsAt, HasRead, GivesRun, GroupsRuns, AnswersThen, AnswersOn}
-use Rattle.ne_iter.specs.ReaderLaws.{fresh_reader, nil_mapped}
-use Rattle.ne_iter.specs.Reading.{Reading, Ahead, Unread, Held, Ended}
+use Rattle.ne_iter.specs.GroupingRuns.{IsOver, StandsAt, HasRead, GivesRun, GroupsRuns, AnswersThen}
+use Rattle.ne_iter.specs.GroupingRuns.{AnswersOn}
+use Rattle.ne_iter.specs.GroupingLaws.{fresh_grouping, nil_mapped}
+use Rattle.ne_iter.specs.Grouping.{Grouping, Ahead, Unread, Held, Ended}
 use Rattle.ne_iter.specs.Sources.{Reads}
-use Rattle.ne_iter.proofs.Readers.{division_of_none, held_is_not_over, unread_is_not_over}
+use Rattle.ne_iter.proofs.Groupings.{division_of_none, held_is_not_over, unread_is_not_over}
 
-module _ {S K A F : Type 0} (steps : S → Option A → S → Type 0) (asks : Mut F (Bor A × Unit {0}) K) (eq : K → K → Bool) where
+module _ {S K A F : Type 0} (steps : S → Option A → S → Type 0) (asks : Mut F (Bor A × Unit {0}) K)
+    (eq : K → K → Bool) where
   -- one that is over answers `None` ever after
-  none_ever_after : (g h : Reading S K A F) (answers : List (Option (Result (List A) AllocError))) → IsOver g → FoldsTo (GivesRun steps asks eq) g answers h
+  none_ever_after : (g h : Grouping S K A F) (answers : List (Option (Result (List A) AllocError)))
+      → IsOver g → FoldsTo (GivesRun steps asks eq) g answers h
       → IsOver h × AllByRecursion (λ a. a ≡ None) answers
   none_ever_after g h [] over calls = (subst IsOver calls over, tt)
   none_ever_after g h (a ∷ answers) over calls =
@@ -27,103 +32,199 @@ module _ {S K A F : Type 0} (steps : S → Option A → S → Type 0) (asks : Mu
       let more = none_ever_after calls.0 h answers (subst IsOver (sym step.1) over) calls.2 in
       (more.0, (step.0, more.1))
 
-  pub answers_on : (s : S) (f : F) (done : List (List A)) (answers : List (Option (Result (List A) AllocError))) (g h : Reading S K A F) → HasRead steps asks eq s f done g
+  pub answers_on : (s : S) (f : F) (done : List (List A))
+      (answers : List (Option (Result (List A) AllocError))) (g h : Grouping S K A F)
+      → HasRead steps asks eq s f done g
       → FoldsTo (GivesRun steps asks eq) g answers h → AnswersOn steps asks eq s f done answers h
-  answers_on s f done [] g h read calls = ([], [], refl, subst (λ l. HasRead steps asks eq s f l h) (sym (append-nil done)) (subst (HasRead steps asks eq s f done) calls read))
+  answers_on s f done [] g h read calls = (
+    [],
+    [],
+    refl,
+    subst (λ l. HasRead steps asks eq s f l h) (sym (append-nil done))
+        (subst (HasRead steps asks eq s f done) calls read),
+  )
   answers_on s f done (None ∷ answers) g h read calls =
       let first = calls.1 in
-      let more = none_ever_after calls.0 h answers first.stops calls.2 in
-      ([], None ∷ answers, refl, (subst (λ l. HasRead steps asks eq s f l h) (sym (append-nil done)) (stays calls.0 h answers first.stops (first.reads s f done read) calls.2), more.0, more.1))
+      let more = none_ever_after calls.0 h answers first.stops calls.2 in (
+        [],
+        None ∷ answers,
+        refl,
+        (
+          subst (λ l. HasRead steps asks eq s f l h) (sym (append-nil done))
+              (stays calls.0 h answers first.stops (first.reads s f done read) calls.2),
+          more.0,
+          more.1,
+        ),
+      )
     where
-      stays : (g h : Reading S K A F) (answers : List (Option (Result (List A) AllocError))) → IsOver g → HasRead steps asks eq s f done g → FoldsTo (GivesRun steps asks eq) g answers h → HasRead steps asks eq s f done h
+      stays : (g h : Grouping S K A F) (answers : List (Option (Result (List A) AllocError)))
+          → IsOver g → HasRead steps asks eq s f done g
+          → FoldsTo (GivesRun steps asks eq) g answers h → HasRead steps asks eq s f done h
       stays g h [] over read calls = subst (HasRead steps asks eq s f done) calls read
       stays g h (a ∷ answers) over read calls =
           let same = sym (calls.1.over over).1 in
-          stays calls.0 h answers (subst IsOver same over) (subst (HasRead steps asks eq s f done) same read) calls.2
+          stays calls.0 h answers (subst IsOver same over)
+          (subst (HasRead steps asks eq s f done) same read) calls.2
   answers_on s f done (Some (Ok run) ∷ answers) g h read calls =
-      let more = answers_on s f (done ++ run ∷ []) answers calls.0 h (calls.1.reads s f done read) calls.2 in
-      (run ∷ more.0, more.1, ap (λ l. Some (Ok run) ∷ l) more.2, subst (λ l. AnswersThen steps asks eq s f l more.1 h) (append_assoc done (run ∷ []) more.0) more.3)
+      let more = answers_on s f (done ++ run ∷ []) answers calls.0 h (calls.1.reads s f done read)
+      calls.2 in (
+        run ∷ more.0,
+        more.1,
+        ap (λ l. Some (Ok run) ∷ l) more.2,
+        subst (λ l. AnswersThen steps asks eq s f l more.1 h)
+            (append_assoc done (run ∷ []) more.0) more.3,
+      )
   answers_on s f done (Some (Err e) ∷ answers) g h read calls =
-      let more = none_ever_after calls.0 h answers calls.1.stops calls.2 in
-      ([], Some (Err e) ∷ answers, refl, ((g, subst (λ l. HasRead steps asks eq s f l g) (sym (append-nil done)) read), more.0, more.1))
+      let more = none_ever_after calls.0 h answers calls.1.stops calls.2 in (
+        [],
+        Some (Err e) ∷ answers,
+        refl,
+        (
+          (
+            g,
+            subst (λ l. HasRead steps asks eq s f l g) (sym (append-nil done)) read,
+          ),
+          more.0,
+          more.1,
+        ),
+      )
 
   -- the runs that came
-  pub read_on : (s : S) (f : F) (done rs : List (List A)) (g h : Reading S K A F) → HasRead steps asks eq s f done g → Yields (GivesRun steps asks eq) g (map Ok rs) h → HasRead steps asks eq s f (done ++ rs) h
-  read_on s f done [] g h read calls = subst (λ l. HasRead steps asks eq s f l h) (sym (append-nil done)) (subst (HasRead steps asks eq s f done) calls read)
-  read_on s f done (run ∷ rs) g h read calls = subst (λ l. HasRead steps asks eq s f l h) (append_assoc done (run ∷ []) rs) (read_on s f (done ++ run ∷ []) rs calls.0 h (calls.1.reads s f done read) calls.2)
+  pub read_on : (s : S) (f : F) (done rs : List (List A)) (g h : Grouping S K A F)
+      → HasRead steps asks eq s f done g → Yields (GivesRun steps asks eq) g (map Ok rs) h
+      → HasRead steps asks eq s f (done ++ rs) h
+  read_on s f done [] g h read calls = subst (λ l. HasRead steps asks eq s f l h)
+      (sym (append-nil done)) (subst (HasRead steps asks eq s f done) calls read)
+  read_on s f done (run ∷ rs) g h read calls = subst (λ l. HasRead steps asks eq s f l h)
+      (append_assoc done (run ∷ []) rs) (read_on s f (done ++ run ∷ []) rs calls.0 h
+      (calls.1.reads s f done read) calls.2)
 
-  -- and the `Err` behind them, if one came: k is the reader before it
+  -- and the `Err` behind them, if one came: k is the grouping before it
   abbrev pub Came : S → F → List (List A) → List (Result (List A) AllocError) → Type 0
-  Came s f done xs = (rs : List (List A)) × ((xs ≡ map Ok rs) ⊎ ((e : AllocError) × (xs ≡ map Ok rs ++ Err e ∷ []) × (k : Reading S K A F) × HasRead steps asks eq s f (done ++ rs) k))
+  Came s f done xs = (rs : List (List A)) × ((xs ≡ map Ok rs)
+      ⊎ ((e : AllocError) × (xs ≡ map Ok rs ++ Err e ∷ []) × (k : Grouping S K A F)
+      × HasRead steps asks eq s f (done ++ rs) k))
 
-  one_more_came : (s : S) (f : F) (done : List (List A)) (run : List A) (xs : List (Result (List A) AllocError)) → Came s f (done ++ run ∷ []) xs → Came s f done (Ok run ∷ xs)
+  one_more_came : (s : S) (f : F) (done : List (List A)) (run : List A)
+      (xs : List (Result (List A) AllocError)) → Came s f (done ++ run ∷ []) xs
+      → Came s f done (Ok run ∷ xs)
   one_more_came s f done run xs (rs, inl e) = (run ∷ rs, inl (ap (λ l. Ok run ∷ l) e))
-  one_more_came s f done run xs (rs, inr (e, is, k, read)) = (run ∷ rs, inr (e, ap (λ l. Ok run ∷ l) is, k, subst (λ l. HasRead steps asks eq s f l k) (append_assoc done (run ∷ []) rs) read))
+  one_more_came s f done run xs (rs, inr (e, is, k, read)) = (
+    run ∷ rs,
+    inr (
+      e,
+      ap (λ l. Ok run ∷ l) is,
+      k,
+      subst (λ l. HasRead steps asks eq s f l k)
+          (append_assoc done (run ∷ []) rs) read,
+    ),
+  )
 
-  pub came : (s : S) (f : F) (done : List (List A)) (xs : List (Result (List A) AllocError)) (g h : Reading S K A F) → HasRead steps asks eq s f done g
+  pub came : (s : S) (f : F) (done : List (List A)) (xs : List (Result (List A) AllocError))
+      (g h : Grouping S K A F) → HasRead steps asks eq s f done g
       → Yields (GivesRun steps asks eq) g xs h → Came s f done xs
   came s f done [] g h read calls = ([], inl refl)
-  came s f done (Ok run ∷ xs) g h read calls = one_more_came s f done run xs (came s f (done ++ run ∷ []) xs calls.0 h (calls.1.reads s f done read) calls.2)
-  came s f done (Err e ∷ []) g h read calls = ([], inr (e, refl, g, subst (λ l. HasRead steps asks eq s f l g) (sym (append-nil done)) read))
+  came s f done (Ok run ∷ xs) g h read calls = one_more_came s f done run xs
+      (came s f (done ++ run ∷ []) xs calls.0 h (calls.1.reads s f done read) calls.2)
+  came s f done (Err e ∷ []) g h read calls = (
+    [],
+    inr (e, refl, g, subst (λ l. HasRead steps asks eq s f l g) (sym (append-nil done)) read),
+  )
   came s f done (Err e ∷ x ∷ xs) g h read calls = let none = (calls.2.1.over calls.1.stops).0 in cc
 
-  module _ {U : Type 0} (becomes : U → S → Type 0) (source : U) (s : S) (made : becomes source s) (f : F) where
-    has_runs : (a : Ahead K A) (whole : Bool) (rs : List (List A)) (drawn : List (A × K)) (runs : List (List (A × K))) (g : F) (t : S) → StandsAt steps asks eq a s drawn t runs
-        → rs ≡ map items_of runs → ShownEach asks f drawn g → (whole ≡ true → a ≡ Ended) → HasRuns (Reads becomes steps) asks eq whole source f rs
-    has_runs Unread whole rs drawn runs g t stands e asked over = (
-      drawn,
-      g,
-      None,
-      false,
-      record { it = s; made = made; given = (t, subst (λ l. Yields steps s (items_of l) t) (sym stands.0) stands.2, λ w. cc) },
-      asked,
-      (runs, subst (λ l. IsDivision (by_first (same_key eq)) l runs) (sym stands.0) (subst (IsDivision (by_first (same_key eq)) []) (sym stands.1) (division_of_none (by_first (same_key eq)))), e),
-      inr stands.0,
-      λ w. absurd (unread_is_not_over refl (over w)),
-    )
-    has_runs (Held k x) whole rs drawn runs g t stands e asked over = (
-      drawn,
-      g,
-      Some x,
-      false,
-      record { it = s; made = made; given = (t, stands.1, λ w. cc) },
-      asked,
-      (runs ++ ((x, k) ∷ []) ∷ [], stands.2, ap (λ l. l ++ (x ∷ []) ∷ []) e ∙ sym (map_push items_of runs ((x, k) ∷ []))),
-      (λ none. stands.0 (nil_mapped items_of runs (sym none ∙ e))),
-      λ w. absurd (held_is_not_over refl (over w)),
-    )
-    has_runs Ended whole rs drawn runs g t stands e asked over = (
-      drawn,
-      g,
-      None,
-      true,
-      record { it = s; made = made; given = (stands.0.0, stands.0.1, λ w. (t, stands.0.2)) },
-      asked,
-      (runs, stands.1, e),
-      inl refl,
-      λ w. (refl, refl),
-    )
+  module _ {U : Type 0} (becomes : U → S → Type 0) (source : U) (s : S) (made : becomes source s)
+      (f : F) where
+    has_runs : (a : Ahead K A) (whole : Bool) (rs : List (List A)) (drawn : List (A × K))
+        (runs : List (List (A × K))) (g : F) (t : S) → StandsAt steps asks eq a s drawn t runs
+        → rs ≡ map items_of runs → ShownEach asks f drawn g → (whole ≡ true → a ≡ Ended)
+        → HasRuns (Reads becomes steps) asks eq whole source f rs
+    has_runs Unread whole rs drawn runs g t stands e asked over = record {
+      drawn = drawn;
+      closure = g;
+      held = None;
+      ended = false;
+      read = record {
+        it = s;
+        made = made;
+        given = (
+          t,
+          subst (λ l. Yields steps s (items_of l) t) (sym stands.0) stands.2,
+          λ w. cc,
+        );
+      };
+      asked = asked;
+      divided = (
+        runs,
+        subst (λ l. IsDivision (by_first (same_key eq)) l runs) (sym stands.0)
+            (subst (IsDivision (by_first (same_key eq)) []) (sym stands.1)
+            (division_of_none (by_first (same_key eq)))),
+        e,
+      );
+      holds = inr stands.0;
+      over = λ w. absurd (unread_is_not_over refl (over w));
+    }
+    has_runs (Held k x) whole rs drawn runs g t stands e asked over = record {
+      drawn = drawn;
+      closure = g;
+      held = Some x;
+      ended = false;
+      read = record { it = s; made = made; given = (t, stands.1, λ w. cc) };
+      asked = asked;
+      divided = (
+        runs ++ ((x, k) ∷ []) ∷ [],
+        stands.2,
+        ap (λ l. l ++ (x ∷ []) ∷ []) e ∙ sym (map_push items_of runs ((x, k) ∷ [])),
+      );
+      holds = λ none. stands.0 (nil_mapped items_of runs (sym none ∙ e));
+      over = λ w. absurd (held_is_not_over refl (over w));
+    }
+    has_runs Ended whole rs drawn runs g t stands e asked over = record {
+      drawn = drawn;
+      closure = g;
+      held = None;
+      ended = true;
+      read = record { it = s; made = made; given = (stands.0.0, stands.0.1, λ w. (t, stands.0.2)) };
+      asked = asked;
+      divided = (runs, stands.1, e);
+      holds = inl refl;
+      over = λ w. (refl, refl);
+    }
 
-    read_has_runs : (whole : Bool) (rs : List (List A)) (h : Reading S K A F) → HasRead steps asks eq s f rs h → (whole ≡ true → IsOver h) → HasRuns (Reads becomes steps) asks eq whole source f rs
-    read_has_runs whole rs h read over = has_runs h.ahead whole rs read.drawn read.runs h.closure h.source read.stands read.answered read.asked over
+    read_has_runs : (whole : Bool) (rs : List (List A)) (h : Grouping S K A F)
+        → HasRead steps asks eq s f rs h → (whole ≡ true → IsOver h)
+        → HasRuns (Reads becomes steps) asks eq whole source f rs
+    read_has_runs whole rs h read over = has_runs h.ahead whole rs read.drawn read.runs h.closure
+        h.source read.stands read.answered read.asked over
 
     -- the runs that came, where the calls ended, and before an `Err`
-    pub given_runs : (whole : Bool) (rs : List (List A)) (g h : Reading S K A F) → HasRead steps asks eq s f [] g → Yields (GivesRun steps asks eq) g (map Ok rs) h
-        → (whole ≡ true → (u : Reading S K A F) × GivesRun steps asks eq h None u) → HasRuns (Reads becomes steps) asks eq whole source f rs
-    given_runs false rs g h read calls end = read_has_runs false rs h (read_on s f [] rs g h read calls) (λ w. cc)
-    given_runs true rs g h read calls end = let last = (end refl).1 in read_has_runs true rs (end refl).0 (last.reads s f rs (read_on s f [] rs g h read calls)) (λ w. last.stops)
+    pub given_runs : (whole : Bool) (rs : List (List A)) (g h : Grouping S K A F)
+        → HasRead steps asks eq s f [] g → Yields (GivesRun steps asks eq) g (map Ok rs) h
+        → (whole ≡ true → (u : Grouping S K A F) × GivesRun steps asks eq h None u)
+        → HasRuns (Reads becomes steps) asks eq whole source f rs
+    given_runs false rs g h read calls end = read_has_runs false rs h
+        (read_on s f [] rs g h read calls) (λ w. cc)
+    given_runs true rs g h read calls end = let last = (end refl).1 in
+        read_has_runs true rs (end refl).0 (last.reads s f rs (read_on s f [] rs g h read calls))
+        (λ w. last.stops)
 
     pub given_before : (xs : List (Result (List A) AllocError)) → Came s f [] xs
-        → (rs : List (List A)) × ((xs ≡ map Ok rs) ⊎ ((e : AllocError) × (xs ≡ map Ok rs ++ Err e ∷ []) × HasRuns (Reads becomes steps) asks eq false source f rs))
+        → (rs : List (List A)) × ((xs ≡ map Ok rs)
+        ⊎ ((e : AllocError) × (xs ≡ map Ok rs ++ Err e ∷ [])
+        × HasRuns (Reads becomes steps) asks eq false source f rs))
     given_before xs (rs, inl e) = (rs, inl e)
-    given_before xs (rs, inr (e, is, k, read)) = (rs, inr (e, is, read_has_runs false rs k read (λ w. cc)))
+    given_before xs (rs, inr (e, is, k, read)) = (
+      rs,
+      inr (e, is, read_has_runs false rs k read (λ w. cc)),
+    )
 
-  -- a reader as `into_iter` makes it has answered no run
-  pub begun : (it : Reading S K A F) (f : F) → it.closure ≡ f → it.ahead ≡ Unread → HasRead steps asks eq it.source f [] it
-  begun it f same unread = subst (λ q. HasRead steps asks eq it.source q [] it) same (fresh_reader steps asks eq it unread)
+  -- a grouping as `into_iter` makes it has answered no run
+  pub begun : (it : Grouping S K A F) (f : F) → it.closure ≡ f → it.ahead ≡ Unread
+      → HasRead steps asks eq it.source f [] it
+  begun it f same unread = subst (λ q. HasRead steps asks eq it.source q [] it) same
+      (fresh_grouping steps asks eq it unread)
 
   -- the runs that came to the end, where a closure that acts as a function gives the runs by it
-  pub runs_grouped : (g : Reading S K A F) → g.ahead ≡ Unread
+  pub runs_grouped : (g : Grouping S K A F) → g.ahead ≡ Unread
       → ((eq : K → K → Bool) (h : A → K) (ps : List (A × K)) (rs : List (List A)) (f : F)
       → ActsAsAt asks g.closure h → ShownEach asks g.closure ps f → DividesByKey eq ps rs
       → IsDivision (by_first (λ x y. eq (h x) (h y))) (items_of ps) rs)
@@ -134,18 +235,18 @@ module _ {S K A F : Type 0} (steps : S → Option A → S → Type 0) (asks : Mu
       subst (λ q. DrainsIf (GivesRun steps asks eq) (p.whole ≡ true) q (map Ok rs)) from
       (subst (DrainsIf (GivesRun steps asks eq) (p.whole ≡ true) p.from) is (took p)) in
       let r = given_runs {U = S} (λ u s. u ≡ s) g.source g.source refl g.closure true rs g whole.0
-      (fresh_reader steps asks eq g unread) whole.1 (λ e. whole.2 w) in
-      let over = r.8 refl in
-      let read : Reads (λ u s. u ≡ s) steps true g.source (items_of r.0) =
-      subst (λ e. Reads (λ u s. u ≡ s) steps e g.source (items_of r.0)) over.0 r.4 in (
+      (fresh_grouping steps asks eq g unread) whole.1 (λ e. whole.2 w) in
+      let over = r.over refl in
+      let read : Reads (λ u s. u ≡ s) steps true g.source (items_of r.drawn) =
+      subst (λ e. Reads (λ u s. u ≡ s) steps e g.source (items_of r.drawn)) over.0 r.read in (
         refl,
         (
-          run steps read.it (items_of r.0) true read.given,
+          run steps read.it (items_of r.drawn) true read.given,
           sym read.made,
           (
             refl,
-            λ h acts. by_function eq h r.0 rs r.1 acts r.5
-                (subst (λ held. DividesByKey eq r.0 (and_held rs held)) over.1 r.6),
+            λ h acts. by_function eq h r.drawn rs r.closure acts r.asked
+                (subst (λ held. DividesByKey eq r.drawn (and_held rs held)) over.1 r.divided),
           ),
         ),
       )

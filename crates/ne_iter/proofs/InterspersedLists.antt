@@ -2,25 +2,18 @@
 use Rattle.std.proofs.Common.{subst, sym, ap, ◌∙◌, append-nil}
 use Rattle.std.proofs.iter.runs.Made.{run, took}
 use Rattle.std.specs.Iterator.{DrainsIf}
-use Rattle.std.specs.Prelude.{◌≡◌, List, [], ◌∷◌, ◌++◌, map, Option, Some, refl, true, false, ◌&&◌, Result, Ok, Err, is_ok}
+use Rattle.std.specs.Prelude.{◌≡◌, List, [], ◌∷◌, ◌++◌, map, Option, Some, refl, true, false, ◌&&◌}
+use Rattle.std.specs.Prelude.{Result, Ok, Err, is_ok}
 use Rattle.std.specs.List.{list_all}
 use Rattle.std.specs.declared.alloc.AllocError.{AllocError}
 use Rattle.ne_iter.specs.Clones.{TriesClone}
-use Rattle.ne_iter.specs.Interspersed.{Interspersed, interspersed, drawn_from, clones_of, in_hand, is_over, IntersperseRuns}
+use Rattle.ne_iter.specs.Interspersed.{Interspersed, interspersed, drawn_from, clones_of, in_hand}
+use Rattle.ne_iter.specs.Interspersed.{is_over, IntersperseRuns}
 use Rattle.ne_iter.specs.declared.iter.intersperse.RawIntersperse.{RawIntersperse}
+use Rattle.ne_iter.proofs.InterspersedItems.{values_are}
 use Rattle.ne_iter.proofs.InterspersedRuns.{DrainsIf-interspersed}
 
 module _ {A : Type 0} (E : Type 0) where
-  values_are : (xs ys : List A) → map {B = Result A E} Ok xs ≡ map Ok ys → xs ≡ ys
-  values_are [] [] e = refl
-  values_are [] (y ∷ ys) e = cc
-  values_are (x ∷ xs) [] e = cc
-  values_are (x ∷ xs) (y ∷ ys) e =
-      let same : x ≡ y = cc in
-      let rest : map {B = Result A E} Ok xs ≡ map Ok ys = cc in
-      let more = values_are xs ys rest in
-      cc
-
   are_ok : (xs : List A) → list_all is_ok (map {B = Result A E} Ok xs) ≡ true
   are_ok [] = refl
   are_ok (x ∷ xs) = are_ok xs
@@ -28,7 +21,8 @@ module _ {A : Type 0} (E : Type 0) where
 module _ {A E : Type 0} (clones : A → A → Type 0) (infallible : A → Type 0) (s : A)
     (sure : infallible s) (same : (y z : A) → clones y z → z ≡ y) where
   -- what came is the list with separators
-  all_came : (xs : List A) (zs : List (Result A E)) → Interspersed (TriesClone clones infallible s) xs zs
+  all_came : (xs : List A) (zs : List (Result A E))
+      → Interspersed (TriesClone clones infallible s) xs zs
       → zs ≡ map Ok (interspersed s xs)
   all_came [] zs h = h
   all_came (x ∷ []) zs h = h

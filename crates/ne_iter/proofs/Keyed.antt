@@ -6,7 +6,7 @@ use Rattle.std.specs.Borrow.{Bor}
 use Rattle.std.specs.Fn.{Called, CalledAt, FnReturnsAtPair, Mut, Shared, Takes, TakesAt}
 use Rattle.std.specs.Iterator.{CallableOnAll, CallableOnAllAt}
 use Rattle.std.specs.List.{FoldsTo}
-use Rattle.ne_iter.specs.Answers.{KeepsBetter}
+use Rattle.ne_iter.specs.Consumers.{KeepsBetter}
 use Rattle.ne_iter.specs.Calls.{Calls, ShownEach}
 
 -- an item with its key, from the key with its item

@@ -3,6 +3,7 @@ pub mod ScannedRuns
 pub mod CopiedRuns
 pub mod FlatRuns
 pub mod PeekedRuns
+pub mod InterspersedItems
 pub mod InterspersedRuns
 pub mod InterspersedPlaces
 pub mod InterspersedLists
@@ -15,7 +16,7 @@ pub mod Traced
 pub mod Loops
 pub mod Best
 pub mod Keyed
-pub mod Readers
+pub mod Groupings
 pub mod Grouped
 pub mod Divided
 pub mod SliceDivisions
@@ -27,8 +28,11 @@ pub mod ReadLists
 pub mod ClauseLists
 pub mod FirstAnswers
 pub mod PeekedLists
+pub mod NextLists
 pub mod KeyedBest
 pub mod FunctionCalls
 pub mod Extremes
 pub mod Unrefused
 pub mod FirstRuns
+pub mod FrontsMade
+pub mod SortedKeys

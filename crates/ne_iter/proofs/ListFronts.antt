@@ -1,18 +1,22 @@
 -- Fronts of lists: what a list function makes of the first items of a list stands at the front of
 -- what it makes of the list, and is all of that where they are all.
-use Rattle.std.proofs.Common.{arith, sym, ap, ap₂, ◌∙◌, append_assoc}
+use Rattle.std.proofs.Common.{arith, sym, ap, ap₂, subst, ◌∙◌, append_assoc, map-id}
 use Rattle.std.proofs.lemmas.Bool.{lt-ltb, and_from, or_left, or_right}
 use Rattle.std.proofs.lemmas.List.{append-nil, map-append}
-use Rattle.std.proofs.lemmas.List.Elements.{filter-append, filter_map-append}
+use Rattle.std.proofs.lemmas.List.Elements.{All-cons, All-head, All-nil, All-tail, filter-append}
+use Rattle.std.proofs.lemmas.List.Elements.{filter_map-append}
 use Rattle.std.proofs.lemmas.List.Sums.{take_while-cons}
 use Rattle.std.proofs.lemmas.Grind.{flat_map-append}
-use Rattle.std.specs.Prelude.{zero, suc, ◌≡◌, ℕ, ◌+◌, ◌-◌, ◌≤◌, ◌<◌, Bool, true, false, ◌||◌, ◌&&◌, ltb, cond, List, [], ◌∷◌, ◌++◌, length, take, drop, map, filter, zip, refl, ⊤, Option, IsTrue}
-use Rattle.std.specs.List.{AllByRecursion, cons_option, enumerate_from, filter_map, flat_map, prefix_len, scan, take_while}
+use Rattle.std.specs.Prelude.{zero, suc, ◌≡◌, ℕ, ◌+◌, ◌-◌, ◌≤◌, ◌<◌, Bool, true, false, ◌||◌, ◌&&◌}
+use Rattle.std.specs.Prelude.{ltb, cond, List, [], ◌∷◌, ◌++◌, length, take, drop, map, filter, zip}
+use Rattle.std.specs.Prelude.{refl, ⊤, Option, IsTrue}
+use Rattle.std.specs.List.{All, AllByRecursion, AllZip, cons_option, enumerate_from, filter_map}
+use Rattle.std.specs.List.{flat_map, prefix_len, scan, take_while}
 use Rattle.ne_vec.specs.Divisions.{joined}
 use Rattle.ne_vec.specs.Fronts.{AreFirst}
 use Rattle.ne_iter.specs.Gives.{GivesList, ReadsEach}
 use Rattle.ne_iter.specs.Peeks.{with_head}
-use Rattle.ne_iter.specs.Separated.{separated}
+use Rattle.ne_iter.specs.Interspersed.{interspersed}
 
 -- a front that is whole is the list
 pub whole_front : {A : Type 0} (xs ys : List A) → AreFirst true xs ys → ys ≡ xs
@@ -132,46 +136,94 @@ zip_front whole a b xs ys us vs same ended f g = (
   λ w. zip_ended a b f.0 g.0 f.2 g.2 (ended w),
 )
 
--- lists given by sources, one after another
-pub joined_front : {U A : Type 0} (reads : Bool → U → List A → Type 0) (lists : U → List A)
-    → ((u : U) → GivesList reads u (lists u))
-    → (whole : Bool) (us : List U) (yss : List (List A)) → ReadsEach reads whole us yss
-    → AreFirst whole (flat_map lists us) (joined yss)
-joined_front reads lists gives whole [] [] h = ([], refl, λ _. refl)
-joined_front reads lists gives whole [] (ys ∷ yss) h = absurd h
-joined_front reads lists gives whole (u ∷ us) [] h = absurd h
-joined_front reads lists gives whole (u ∷ []) (ys ∷ zs ∷ yss) h = absurd h.1
-joined_front reads lists gives whole (u ∷ []) (ys ∷ []) h =
-    let first = gives u _ ys h.0 in (
+-- lists given by sources, one after another: beside each source stands an x, and it gives `inner x`
+joined_front : {X U A : Type 0} (reads : Bool → U → List A → Type 0) (inner : X → List A)
+    (whole : Bool) (xs : List X) (us : List U) (yss : List (List A))
+    → AllZip (λ x u. GivesList reads u (inner x)) xs us → ReadsEach reads whole us yss
+    → AreFirst whole (flat_map inner xs) (joined yss)
+joined_front reads inner whole [] [] [] beside h = ([], refl, λ _. refl)
+joined_front reads inner whole [] [] (ys ∷ yss) beside h = absurd h
+joined_front reads inner whole [] (u ∷ us) yss beside h = absurd beside
+joined_front reads inner whole (x ∷ xs) [] yss beside h = absurd beside
+joined_front reads inner whole (x ∷ xs) (u ∷ us) [] beside h = absurd h
+joined_front reads inner whole (x ∷ []) (u ∷ v ∷ us) (ys ∷ yss) beside h = absurd beside.1
+joined_front reads inner whole (x ∷ z ∷ xs) (u ∷ []) (ys ∷ yss) beside h = absurd beside.1
+joined_front reads inner whole (x ∷ []) (u ∷ []) (ys ∷ zs ∷ yss) beside h = absurd h.1
+joined_front reads inner whole (x ∷ []) (u ∷ []) (ys ∷ []) beside h =
+    let first = beside.0 _ ys h.0 in (
       first.0,
-      append-nil (lists u) ∙ first.1 ∙ ap (λ l. l ++ first.0) (sym (append-nil ys)),
+      append-nil (inner x) ∙ first.1 ∙ ap (λ l. l ++ first.0) (sym (append-nil ys)),
       λ w. first.2 (or_left whole false w),
     )
-joined_front reads lists gives whole (u ∷ v ∷ us) (ys ∷ yss) h =
-    let first = gives u _ ys h.0 in
-    let others = joined_front reads lists gives whole (v ∷ us) yss h.1 in
+joined_front reads inner whole (x ∷ z ∷ xs) (u ∷ v ∷ us) (ys ∷ yss) beside h =
+    let first = beside.0 _ ys h.0 in
+    let others = joined_front reads inner whole (z ∷ xs) (v ∷ us) yss beside.1 h.1 in
     let ended = first.2 (or_right whole _ (lt-ltb 0 (length (v ∷ us)) (omega arith))) in
     let all = first.1 ∙ ap (λ l. ys ++ l) ended ∙ append-nil ys in (
       others.0,
-      ap (λ l. l ++ flat_map lists (v ∷ us)) all ∙ ap (λ l. ys ++ l) others.1
+      ap (λ l. l ++ flat_map inner (z ∷ xs)) all ∙ ap (λ l. ys ++ l) others.1
           ∙ sym (append_assoc ys (joined yss) others.0),
       others.2,
     )
 
--- the same, of the first sources of a list
-pub joined_fronts : {U A : Type 0} (reads : Bool → U → List A → Type 0) (lists : U → List A)
-    → ((u : U) → GivesList reads u (lists u))
-    → (whole : Bool) (all us : List U) (yss : List (List A)) → AreFirst whole all us
-    → ReadsEach reads whole us yss → AreFirst whole (flat_map lists all) (joined yss)
-joined_fronts reads lists gives whole all us yss f h =
-    let g = joined_front reads lists gives whole us yss h in (
-      g.0 ++ flat_map lists f.0,
-      ap (flat_map lists) f.1 ∙ flat_map-append lists us f.0
-          ∙ ap (λ l. l ++ flat_map lists f.0) g.1
-          ∙ append_assoc (joined yss) g.0 (flat_map lists f.0),
+-- the same, where only the first of all came
+pub joined_fronts : {X U A : Type 0} (reads : Bool → U → List A → Type 0) (inner : X → List A)
+    (whole : Bool) (all xs : List X) (us : List U) (yss : List (List A)) → AreFirst whole all xs
+    → AllZip (λ x u. GivesList reads u (inner x)) xs us → ReadsEach reads whole us yss
+    → AreFirst whole (flat_map inner all) (joined yss)
+joined_fronts reads inner whole all xs us yss f beside h =
+    let g = joined_front reads inner whole xs us yss beside h in (
+      g.0 ++ flat_map inner f.0,
+      ap (flat_map inner) f.1 ∙ flat_map-append inner xs f.0
+          ∙ ap (λ l. l ++ flat_map inner f.0) g.1
+          ∙ append_assoc (joined yss) g.0 (flat_map inner f.0),
       λ w. let a = g.2 w in let b = f.2 w in
-          ap (λ l. l ++ flat_map lists f.0) a ∙ ap (flat_map lists) b,
+          ap (λ l. l ++ flat_map inner f.0) a ∙ ap (flat_map inner) b,
     )
+
+-- what holds of each item of a list holds of its first ones
+all_front : {A : Type 0} (P : A → Type 0) (xs more : List A) → All P (xs ++ more) → All P xs
+all_front P [] more all = All-nil P
+all_front P (x ∷ xs) more all = All-cons P x xs (All-head P x (xs ++ more) all)
+    (all_front P xs more (All-tail P x (xs ++ more) all))
+
+module _ {A U B : Type 0} (reads : Bool → U → List B → Type 0) (source : A → U)
+    (lists : A → List B) where
+  -- the source of an item gives the item's list
+  abbrev pub GivesOwnList : A → Type 0
+  GivesOwnList x = GivesList reads (source x) (lists x)
+
+  own_lists : (xs : List A) → All GivesOwnList xs
+      → AllZip (λ x u. GivesList reads u (lists x)) xs (map source xs)
+  own_lists [] gives = tt
+  own_lists (x ∷ xs) gives = (
+    All-head GivesOwnList x xs gives,
+    own_lists xs (All-tail GivesOwnList x xs gives),
+  )
+
+  -- lists given by the sources of items, where only the first of them came
+  pub joined_items : (whole : Bool) (all xs : List A) (yss : List (List B)) → All GivesOwnList all
+      → AreFirst whole all xs → ReadsEach reads whole (map source xs) yss
+      → AreFirst whole (flat_map lists all) (joined yss)
+  joined_items whole all xs yss gives f h =
+      joined_fronts reads lists whole all xs (map source xs) yss f
+      (own_lists xs (all_front GivesOwnList xs f.0 (subst (All GivesOwnList) f.1 gives))) h
+
+-- and by sources themselves
+pub joined_sources : {U B : Type 0} (reads : Bool → U → List B → Type 0) (lists : U → List B)
+    (whole : Bool) (all us : List U) (yss : List (List B))
+    → All (λ u. GivesList reads u (lists u)) all → AreFirst whole all us
+    → ReadsEach reads whole us yss → AreFirst whole (flat_map lists all) (joined yss)
+joined_sources reads lists whole all us yss gives f h =
+    joined_items reads (λ u. u) lists whole all us yss gives f
+    (subst (λ l. ReadsEach reads whole l yss) (sym (map-id us)) h)
+
+-- each source beside itself
+pub each_gives : {U A : Type 0} (reads : Bool → U → List A → Type 0) (inner : U → List A)
+    → ((u : U) → GivesList reads u (inner u)) → (us : List U)
+    → AllZip (λ v u. GivesList reads u (inner v)) us us
+each_gives reads inner gives [] = tt
+each_gives reads inner gives (u ∷ us) = (gives u, each_gives reads inner gives us)
 
 pub scan_front : {S A B : Type 0} (next : S → A → S) (out : S → A → B) (init : S) (whole : Bool)
     (us more : List A) → (whole ≡ true → more ≡ [])
@@ -182,14 +234,15 @@ scan_front next out init whole (u ∷ us) more ended =
     let f = scan_front next out (next init u) whole us more ended in
     (f.0, ap (λ l. out init u ∷ l) f.1, f.2)
 
-pub separated_front : {A : Type 0} (s : A) (us more : List A)
-    → (tail : List A) × (separated s (us ++ more) ≡ separated s us ++ tail)
+pub interspersed_front : {A : Type 0} (s : A) (us more : List A)
+    → (tail : List A) × (interspersed s (us ++ more) ≡ interspersed s us ++ tail)
     × (more ≡ [] → tail ≡ [])
-separated_front s [] more = (separated s more, refl, λ e. ap (separated s) e)
-separated_front s (u ∷ []) [] = ([], refl, λ _. refl)
-separated_front s (u ∷ []) (x ∷ more) = (s ∷ separated s (x ∷ more), refl, λ e. let e = e in cc)
-separated_front s (u ∷ v ∷ us) more =
-    let f = separated_front s (v ∷ us) more in (f.0, ap (λ l. u ∷ s ∷ l) f.1, f.2)
+interspersed_front s [] more = (interspersed s more, refl, λ e. ap (interspersed s) e)
+interspersed_front s (u ∷ us) more = (
+  flat_map (λ x. s ∷ x ∷ []) more,
+  ap (λ l. u ∷ l) (flat_map-append (λ x. s ∷ x ∷ []) us more),
+  λ e. ap (flat_map (λ x. s ∷ x ∷ [])) e,
+)
 
 -- the first item, with another in its place
 pub head_front : {A : Type 0} (first w : A) (whole : Bool) (xs zs : List A)

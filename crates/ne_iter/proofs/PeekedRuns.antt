@@ -1,8 +1,10 @@
 -- What a run of one item and a rest says of the rest.
 use Rattle.std.proofs.Common.{rules, subst, sym, ap, ◌∙◌}
-use Rattle.std.specs.Prelude.{◌≡◌, List, [], ◌∷◌, ◌++◌, length, Option, Some, None, refl, Bool, true, false, ltb, ◌||◌}
+use Rattle.std.specs.Prelude.{◌≡◌, List, [], ◌∷◌, ◌++◌, length, Option, Some, None, refl, Bool}
+use Rattle.std.specs.Prelude.{true, false, ltb, ◌||◌}
 use Rattle.std.specs.Iterator.{DrainsIf}
-use Rattle.std.specs.Iterator.Adapters.{once_item, once_steps, chain_first, chain_second, chain_first_done, chain_second_done, chain_steps}
+use Rattle.std.specs.Iterator.Adapters.{once_item, once_steps, chain_first, chain_second}
+use Rattle.std.specs.Iterator.Adapters.{chain_first_done, chain_second_done, chain_steps}
 use Rattle.std.specs.declared.iter.Once.{Once}
 use Rattle.std.specs.declared.iter.Chain.{Chain}
 use Rattle.ne_iter.proofs.Runs.{DrainsIf-chain}
@@ -14,23 +16,33 @@ no_item x e = let e = e in search rules
 some_more : {A : Type 0} (y : A) (ys : List A) → ltb 0 (length (y ∷ ys)) ≡ true
 some_more y ys = search rules
 
-module _ {S A : Type 0} (steps : S → Option A → S → Type 0) (w x : A) (it rest : S) (drawn : steps it (Some x) rest) where
+module _ {S A : Type 0} (steps : S → Option A → S → Type 0) (w x : A) (it rest : S)
+    (drawn : steps it (Some x) rest) where
   abbrev Headed : Bool → List A → Type 0
   Headed whole zs = DrainsIf steps (whole ≡ true) it (with_head x zs) × (zs ≡ with_head w zs)
 
-  nothing : (whole : Bool) (ys : List A) → ((whole || ltb 0 (length ys)) ≡ true → ⊥) → Headed whole ys
+  nothing : (whole : Bool) (ys : List A) → ((whole || ltb 0 (length ys)) ≡ true → ⊥)
+      → Headed whole ys
   nothing true ys h = absurd (h refl)
   nothing false [] h = ((it, refl, λ e. let e = e in search rules), refl)
   nothing false (y ∷ ys) h = absurd (h (some_more y ys))
 
-  one_first : (whole : Bool) (o : Once A) (xs ys : List A) → once_item o ≡ Some w → DrainsIf once_steps ((whole || ltb 0 (length ys)) ≡ true) o xs → DrainsIf steps (whole ≡ true) rest ys
+  one_first : (whole : Bool) (o : Once A) (xs ys : List A) → once_item o ≡ Some w
+      → DrainsIf once_steps ((whole || ltb 0 (length ys)) ≡ true) o xs
+      → DrainsIf steps (whole ≡ true) rest ys
       → Headed whole (xs ++ ys)
-  one_first whole o [] ys e (t, same, fin) k = nothing whole ys (λ h. no_item w (sym e ∙ ap once_item same ∙ sym (fin h).1.0))
-  one_first whole o (q ∷ []) ys e (t, (j, st, more), fin) k = ((k.0, (rest, drawn, k.1), k.2), (let a = st.0 in let b = e in cc))
-  one_first whole o (q ∷ r ∷ xs) ys e (t, (j, st, (i, more, others)), fin) k = absurd (no_item r (more.0 ∙ st.1))
+  one_first whole o [] ys e (t, same, fin) k = nothing whole ys
+      (λ h. no_item w (sym e ∙ ap once_item same ∙ sym (fin h).1.0))
+  one_first whole o (q ∷ []) ys e (t, (j, st, more), fin)
+      k = ((k.0, (rest, drawn, k.1), k.2), (let a = st.0 in let b = e in cc))
+  one_first whole o (q ∷ r ∷ xs) ys e (t, (j, st, (i, more, others)), fin) k = absurd
+      (no_item r (more.0 ∙ st.1))
 
-  pub DrainsIf-headed : (whole : Bool) (s : Chain (Once A) S) (zs : List A) → once_item (chain_first s) ≡ Some w → chain_second s ≡ rest → chain_first_done s ≡ false → chain_second_done s ≡ false
+  pub DrainsIf-headed : (whole : Bool) (s : Chain (Once A) S) (zs : List A)
+      → once_item (chain_first s) ≡ Some w → chain_second s ≡ rest → chain_first_done s ≡ false
+      → chain_second_done s ≡ false
       → DrainsIf (chain_steps once_steps steps) (whole ≡ true) s zs → Headed whole zs
   DrainsIf-headed whole s zs e second fresh live k =
       let p = DrainsIf-chain once_steps steps whole s zs fresh live k in
-      subst (Headed whole) (sym p.4) (one_first whole (chain_first s) p.0 p.1 e p.2 (subst (λ q. DrainsIf steps (whole ≡ true) q p.1) second p.3))
+      subst (Headed whole) (sym p.4) (one_first whole (chain_first s) p.0 p.1 e p.2
+      (subst (λ q. DrainsIf steps (whole ≡ true) q p.1) second p.3))

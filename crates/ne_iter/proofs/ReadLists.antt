@@ -12,49 +12,52 @@ use Rattle.ne_iter.specs.Sources.{Reads, SameLists}
 use Rattle.ne_iter.proofs.ListFronts.{whole_front}
 use Rattle.ne_iter.proofs.RunFronts.{front_of}
 
-module _ {U S A : Type 0} (becomes : U → S → Type 0) (steps : S → Option A → S → Type 0) (u : U) where
-  pub lists_read : (xs : List A) → Lists becomes steps u xs → GivesList (Reads becomes steps) u xs
-  unfolding Lists
-  lists_read xs lists whole ys read = lists read.it read.made whole ys read.given
+module _ {U S A : Type 0} (becomes : U → S → Type 0) (steps : S → Option A → S → Type 0) (u : U)
+  where
+    pub lists_read : (xs : List A) → Lists becomes steps u xs → GivesList (Reads becomes steps) u xs
+    unfolding Lists
+    lists_read xs lists whole ys read = lists read.it read.made whole ys read.given
 
-  pub read_lists : (xs : List A) → GivesList (Reads becomes steps) u xs
-      → GivesItems becomes steps u xs
-  unfolding Lists
-  read_lists xs list = gives_items becomes steps u xs (λ it made whole ys given.
-      list whole ys (record { it = it; made = made; given = given }))
-
-  module _ {B : Type 0} (view : A → B) (xs : List B) where
-    pub shows_read : Shows becomes steps view u xs → ViewsList (Reads becomes steps) view u xs
-    unfolding Shows
-    shows_read shows whole ys read = shows read.it read.made whole ys read.given
-
-    pub read_shows : ViewsList (Reads becomes steps) view u xs → GivesShown becomes steps view u xs
-    unfolding Shows
-    read_shows list = gives_shown becomes steps u view xs (λ it made whole ys given.
+    pub read_lists : (xs : List A) → GivesList (Reads becomes steps) u xs
+        → GivesItems becomes steps u xs
+    unfolding Lists
+    read_lists xs list = gives_items becomes steps u xs (λ it made whole ys given.
         list whole ys (record { it = it; made = made; given = given }))
 
-  -- an iterator's own clause, read by places
-  pub meets_read : (xs : List A) → MeetsList becomes steps u xs → GivesList (Reads becomes steps) u xs
-  meets_read xs meets whole ys read =
-      let p = run steps read.it ys whole read.given in
-      let f = meets read.it read.made p p.seen refl in
-      front_of whole xs ys f.0 f.1 f.2
+    module _ {B : Type 0} (view : A → B) (xs : List B) where
+      pub shows_read : Shows becomes steps view u xs → ViewsList (Reads becomes steps) view u xs
+      unfolding Shows
+      shows_read shows whole ys read = shows read.it read.made whole ys read.given
 
-  module _ (xs : List A) (lists : Lists becomes steps u xs) (P : List A → Type 0) where
-    -- what holds of a list that was read to its end holds of the list that is given
-    pub of_read : (ys : List A) → Reads becomes steps true u ys → P ys → P xs
-    of_read ys read = subst P (whole_front xs ys (lists_read xs lists true ys read))
+      pub read_shows : ViewsList (Reads becomes steps) view u xs
+          → GivesShown becomes steps view u xs
+      unfolding Shows
+      read_shows list = gives_shown becomes steps u view xs (λ it made whole ys given.
+          list whole ys (record { it = it; made = made; given = given }))
 
-    pub of_drained : (it : S) (ys : List A) → becomes u it → Drains steps it ys → P ys → P xs
-    of_drained it ys made drains =
-        of_read ys (record { it = it; made = made; given = to_end steps it ys drains })
+    -- an iterator's own clause, read by places
+    pub meets_read : (xs : List A) → MeetsList becomes steps u xs
+        → GivesList (Reads becomes steps) u xs
+    meets_read xs meets whole ys read =
+        let p = run steps read.it ys whole read.given in
+        let f = meets read.it read.made p p.seen refl in
+        front_of whole xs ys f.0 f.1 f.2
 
-    pub of_run : (it : S) (p : Run steps) → becomes u it → p.from ≡ it → p.whole ≡ true
-        → P p.items → P xs
-    unfolding Lists
-    of_run it p made from whole =
-        let f = lists it made p.whole p.items (run_drains steps p it from) in
-        subst P (sym (f.1 ∙ ap (λ l. p.items ++ l) (f.2 whole) ∙ append-nil p.items))
+    module _ (xs : List A) (lists : Lists becomes steps u xs) (P : List A → Type 0) where
+      -- what holds of a list that was read to its end holds of the list that is given
+      pub of_read : (ys : List A) → Reads becomes steps true u ys → P ys → P xs
+      of_read ys read = subst P (whole_front xs ys (lists_read xs lists true ys read))
+
+      pub of_drained : (it : S) (ys : List A) → becomes u it → Drains steps it ys → P ys → P xs
+      of_drained it ys made drains =
+          of_read ys (record { it = it; made = made; given = to_end steps it ys drains })
+
+      pub of_run : (it : S) (p : Run steps) → becomes u it → p.from ≡ it → p.whole ≡ true
+          → P p.items → P xs
+      unfolding Lists
+      of_run it p made from whole =
+          let f = lists it made p.whole p.items (run_drains steps p it from) in
+          subst P (sym (f.1 ∙ ap (λ l. p.items ++ l) (f.2 whole) ∙ append-nil p.items))
 
 -- what becomes a source reads what that source does
 pub becomes_read : {W R V T A : Type 0} (meets : W → R → Type 0) (other : R → Option A → R → Type 0)

@@ -7,7 +7,7 @@ use Rattle.ne_vec.specs.Divisions.{IsDivision}
 use Rattle.ne_vec.specs.SliceRuns.{Cutting, ActsAsAtPair, CutsRun}
 use Rattle.ne_iter.specs.Gives.{GivesList}
 use Rattle.ne_iter.specs.Sources.{Reads}
-use Rattle.ne_iter.proofs.Readers.{division_of_none}
+use Rattle.ne_iter.proofs.Groupings.{division_of_none}
 
 module _ {A F : Type 0} (calls : Shared F (Bor A × (Bor A × Unit {0})) Bool)
     (place : (A → A → Bool) → List A → A → Bool)

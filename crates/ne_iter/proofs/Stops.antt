@@ -1,46 +1,63 @@
 -- What `all`, `any`, `find` and `nth` of a std iterator say of what its source reads.
-use Rattle.std.specs.Prelude.{◌≡◌, ℕ, List, [], ◌∷◌, ◌++◌, Option, Some, None, refl, Bool, true, false, MatchOption}
+use Rattle.std.specs.Prelude.{◌≡◌, ℕ, List, [], ◌∷◌, ◌++◌, Option, Some, None, refl, Bool, true}
+use Rattle.std.specs.Prelude.{false, MatchOption}
 use Rattle.std.specs.Bool.{MatchBool}
 use Rattle.std.specs.Borrow.{Bor}
 use Rattle.std.specs.Fn.{Called, Mut}
 use Rattle.std.specs.Iterator.{YieldsThen, SkipsThenYields, ChecksAll, ChecksAny, FindsItem}
 use Rattle.ne_iter.specs.Sources.{Reads}
-use Rattle.ne_iter.specs.Answers.{TellsAll, TellsAny, FindsFirst, GivesNth}
+use Rattle.ne_iter.specs.Consumers.{TellsAll, TellsAny, FindsFirst, GivesNth}
 use Rattle.ne_iter.proofs.JoinedRuns.{Yields-append}
 
 -- u is where the calls led that the method made
-module _ {U S A : Type 0} (becomes : U → S → Type 0) (steps : S → Option A → S → Type 0) (source : U) (it u : S) (made : becomes source it) where
+module _ {U S A : Type 0} (becomes : U → S → Type 0) (steps : S → Option A → S → Type 0)
+    (source : U) (it u : S) (made : becomes source it) where
   read_to_end : (xs : List A) → YieldsThen steps it xs None u → Reads becomes steps true source xs
   read_to_end xs run = record { it = it; made = made; given = (run.0, run.1, λ _. (u, run.2)) }
 
-  read_to_item : (xs : List A) (x : A) → YieldsThen steps it xs (Some x) u → Reads becomes steps false source (xs ++ x ∷ [])
-  read_to_item xs x run = record { it = it; made = made; given = (u, Yields-append steps xs (x ∷ []) it run.0 u run.1 (u, run.2, refl), λ e. cc e) }
+  read_to_item : (xs : List A) (x : A) → YieldsThen steps it xs (Some x) u
+      → Reads becomes steps false source (xs ++ x ∷ [])
+  read_to_item xs x run = record {
+    it = it;
+    made = made;
+    given = (u, Yields-append steps xs (x ∷ []) it run.0 u run.1 (u, run.2, refl), λ e. cc e);
+  }
 
   module _ {F : Type 0} (calls : Mut F (A × Unit {0}) Bool) where
-    all_stops : (r : Bool) (o : Option A) (xs : List A) (g : F) → YieldsThen steps it xs o u → MatchOption o (r ≡ true) (λ x. (r ≡ false) × ((h : F) × Called calls g (x, tt) false h))
-        → MatchBool r (Reads becomes steps true source xs) ((x : A) × (h : F) × Reads becomes steps false source (xs ++ x ∷ []) × Called calls g (x, tt) false h)
+    all_stops : (r : Bool) (o : Option A) (xs : List A) (g : F) → YieldsThen steps it xs o u
+        → MatchOption o (r ≡ true) (λ x. (r ≡ false) × ((h : F) × Called calls g (x, tt) false h))
+        → MatchBool r (Reads becomes steps true source xs)
+        ((x : A) × (h : F) × Reads becomes steps false source (xs ++ x ∷ [])
+        × Called calls g (x, tt) false h)
     all_stops true None xs g run e = read_to_end xs run
     all_stops false None xs g run e = cc e
     all_stops true (Some x) xs g run e = cc e.0
     all_stops false (Some x) xs g run e = (x, e.1.0, read_to_item xs x run, e.1.1)
 
-    pub TellsAll-from_run : (f : F) (r : Bool) → ChecksAll steps calls it f r u → TellsAll (Reads becomes steps) calls source f r
+    pub TellsAll-from_run : (f : F) (r : Bool) → ChecksAll steps calls it f r u
+        → TellsAll (Reads becomes steps) calls source f r
     TellsAll-from_run f r h = (h.0, h.2, h.4, all_stops r h.1 h.0 h.2 h.3 h.5)
 
-    any_stops : (r : Bool) (o : Option A) (xs : List A) (g : F) → YieldsThen steps it xs o u → MatchOption o (r ≡ false) (λ x. (r ≡ true) × ((h : F) × Called calls g (x, tt) true h))
-        → MatchBool r ((x : A) × (h : F) × Reads becomes steps false source (xs ++ x ∷ []) × Called calls g (x, tt) true h) (Reads becomes steps true source xs)
+    any_stops : (r : Bool) (o : Option A) (xs : List A) (g : F) → YieldsThen steps it xs o u
+        → MatchOption o (r ≡ false) (λ x. (r ≡ true) × ((h : F) × Called calls g (x, tt) true h))
+        → MatchBool r ((x : A) × (h : F) × Reads becomes steps false source (xs ++ x ∷ [])
+        × Called calls g (x, tt) true h) (Reads becomes steps true source xs)
     any_stops false None xs g run e = read_to_end xs run
     any_stops true None xs g run e = cc e
     any_stops false (Some x) xs g run e = cc e.0
     any_stops true (Some x) xs g run e = (x, e.1.0, read_to_item xs x run, e.1.1)
 
-    pub TellsAny-from_run : (f : F) (r : Bool) → ChecksAny steps calls it f r u → TellsAny (Reads becomes steps) calls source f r
+    pub TellsAny-from_run : (f : F) (r : Bool) → ChecksAny steps calls it f r u
+        → TellsAny (Reads becomes steps) calls source f r
     TellsAny-from_run f r h = (h.0, h.2, h.4, any_stops r h.1 h.0 h.2 h.3 h.5)
 
-  pub FindsFirst-from_run : {F : Type 0} (calls : Mut F (Bor A × Unit {0}) Bool) (f : F) (r : Option A) → FindsItem steps calls it f r u → FindsFirst (Reads becomes steps) calls source f r
+  pub FindsFirst-from_run : {F : Type 0} (calls : Mut F (Bor A × Unit {0}) Bool) (f : F)
+      (r : Option A) → FindsItem steps calls it f r u
+      → FindsFirst (Reads becomes steps) calls source f r
   FindsFirst-from_run calls f None h = (h.0, h.1, h.3, read_to_end h.0 h.2)
   FindsFirst-from_run calls f (Some x) h = (h.0, h.1, h.3, (h.4.0, read_to_item h.0 x h.2, h.4.1))
 
-  pub GivesNth-from_run : (n : ℕ) (r : Option A) → SkipsThenYields steps it n r u → GivesNth (Reads becomes steps) source n r
+  pub GivesNth-from_run : (n : ℕ) (r : Option A) → SkipsThenYields steps it n r u
+      → GivesNth (Reads becomes steps) source n r
   GivesNth-from_run n None h = (h.0, (read_to_end h.0 h.1, h.2))
   GivesNth-from_run n (Some x) h = (h.0, (read_to_item h.0 x h.1, h.2))

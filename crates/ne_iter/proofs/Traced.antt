@@ -2,29 +2,38 @@
 use Rattle.std.proofs.Common.{refl, subst, sym, ap, arith}
 use Rattle.std.proofs.iter.runs.Made.{run, took}
 use Rattle.std.proofs.lemmas.Option.{slice_get_within, get_or_from_slice_get}
-use Rattle.std.specs.Prelude.{◌≡◌, ℕ, zero, suc, ◌<◌, Bool, true, false, List, [], ◌∷◌, length, map, Option, Some, None, IsSomeAnd, IfSome, slice_get, slice_index_or}
+use Rattle.std.specs.Prelude.{◌≡◌, ℕ, zero, suc, ◌<◌, Bool, true, false, List, [], ◌∷◌, length, map}
+use Rattle.std.specs.Prelude.{Option, Some, None, IsSomeAnd, IfSome, slice_get, slice_index_or}
 use Rattle.std.specs.Iterator.Runs.{Run, AllItems, AnyItem}
 use Rattle.std.specs.List.{IsFirstBest}
 use Rattle.std.specs.Option.{option_map}
 use Rattle.ne_iter.specs.Sources.{Reads}
 use Rattle.ne_iter.specs.SourceRuns.{RunsSome, RunsWhole, BeginsRuns}
 
-module _ {U S A : Type 0} {becomes : U → S → Type 0} {steps : S → Option A → S → Type 0} {u : U} {xs : List A} where
-  pub run_of : {whole : Bool} → Reads becomes steps whole u xs → (P : List A → Type 0) → P xs → RunsSome becomes steps u (λ p. (p.whole ≡ whole) × P p.items)
+module _ {U S A : Type 0} {becomes : U → S → Type 0} {steps : S → Option A → S → Type 0} {u : U}
+    {xs : List A} where
+  pub run_of : {whole : Bool} → Reads becomes steps whole u xs → (P : List A → Type 0) → P xs
+      → RunsSome becomes steps u (λ p. (p.whole ≡ whole) × P p.items)
   run_of {whole} h P k = (h.it, h.made, (run steps h.it xs whole h.given, refl, (refl, k)))
 
-  pub whole_run_of : (h : Reads becomes steps true u xs) → (P : Run steps → Type 0) → P (run steps h.it xs true h.given) → RunsWhole becomes steps u P
+  pub whole_run_of : (h : Reads becomes steps true u xs) → (P : Run steps → Type 0)
+      → P (run steps h.it xs true h.given) → RunsWhole becomes steps u P
   whole_run_of h P k = (h.it, h.made, (run steps h.it xs true h.given, refl, refl, k))
 
-module _ {A : Type 0} (beats : A → A → Bool) (xs : List A) (m : A) (place : ℕ) (best : IsFirstBest beats xs (length xs) place) (here : slice_get xs place ≡ Some m) where
+module _ {A : Type 0} (beats : A → A → Bool) (xs : List A) (m : A) (place : ℕ)
+    (best : IsFirstBest beats xs (length xs) place) (here : slice_get xs place ≡ Some m) where
   unbeaten : (k : ℕ) (o : Option A) → slice_get xs k ≡ o → IfSome o (λ x. beats x m ≡ false)
   unbeaten k None e = tt
   unbeaten k (Some x) e =
       subst (λ y. beats x y ≡ false) (get_or_from_slice_get xs place m x here)
-      (subst (λ y. beats y (slice_index_or xs place x) ≡ false) (get_or_from_slice_get xs k x x e) (best.1 k x (slice_get_within xs k x e)))
+      (subst (λ y. beats y (slice_index_or xs place x) ≡ false) (get_or_from_slice_get xs k x x e)
+      (best.1 k x (slice_get_within xs k x e)))
 
   -- the best of a list is an item of a run that gave it, and no item beats it
-  pub best_run_of : {U S : Type 0} {becomes : U → S → Type 0} {steps : S → Option A → S → Type 0} {u : U} → Reads becomes steps true u xs → RunsWhole becomes steps u (λ p. AnyItem p (λ x. x ≡ m) × AllItems p (λ x. beats x m ≡ false))
+  pub best_run_of : {U S : Type 0} {becomes : U → S → Type 0} {steps : S → Option A → S → Type 0}
+      {u : U} → Reads becomes steps true u xs
+      → RunsWhole becomes steps u (λ p. AnyItem p (λ x. x ≡ m)
+      × AllItems p (λ x. beats x m ≡ false))
   best_run_of {steps = steps} h = (
     h.it,
     h.made,
@@ -40,19 +49,29 @@ module _ {A : Type 0} (beats : A → A → Bool) (xs : List A) (m : A) (place : 
   )
 
 -- a mapped list, read by places
-pub indexes : {A B : Type 0} (xs : List A) (v : A → B) → (length (map v xs) ≡ length xs) × ((k : ℕ) (d : B) → k < length xs → option_map v (slice_get xs k) ≡ Some (slice_index_or (map v xs) k d))
+pub indexes : {A B : Type 0} (xs : List A) (v : A → B) → (length (map v xs) ≡ length xs)
+    × ((k : ℕ) (d : B) → k < length xs → option_map v (slice_get xs k)
+    ≡ Some (slice_index_or (map v xs) k d))
 indexes [] v = (refl, λ k d l. absurd (omega (arith, l)))
 indexes (x ∷ xs) v = let h = indexes xs v in (ap (λ n. suc n) h.0, λ k d l. at k d l (h.1))
   where
-    at : (k : ℕ) (d : _) → k < length (x ∷ xs) → ((k : ℕ) (d : _) → k < length xs → option_map v (slice_get xs k) ≡ Some (slice_index_or (map v xs) k d)) → option_map v (slice_get (x ∷ xs) k) ≡ Some (slice_index_or (map v (x ∷ xs)) k d)
+    at : (k : ℕ) (d : _) → k < length (x ∷ xs)
+        → ((k : ℕ) (d : _) → k < length xs → option_map v (slice_get xs k)
+        ≡ Some (slice_index_or (map v xs) k d))
+        → option_map v (slice_get (x ∷ xs) k) ≡ Some (slice_index_or (map v (x ∷ xs)) k d)
     at zero d l h = refl
     at (suc k) d l h = h k d (omega (arith, l))
 
 -- a run behind a first item
-pub begins : {S A : Type 0} (steps : S → Option A → S → Type 0) (it : S) (x : A) (rest : S) → steps it (Some x) rest → BeginsRuns steps x rest it
+pub begins : {S A : Type 0} (steps : S → Option A → S → Type 0) (it : S) (x : A) (rest : S)
+    → steps it (Some x) rest → BeginsRuns steps x rest it
 begins steps it x rest h p seen from =
     let t = took p in (
-      run steps it (x ∷ p.items) p.whole (t.0, (p.from, subst (steps it (Some x)) (sym from) h, t.1), t.2),
+      run steps it (x ∷ p.items) p.whole (
+        t.0,
+        (p.from, subst (steps it (Some x)) (sym from) h, t.1),
+        t.2,
+      ),
       refl,
       (refl, omega (arith, p.long), refl),
     )

@@ -2,14 +2,14 @@
 use Rattle.std.proofs.Common.{sym, ap, subst, ◌∙◌, append_assoc}
 use Rattle.std.proofs.lemmas.Bool.{and_from}
 use Rattle.std.proofs.lemmas.List.{map-append}
-use Rattle.std.specs.Prelude.{◌≡◌, Bool, true, ◌&&◌, List, [], ◌∷◌, ◌++◌, Result, Ok, Err, MatchResult, is_ok, map, refl}
+use Rattle.std.specs.Prelude.{◌≡◌, Bool, true, ◌&&◌, List, [], ◌∷◌, ◌++◌, Result, Ok, Err}
+use Rattle.std.specs.Prelude.{MatchResult, is_ok, map, refl}
 use Rattle.std.specs.Borrow.{Bor}
 use Rattle.std.specs.List.{AllZip, list_all}
 use Rattle.ne_iter.specs.Clones.{TriesClone}
-use Rattle.ne_iter.specs.Interspersed.{Interspersed}
-use Rattle.ne_iter.specs.Separated.{separated}
+use Rattle.ne_iter.specs.Interspersed.{Interspersed, interspersed}
 use Rattle.ne_vec.specs.Fronts.{AreFirst}
-use Rattle.ne_iter.proofs.ListFronts.{separated_front}
+use Rattle.ne_iter.proofs.ListFronts.{interspersed_front}
 
 module _ {T E : Type 0} (clones : T → T → Type 0) (infallible : T → Type 0) where
   pub only_ok : (x : T) → infallible x → ((y : T) → clones x y → y ≡ x)
@@ -40,7 +40,7 @@ list_all_ok (Err z ∷ zs) more (x ∷ xs) e = let e = e in cc
 module _ {T E : Type 0} (came : Result T E → Type 0) (s : T)
     (only : (r : Result T E) → came r → r ≡ Ok s) where
   spaced : (xs : List T) (zs : List (Result T E)) → Interspersed came xs zs
-      → zs ≡ map Ok (separated s xs)
+      → zs ≡ map Ok (interspersed s xs)
   spaced [] zs h = h
   spaced (x ∷ []) zs h = h
   spaced (x ∷ y ∷ xs) zs h =
@@ -55,13 +55,13 @@ module _ {T E : Type 0} (came : Result T E → Type 0) (s : T)
   pub spaced_front : (whole : Bool) (xs us : List T) (more zs : List (Result T E))
       → Interspersed came us (zs ++ more) → (whole ≡ true → more ≡ [])
       → AreFirst (whole && list_all is_ok zs) xs us
-      → AreFirst whole (map Ok (separated s xs)) zs
+      → AreFirst whole (map Ok (interspersed s xs)) zs
   spaced_front whole xs us more zs spread ended f =
       let all = spaced us (zs ++ more) spread in
-      let tail = separated_front s us f.0 in (
+      let tail = interspersed_front s us f.0 in (
         more ++ map Ok tail.0,
-        ap (λ l. map Ok (separated s l)) f.1 ∙ ap (map Ok) tail.1
-            ∙ map-append Ok (separated s us) tail.0
+        ap (λ l. map Ok (interspersed s l)) f.1 ∙ ap (map Ok) tail.1
+            ∙ map-append Ok (interspersed s us) tail.0
             ∙ ap (λ l. l ++ map Ok tail.0) (sym all) ∙ append_assoc zs more (map Ok tail.0),
         λ w. ap (λ l. l ++ map Ok tail.0) (ended w)
             ∙ ap (map Ok) (tail.2 (f.2 (and_from whole _ w (list_all_ok zs more _ all)))),

@@ -1,7 +1,10 @@
 -- What the items of a list make, where they are collected into a type of the standard library.
-use Rattle.std.specs.Prelude.{◌≡◌, Bool, true, List, [], ◌∷◌, ◌++◌, reverse, map, Option, Result, Ok, Err, MatchResult}
+use Rattle.std.specs.Prelude.{◌≡◌, Bool, List, [], ◌∷◌, ◌++◌, reverse, map, Option, Result, Ok, Err}
+use Rattle.std.specs.Prelude.{MatchResult}
+use Rattle.std.specs.Bool.{MatchBool}
 use Rattle.std.specs.List.{IsDistinct}
 use Rattle.std.specs.Map.{keys_of, lookup}
+use Rattle.std.specs.Result.{result_map_both}
 use Rattle.std.specs.Set.{is_member}
 
 module _ {K : Type 0} (eq : K → K → Bool) where
@@ -9,21 +12,33 @@ module _ {K : Type 0} (eq : K → K → Bool) where
   abbrev pub last_value : {V : Type 0} → List (K × V) → K → Option V
   last_value pairs q = lookup (eq q) (reverse pairs)
 
-  -- The entries are the map of the pairs: each key is there once, and has the value of the last pair whose key equals it.
+  -- The entries are the map of the pairs: each key is there once, and has the value of the last
+  -- pair whose key equals it.
   abbrev pub IsMapOf : {V : Type 0} → List (K × V) → List (K × V) → Type 0
-  IsMapOf pairs entries = IsDistinct eq (keys_of entries) × ((q : K) → lookup (eq q) entries ≡ last_value pairs q)
+  IsMapOf pairs entries = IsDistinct eq (keys_of entries)
+      × ((q : K) → lookup (eq q) entries ≡ last_value pairs q)
 
   -- The keys are the set of the items: each item is there once, and nothing else is.
   abbrev pub IsSetOf : List K → List K → Type 0
   IsSetOf items keys = IsDistinct eq keys × ((q : K) → is_member eq keys q ≡ is_member eq items q)
 
-module _ {T V : Type 0} (collected : List T → V → Type 0) (is_complete : V → Bool) where
-  -- A front of the values makes v, and all of them do where v is complete.
-  abbrev pub FrontMakes : List T → V → Type 0
-  FrontMakes values v = (front : List T) × (more : List T) × (values ≡ front ++ more) × (is_complete v ≡ true → more ≡ []) × collected front v
+-- `Ok` of all values, or the first `Err`.
+abbrev pub values_or_first_err : {T E : Type 0} → List (Result T E) → Result (List T) E
+values_or_first_err [] = Ok []
+values_or_first_err (Ok x ∷ rs) = result_map_both (λ xs. x ∷ xs) (λ e. e) (values_or_first_err rs)
+values_or_first_err (Err e ∷ rs) = Err e
 
-  -- `Ok` of what the values make, where each item is the `Ok` of one; else the first `Err`, with which the items end.
+module _ {T V : Type 0} (collected : List T → V → Type 0) (is_complete : V → Bool) where
+  -- The items make v; where v is not complete, a front of them does.
+  abbrev pub FrontMakes : List T → V → Type 0
+  FrontMakes items v = MatchBool (is_complete v) (collected items v)
+      ((front : List T) × (more : List T) × (items ≡ front ++ more) × collected front v)
+
+  -- `Ok` of what the values make, where each item is the `Ok` of one; else the first `Err`, with
+  -- which the items end: so it is the first of each list that begins with them.
   abbrev pub ResultsMake : {E : Type 0} → List (Result T E) → Result V E → Type 0
-  ResultsMake items result = MatchResult result
-      (λ v. (values : List T) × (items ≡ map Ok values) × FrontMakes values v)
-      (λ e. (values : List T) × (items ≡ map Ok values ++ Err e ∷ []))
+  ResultsMake {E} items result = MatchResult result
+      (λ v. (values : List T) × (items ≡ map Ok values)
+      × (values_or_first_err items ≡ Ok values) × FrontMakes values v)
+      (λ e. (values : List T) × (items ≡ map Ok values ++ Err e ∷ [])
+      × ((more : List (Result T E)) → values_or_first_err (items ++ more) ≡ Err e))

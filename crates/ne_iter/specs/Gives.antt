@@ -1,7 +1,10 @@
 -- What each adapter gives, by what its source gives.
--- A source is named by what it reads: `reads whole u xs` says that u may give the items xs first, and where whole is true may then
--- end. So each word below speaks of every list that an adapter may have given so far, and of every list that it may give to its end.
-use Rattle.std.specs.Prelude.{◌≡◌, ◌≢◌, ℕ, ◌≤◌, Bool, true, false, ◌||◌, ◌&&◌, ltb, List, [], ◌∷◌, ◌++◌, length, zip, ⊤, Option, None, Some, MatchOption, Result, Ok, Err, is_ok, map, IsTrue, drop, filter, filter_map}
+-- A source is named by what it reads: `reads whole u xs` says that u may give the items xs first,
+-- and where whole is true may then end. So each word below speaks of every list that an adapter may
+-- have given so far, and of every list that it may give to its end.
+use Rattle.std.specs.Prelude.{◌≡◌, ◌≢◌, ℕ, ◌≤◌, Bool, true, false, ◌||◌, ◌&&◌, ltb, List, [], ◌∷◌}
+use Rattle.std.specs.Prelude.{◌++◌, length, zip, ⊤, Option, None, Some, MatchOption, Result, Ok}
+use Rattle.std.specs.Prelude.{Err, is_ok, map, IsTrue, drop, filter, filter_map}
 use Rattle.std.specs.List.{AllZip, enumerate_from, list_all}
 use Rattle.std.specs.Fn.{Mut, CalledAt}
 use Rattle.std.specs.Borrow.{Bor, MutBor}
@@ -17,20 +20,25 @@ abbrev pub FailsFirst : {F A : Type 0} → Mut F (Bor A × Unit {0}) Bool → F 
 FailsFirst calls f [] = ⊤
 FailsFirst {F} calls f (y ∷ ys) = (g : F) × CalledAt calls f y false g
 
--- Each of the sources us may give its list of yss to its end; the last one only where whole is true.
-abbrev pub ReadsEach : {U A : Type 0} → (Bool → U → List A → Type 0) → Bool → List U → List (List A) → Type 0
+-- Each of the sources us may give its list of yss to its end; the last one only where whole is
+-- true.
+abbrev pub ReadsEach : {U A : Type 0} → (Bool → U → List A → Type 0) → Bool → List U → List (List A)
+    → Type 0
 ReadsEach reads whole [] [] = ⊤
 ReadsEach reads whole [] (ys ∷ yss) = ⊥
 ReadsEach reads whole (u ∷ us) [] = ⊥
-ReadsEach reads whole (u ∷ us) (ys ∷ yss) = reads (whole || ltb 0 (length us)) u ys × ReadsEach reads whole us yss
+ReadsEach reads whole (u ∷ us) (ys ∷ yss) = reads (whole || ltb 0 (length us)) u ys
+    × ReadsEach reads whole us yss
 
 -- The source u gives the list xs and no other: what it reads is a front of xs, and what it gives to
 -- its end is all of xs.
 abbrev pub GivesList : {U A : Type 0} → (Bool → U → List A → Type 0) → U → List A → Type 0
-GivesList {A = A} reads u xs = (whole : Bool) (ys : List A) → reads whole u ys → AreFirst whole xs ys
+GivesList {A = A} reads u xs = (whole : Bool) (ys : List A) → reads whole u ys
+    → AreFirst whole xs ys
 
 -- The same of what `view` makes of its items.
-abbrev pub ViewsList : {U A B : Type 0} → (Bool → U → List A → Type 0) → (A → B) → U → List B → Type 0
+abbrev pub ViewsList : {U A B : Type 0} → (Bool → U → List A → Type 0) → (A → B) → U → List B
+    → Type 0
 ViewsList {A = A} reads view u xs =
     (whole : Bool) (ys : List A) → reads whole u ys → AreFirst whole xs (map view ys)
 
@@ -40,13 +48,16 @@ ShowsList reads u xs = ViewsList reads (λ y. y.now) u xs
 
 module _ {U V A : Type 0} (reads : Bool → U → List A → Type 0) where
   -- `map`: the answers of f, called on the source's items in order.
-  abbrev pub MapGives : {B F : Type 0} → (Bool → V → List B → Type 0) → Mut F (A × Unit {0}) B → U → F → V → Type 0
-  MapGives {B} {F} mapped calls source f result = (whole : Bool) (ys : List B) → mapped whole result ys
+  abbrev pub MapGives : {B F : Type 0} → (Bool → V → List B → Type 0) → Mut F (A × Unit {0}) B → U
+      → F → V → Type 0
+  MapGives {B} {F} mapped calls source f result = (whole : Bool) (ys : List B)
+      → mapped whole result ys
       → (xs : List A) × (g : F) × reads whole source xs × Calls calls f xs ys g
 
   -- `enumerate`: the items with their places, from 0.
   abbrev pub EnumerateGives : (Bool → V → List (ℕ × A) → Type 0) → U → V → Type 0
-  EnumerateGives numbered source result = (whole : Bool) (ys : List (ℕ × A)) → numbered whole result ys
+  EnumerateGives numbered source result = (whole : Bool) (ys : List (ℕ × A))
+      → numbered whole result ys
       → (xs : List A) × reads whole source xs × (ys ≡ enumerate_from 0 xs)
 
   -- `take`: at most n items; where they are fewer and no more come, the source has ended.
@@ -55,47 +66,68 @@ module _ {U V A : Type 0} (reads : Bool → U → List A → Type 0) where
       → reads (whole && ltb (length xs) n) source xs × (length xs ≤ n)
 
   -- `chain`: the items of the one, to its end, and then those of the other.
-  abbrev pub ChainGives : {W : Type 0} → (Bool → W → List A → Type 0) → (Bool → V → List A → Type 0) → U → W → V → Type 0
-  ChainGives others chained source other result = (whole : Bool) (zs : List A) → chained whole result zs
-      → (xs : List A) × (ys : List A) × reads (whole || ltb 0 (length ys)) source xs × others whole other ys × (zs ≡ xs ++ ys)
+  abbrev pub ChainGives : {W : Type 0} → (Bool → W → List A → Type 0) → (Bool → V → List A → Type 0)
+      → U → W → V → Type 0
+  ChainGives others chained source other result = (whole : Bool) (zs : List A)
+      → chained whole result zs
+      → (xs : List A) × (ys : List A) × reads (whole || ltb 0 (length ys)) source xs
+      × others whole other ys × (zs ≡ xs ++ ys)
 
   -- `zip`: pairs of an item of each side; where no more come, one of the sides has ended.
-  abbrev pub ZipGives : {W B : Type 0} → (Bool → W → List B → Type 0) → (Bool → V → List (A × B) → Type 0) → U → W → V → Type 0
-  ZipGives {B = B} others zipped source other result = (whole : Bool) (ps : List (A × B)) → zipped whole result ps
-      → (xs : List A) × (ys : List B) × (a : Bool) × (b : Bool) × reads a source xs × others b other ys
+  abbrev pub ZipGives : {W B : Type 0} → (Bool → W → List B → Type 0)
+      → (Bool → V → List (A × B) → Type 0) → U → W → V → Type 0
+  ZipGives {B = B} others zipped source other result = (whole : Bool) (ps : List (A × B))
+      → zipped whole result ps
+      → (xs : List A) × (ys : List B) × (a : Bool) × (b : Bool) × reads a source xs
+      × others b other ys
       × (ps ≡ zip xs ys) × (length xs ≡ length ys) × (whole ≡ true → IsTrue (a || b))
 
   -- `filter`: the items at which f answers true.
-  abbrev pub FilterGives : {F : Type 0} → (Bool → V → List A → Type 0) → Mut F (Bor A × Unit {0}) Bool → U → F → V → Type 0
+  abbrev pub FilterGives : {F : Type 0} → (Bool → V → List A → Type 0)
+      → Mut F (Bor A × Unit {0}) Bool → U → F → V → Type 0
   FilterGives {F} kept calls source f result = (whole : Bool) (xs : List A) → kept whole result xs
-      → (ps : List (A × Bool)) × (g : F) × reads whole source (map (λ p. p.0) ps) × ShownEach calls f ps g × (xs ≡ map (λ p. p.0) (filter (λ p. p.1) ps))
+      → (ps : List (A × Bool)) × (g : F) × reads whole source (map (λ p. p.0) ps)
+      × ShownEach calls f ps g × (xs ≡ map (λ p. p.0) (filter (λ p. p.1) ps))
 
   -- `filter_map`: the values among the answers of f, called on the source's items in order.
-  abbrev pub FilterMapGives : {B F : Type 0} → (Bool → V → List B → Type 0) → Mut F (A × Unit {0}) (Option B) → U → F → V → Type 0
-  FilterMapGives {B} {F} kept calls source f result = (whole : Bool) (ys : List B) → kept whole result ys
-      → (xs : List A) × (os : List (Option B)) × (g : F) × reads whole source xs × Calls calls f xs os g × (ys ≡ filter_map (λ o. o) os)
+  abbrev pub FilterMapGives : {B F : Type 0} → (Bool → V → List B → Type 0)
+      → Mut F (A × Unit {0}) (Option B) → U → F → V → Type 0
+  FilterMapGives {B} {F} kept calls source f result = (whole : Bool) (ys : List B)
+      → kept whole result ys
+      → (xs : List A) × (os : List (Option B)) × (g : F) × reads whole source xs
+      × Calls calls f xs os g × (ys ≡ filter_map (λ o. o) os)
 
   -- `skip`: all but the first n items.
   abbrev pub SkipGives : (Bool → V → List A → Type 0) → ℕ → U → V → Type 0
   SkipGives left n source result = (whole : Bool) (ys : List A) → left whole result ys
       → (xs : List A) × reads whole source xs × (ys ≡ drop n xs)
 
-  -- `skip_while`: the items from the first one on at which f answers false; f is not called after it.
-  abbrev pub SkipWhileGives : {F : Type 0} → (Bool → V → List A → Type 0) → Mut F (Bor A × Unit {0}) Bool → U → F → V → Type 0
-  SkipWhileGives {F} left calls source f result = (whole : Bool) (ys : List A) → left whole result ys
-      → (xs : List A) × (g : F) × reads whole source (xs ++ ys) × AnswersEachAt calls true f xs g × FailsFirst calls g ys
+  -- `skip_while`: the items from the first one on at which f answers false; f is not called after
+  -- it.
+  abbrev pub SkipWhileGives : {F : Type 0} → (Bool → V → List A → Type 0)
+      → Mut F (Bor A × Unit {0}) Bool → U → F → V → Type 0
+  SkipWhileGives {F} left calls source f result = (whole : Bool) (ys : List A)
+      → left whole result ys
+      → (xs : List A) × (g : F) × reads whole source (xs ++ ys) × AnswersEachAt calls true f xs g
+      × FailsFirst calls g ys
 
   -- `take_while`: the items up to the first one at which f answers false. That one is drawn too.
-  abbrev pub TakeWhileGives : {F : Type 0} → (Bool → V → List A → Type 0) → Mut F (Bor A × Unit {0}) Bool → U → F → V → Type 0
-  TakeWhileGives {F} taken calls source f result = (whole : Bool) (xs : List A) → taken whole result xs
+  abbrev pub TakeWhileGives : {F : Type 0} → (Bool → V → List A → Type 0)
+      → Mut F (Bor A × Unit {0}) Bool → U → F → V → Type 0
+  TakeWhileGives {F} taken calls source f result = (whole : Bool) (xs : List A)
+      → taken whole result xs
       → (g : F) × AnswersEachAt calls true f xs g
-      × (reads whole source xs ⊎ ((x : A) × (h : F) × reads false source (xs ++ x ∷ []) × CalledAt calls g x false h))
+      × (reads whole source xs ⊎ ((x : A) × (h : F) × reads false source (xs ++ x ∷ [])
+      × CalledAt calls g x false h))
 
   -- `flat_map`: the lists of f's answers, one after the other.
-  abbrev pub FlatMapGives : {W B F : Type 0} → (Bool → W → List B → Type 0) → (Bool → V → List B → Type 0) → Mut F (A × Unit {0}) W → U → F → V → Type 0
-  FlatMapGives {W} {B} {F} inner flat calls source f result = (whole : Bool) (zs : List B) → flat whole result zs
+  abbrev pub FlatMapGives : {W B F : Type 0} → (Bool → W → List B → Type 0)
+      → (Bool → V → List B → Type 0) → Mut F (A × Unit {0}) W → U → F → V → Type 0
+  FlatMapGives {W} {B} {F} inner flat calls source f result = (whole : Bool) (zs : List B)
+      → flat whole result zs
       → (xs : List A) × (us : List W) × (yss : List (List B)) × (g : F)
-      × reads whole source xs × Calls calls f xs us g × ReadsEach inner whole us yss × (zs ≡ joined yss)
+      × reads whole source xs × Calls calls f xs us g × ReadsEach inner whole us yss
+      × (zs ≡ joined yss)
 
   -- `flatten`: the lists of the source's items, one after the other. `inner` is what an item reads,
   -- which is a source itself.
@@ -114,10 +146,13 @@ module _ {U V A : Type 0} (reads : Bool → U → List A → Type 0) where
       → (xs : List A) × (g : F) × (last : S)
       × reads whole source xs × CallsWithState calls f init xs ys g last
 
-  -- `intersperse`: the items, each in `Ok`, with what came of cloning the separator between each two. What came so far is a front of
-  -- that, and what came to the end is all of it; the source had then ended too, where no clone was refused.
-  abbrev pub IntersperseGives : {E : Type 0} → (A → Result A E → Type 0) → (Bool → V → List (Result A E) → Type 0) → U → A → V → Type 0
-  IntersperseGives {E} tries interspersed source separator result = (whole : Bool) (zs : List (Result A E)) → interspersed whole result zs
+  -- `intersperse`: the items, each in `Ok`, with what came of cloning the separator between each
+  -- two. What came so far is a front of that, and what came to the end is all of it; the source had
+  -- then ended too, where no clone was refused.
+  abbrev pub IntersperseGives : {E : Type 0} → (A → Result A E → Type 0)
+      → (Bool → V → List (Result A E) → Type 0) → U → A → V → Type 0
+  IntersperseGives {E} tries interspersed source separator result = (whole : Bool)
+      (zs : List (Result A E)) → interspersed whole result zs
       → (xs : List A) × (more : List (Result A E)) × reads (whole && list_all is_ok zs) source xs
       × Interspersed (tries separator) xs (zs ++ more) × (whole ≡ true → more ≡ [])
 
@@ -128,7 +163,8 @@ module _ {U V T : Type 0} (reads : Bool → U → List (Bor T) → Type 0) where
       → (xs : List (Bor T)) × reads whole source xs × (ys ≡ map (λ x. x.now) xs)
 
   -- `cloned`: for each reference what came of cloning what it shows.
-  abbrev pub ClonedGives : {R : Type 0} → (T → R → Type 0) → (Bool → V → List R → Type 0) → U → V → Type 0
+  abbrev pub ClonedGives : {R : Type 0} → (T → R → Type 0) → (Bool → V → List R → Type 0) → U → V
+      → Type 0
   ClonedGives {R} tries cloned source result = (whole : Bool) (ys : List R) → cloned whole result ys
       → (xs : List (Bor T)) × reads whole source xs × AllZip (λ x r. tries x.now r) xs ys
 
@@ -137,19 +173,33 @@ abbrev pub and_held : {A : Type 0} → List (List A) → Option A → List (List
 and_held rs None = rs
 and_held rs (Some x) = rs ++ (x ∷ []) ∷ []
 
-module _ {U A K F : Type 0} (reads : Bool → U → List A → Type 0) (asks : Mut F (Bor A × Unit {0}) K) (eq : K → K → Bool) where
-  -- The items drawn of the source, shown to f in order, are divided by f's answers into the runs rs and an item that is held. None is
-  -- held before anything is drawn and once the source has ended; else one is, behind a run at least. At `whole` the source has ended.
-  abbrev pub HasRuns : Bool → U → F → List (List A) → Type 0
-  HasRuns whole source f rs = (ps : List (A × K)) × (g : F) × (held : Option A) × (ended : Bool)
-      × reads ended source (items_of ps) × ShownEach asks f ps g × DividesByKey eq ps (and_held rs held)
-      × MatchOption held ((ended ≡ true) ⊎ (ps ≡ [])) (λ _. rs ≢ []) × (whole ≡ true → (ended ≡ true) × (held ≡ None))
+module _ {U A K F : Type 0} (reads : Bool → U → List A → Type 0) (asks : Mut F (Bor A × Unit {0}) K)
+    (eq : K → K → Bool) where
+  -- The items drawn of the source, shown to f in order, are divided by f's answers into the runs rs
+  -- and an item that is held. At `whole` the source has ended.
+  pub record HasRuns (whole : Bool) (source : U) (f : F) (rs : List (List A)) : Type 0 where
+    pub drawn : List (A × K)
+    pub closure : F
+    pub held : Option A
+    pub ended : Bool
+    pub read : reads ended source (items_of drawn)
+    pub asked : ShownEach asks f drawn closure
+    pub divided : DividesByKey eq drawn (and_held rs held)
+    -- none is held before anything is drawn and once the source has ended; else one is, behind a
+    -- run
+    pub holds : MatchOption held ((ended ≡ true) ⊎ (drawn ≡ [])) (λ _. rs ≢ [])
+    pub over : whole ≡ true → (ended ≡ true) × (held ≡ None)
 
   -- `group_by`: the runs of the source's items by f's answers, each in `Ok`.
-  abbrev pub GroupByGives : {V E : Type 0} → (Bool → V → List (Result (List A) E) → Type 0) → U → F → V → Type 0
-  GroupByGives grouped source f result = (whole : Bool) (rs : List (List A)) → grouped whole result (map Ok rs) → HasRuns whole source f rs
+  abbrev pub GroupByGives : {V E : Type 0} → (Bool → V → List (Result (List A) E) → Type 0) → U → F
+      → V → Type 0
+  GroupByGives grouped source f result = (whole : Bool) (rs : List (List A))
+      → grouped whole result (map Ok rs) → HasRuns whole source f rs
 
   -- An `Err` may come in the place of a run, and then nothing comes behind it.
-  abbrev pub GroupByStops : {V E : Type 0} → (Bool → V → List (Result (List A) E) → Type 0) → U → F → V → Type 0
-  GroupByStops {E = E} grouped source f result = (whole : Bool) (xs : List (Result (List A) E)) → grouped whole result xs
-      → (rs : List (List A)) × ((xs ≡ map Ok rs) ⊎ ((e : E) × (xs ≡ map Ok rs ++ Err e ∷ []) × HasRuns false source f rs))
+  abbrev pub GroupByStops : {V E : Type 0} → (Bool → V → List (Result (List A) E) → Type 0) → U → F
+      → V → Type 0
+  GroupByStops {E = E} grouped source f result = (whole : Bool) (xs : List (Result (List A) E))
+      → grouped whole result xs
+      → (rs : List (List A)) × ((xs ≡ map Ok rs)
+      ⊎ ((e : E) × (xs ≡ map Ok rs ++ Err e ∷ []) × HasRuns false source f rs))

@@ -12,10 +12,11 @@ same_key eq p q = eq p.1 q.1
 
 -- rs are the runs of the items of ps: each key is compared with that of its run's first item.
 abbrev pub DividesByKey : {A K : Type 0} → (K → K → Bool) → List (A × K) → List (List A) → Type 0
-DividesByKey {A} {K} eq ps rs = (runs : List (List (A × K))) × IsDivision (by_first (same_key eq)) ps runs × (rs ≡ map items_of runs)
+DividesByKey {A} {K} eq ps rs = (runs : List (List (A × K)))
+    × IsDivision (by_first (same_key eq)) ps runs × (rs ≡ map items_of runs)
 
--- rs are the runs of xs by the keys that h gives of the items: each key is compared with that of its
--- run's first item. `grind` does not look into it.
+-- rs are the runs of xs by the keys that h gives of the items: each key is compared with that of
+-- its run's first item. `grind` does not look into it.
 unfoldable pub IsDividedBy : {A K : Type 0} → (A → K) → (K → K → Bool) → List A → List (List A)
     → Type 0
 IsDividedBy h eq xs rs = IsDivision (by_first (λ x y. eq (h x) (h y))) xs rs

@@ -1,11 +1,10 @@
 -- An iterator that was looked ahead in, and has an item.
-use Rattle.std.proofs.Common.{rules}
-use Rattle.std.specs.Prelude.{◌≡◌, Option, None, Some, MatchOption, IfSome, List, [], ◌∷◌, Bool, true, false}
-use Rattle.std.specs.Iterator.Adapters.{peekable_source, peekable_peeked, peekable_steps}
+use Rattle.std.specs.Prelude.{◌≡◌, Option, None, Some, MatchOption, IfSome, List, [], ◌∷◌, Bool}
+use Rattle.std.specs.Prelude.{true, false}
+use Rattle.std.specs.Iterator.Adapters.{peekable_peeked}
 use Rattle.std.specs.declared.iter.Ahead.{Ahead}
 use Rattle.std.specs.Iterator.Runs.{EachRunFrom}
-use Rattle.ne_iter.specs.SourceRuns.{RunsSome}
-use Rattle.ne_iter.specs.Sources.{HasFirst}
+use Rattle.ne_iter.specs.SourceRuns.{RunsSome, RunsWhole}
 
 -- an item was peeked
 abbrev pub is_item : {X : Type 0} → Option (Option X) → Bool
@@ -17,27 +16,23 @@ is_item (Some (Some x)) = true
 abbrev pub has_looked : {I X : Type 0} → Ahead I X → Bool
 has_looked s = is_item (peekable_peeked s)
 
-module _ {S A : Type 0} (steps : S → Option A → S → Type 0) (s t : Ahead S A) where
-  not_none : (p : Option (Option A)) → is_item p ≡ true → MatchOption p (steps (peekable_source s) None (peekable_source t)) (λ o. (◌≡◌ {A = Option A} None o) × (peekable_source t ≡ peekable_source s)) → ⊥
-  not_none None e h = let e = e in search rules
-  not_none (Some None) e h = let e = e in search rules
-  not_none (Some (Some x)) e h = let f = h.0 in search rules
-
-pub HasFirst-looked : {S A : Type 0} (steps : S → Option A → S → Type 0) (s : Ahead S A) → has_looked s ≡ true → HasFirst (peekable_steps steps) s
-HasFirst-looked steps s h t ended = not_none steps s t (peekable_peeked s) h ended.1
-
 -- None where the source may end at once; else the source's items, of which there is one
-abbrev pub LooksWhole : {U V A : Type 0} → (Bool → U → List A → Type 0) → (Bool → V → List A → Type 0) → U → Option V → Type 0
+abbrev pub LooksWhole : {U V A : Type 0} → (Bool → U → List A → Type 0)
+    → (Bool → V → List A → Type 0) → U → Option V → Type 0
 LooksWhole {A = A} reads looked source result = MatchOption result (reads true source [])
-    (λ v. ((x : A) × reads false source (x ∷ [])) × ((whole : Bool) (xs : List A) → looked whole v xs → reads whole source xs))
+    (λ v. ((x : A) × reads false source (x ∷ []))
+    × ((whole : Bool) (xs : List A) → looked whole v xs → reads whole source xs))
 
--- Behind each run of the iterator that is given stands one of the source's, of the same items.
+-- At None a run of the source ended at once. Else one gave an item; and behind each run of the
+-- iterator that is given stands one of the source's, of the same items.
 abbrev pub LooksRuns : {U V S T A : Type 0} → (U → S → Type 0) → (S → Option A → S → Type 0)
     → (T → Option A → T → Type 0) → (V → T) → U → Option V → Type 0
-LooksRuns becomes steps looked_steps iterator_of source result =
-    IfSome result (λ v. EachRunFrom looked_steps (iterator_of v) (λ p.
+LooksRuns becomes steps looked_steps iterator_of source result = MatchOption result
+    (RunsWhole becomes steps source (λ q. (q.len ≡ 0) × (q.items ≡ [])))
+    (λ v. EachRunFrom looked_steps (iterator_of v) (λ p.
     RunsSome becomes steps source (λ q.
-    (q.whole ≡ p.whole) × (p.len ≡ q.len) × (p.items ≡ q.items))))
+    (q.whole ≡ p.whole) × (p.len ≡ q.len) × (p.items ≡ q.items)))
+    × RunsSome becomes steps source (λ q. q.len ≡ 1))
 
 -- Where the source may be called until it ends, so may what is given.
 abbrev pub LooksOn : {U V : Type 0} → (U → Type 0) → (V → Type 0) → U → Option V → Type 0

@@ -20,89 +20,89 @@ use Rattle.ne_iter.specs.declared.iter.group_by.NEGroupBy.{NEGroupBy}
 use Rattle.ne_iter.specs.declared.iter.intersperse.Intersperse.{Intersperse}
 
 -- the items of an array as a source
-abbrev pub items_of_array : {T : Type 0} {N : ℕ} → ArrayNonEmptyIterator T N → List T
-items_of_array s = s.items
+abbrev pub array_items : {T : Type 0} {N : ℕ} → ArrayNonEmptyIterator T N → List T
+array_items s = s.items
 
 -- the iterator in which an item was found
-abbrev pub iterator_of_looked : {I : Type 0} {looks : Ghosts I} → NonEmptyIterAdapter I looks → I
-iterator_of_looked s = s.inner
+abbrev pub looked_iterator : {I : Type 0} {looks : Ghosts I} → NonEmptyIterAdapter I looks → I
+looked_iterator s = s.inner
 
 -- the source and the closure of a `Map`
-abbrev pub source_of_map : {I F : Type 0} → Map I F → I
-source_of_map s = s.iter
+abbrev pub map_source : {I F : Type 0} → Map I F → I
+map_source s = s.iter
 
-abbrev pub closure_of_map : {I F : Type 0} → Map I F → F
-closure_of_map s = s.f
+abbrev pub map_callee : {I F : Type 0} → Map I F → F
+map_callee s = s.f
 
-abbrev pub source_of_enumerate : {I : Type 0} → Enumerate I → I
-source_of_enumerate s = s.iter
+abbrev pub enumerate_source : {I : Type 0} → Enumerate I → I
+enumerate_source s = s.iter
 
 -- the source of a `Take`, and how many items it takes at most
-abbrev pub source_of_take : {I : Type 0} → Take I → I
-source_of_take s = s.iter
+abbrev pub take_source : {I : Type 0} → Take I → I
+take_source s = s.iter
 
-abbrev pub count_of_take : {I : Type 0} → Take I → ℕ
-count_of_take s = non_zero_usize_get s.n
+abbrev pub take_count : {I : Type 0} → Take I → ℕ
+take_count s = non_zero_usize_get s.n
 
-abbrev pub first_of_chain : {A B : Type 0} → Chain A B → A
-first_of_chain s = s.a
+abbrev pub chain_first : {A B : Type 0} → Chain A B → A
+chain_first s = s.a
 
-abbrev pub second_of_chain : {A B : Type 0} → Chain A B → B
-second_of_chain s = s.b
+abbrev pub chain_second : {A B : Type 0} → Chain A B → B
+chain_second s = s.b
 
-abbrev pub item_of_once : {T : Type 0} → Once T → T
-item_of_once s = s.item
+abbrev pub once_item : {T : Type 0} → Once T → T
+once_item s = s.item
 
-abbrev pub first_of_zip : {A B : Type 0} → Zip A B → A
-first_of_zip s = s.a
+abbrev pub zip_first : {A B : Type 0} → Zip A B → A
+zip_first s = s.a
 
-abbrev pub second_of_zip : {A B : Type 0} → Zip A B → B
-second_of_zip s = s.b
+abbrev pub zip_second : {A B : Type 0} → Zip A B → B
+zip_second s = s.b
 
-abbrev pub source_of_cloned : {I : Type 0} → Cloned I → I
-source_of_cloned s = s.iter
+abbrev pub cloned_source : {I : Type 0} → Cloned I → I
+cloned_source s = s.iter
 
 -- the iterator of references in a `ClonedIter`
-abbrev pub iterator_of_cloned : {I : Type 0} → ClonedIter I → I
-iterator_of_cloned s = s.iter
+abbrev pub cloned_iterator : {I : Type 0} → ClonedIter I → I
+cloned_iterator s = s.iter
 
-abbrev pub source_of_copied : {I : Type 0} → Copied I → I
-source_of_copied s = s.iter
+abbrev pub copied_source : {I : Type 0} → Copied I → I
+copied_source s = s.iter
 
 -- the source and the closure of a `FlatMap`
-abbrev pub source_of_flat_map : {I U F : Type 0} → FlatMap I U F → I
-source_of_flat_map s = s.iter
+abbrev pub flat_map_source : {I U F : Type 0} → FlatMap I U F → I
+flat_map_source s = s.iter
 
-abbrev pub closure_of_flat_map : {I U F : Type 0} → FlatMap I U F → F
-closure_of_flat_map s = s.f
+abbrev pub flat_map_callee : {I U F : Type 0} → FlatMap I U F → F
+flat_map_callee s = s.f
 
 -- the source of a `Flatten`
-abbrev pub source_of_flatten : {I : Type 0} → Flatten I → I
-source_of_flatten s = s.iter
+abbrev pub flatten_source : {I : Type 0} → Flatten I → I
+flatten_source s = s.iter
 
 -- the source of a `Scan`, the state that it begins with, and its closure
-abbrev pub source_of_scan : {I S F : Type 0} → Scan I S F → I
-source_of_scan s = s.iter
+abbrev pub scan_source : {I S F : Type 0} → Scan I S F → I
+scan_source s = s.iter
 
-abbrev pub init_of_scan : {I S F : Type 0} → Scan I S F → S
-init_of_scan s = s.init
+abbrev pub scan_init : {I S F : Type 0} → Scan I S F → S
+scan_init s = s.init
 
-abbrev pub closure_of_scan : {I S F : Type 0} → Scan I S F → F
-closure_of_scan s = s.f
+abbrev pub scan_callee : {I S F : Type 0} → Scan I S F → F
+scan_callee s = s.f
 
 -- the source and the closure of a `NEGroupBy`
-abbrev pub source_of_group_by : {I F : Type 0} → NEGroupBy I F → I
-source_of_group_by s = s.iter
+abbrev pub group_by_source : {I F : Type 0} → NEGroupBy I F → I
+group_by_source s = s.iter
 
-abbrev pub closure_of_group_by : {I F : Type 0} → NEGroupBy I F → F
-closure_of_group_by s = s.f
+abbrev pub group_by_callee : {I F : Type 0} → NEGroupBy I F → F
+group_by_callee s = s.f
 
 -- the item that an `Intersperse` has drawn, the iterator of those behind it, and the separator
-abbrev pub first_of_intersperse : {S X : Type 0} → Intersperse S X → X
-first_of_intersperse s = s.first
+abbrev pub intersperse_first : {S X : Type 0} → Intersperse S X → X
+intersperse_first s = s.first
 
-abbrev pub rest_of_intersperse : {S X : Type 0} → Intersperse S X → S
-rest_of_intersperse s = s.rest
+abbrev pub intersperse_rest : {S X : Type 0} → Intersperse S X → S
+intersperse_rest s = s.rest
 
-abbrev pub separator_of_intersperse : {S X : Type 0} → Intersperse S X → X
-separator_of_intersperse s = s.separator
+abbrev pub intersperse_separator : {S X : Type 0} → Intersperse S X → X
+intersperse_separator s = s.separator

@@ -18,7 +18,10 @@ abbrev pub with_head : {A : Type 0} → A → List A → List A
 with_head x [] = []
 with_head x (y ∷ xs) = x ∷ xs
 
--- `peekable`: the source's items, the first one as it was last written. w is what was written, or the item itself.
-abbrev pub PeekableGives : {U I A : Type 0} → (Bool → U → List A → Type 0) → (Bool → Peekable I A → List A → Type 0) → U → Peekable I A → Type 0
-PeekableGives {A = A} reads peeked source result = (w : A) (whole : Bool) (zs : List A) → peeked whole (with_first result w) zs
+-- `peekable`: the source's items, the first one as it was last written. w is what was written, or
+-- the item itself.
+abbrev pub PeekableGives : {U I A : Type 0} → (Bool → U → List A → Type 0)
+    → (Bool → Peekable I A → List A → Type 0) → U → Peekable I A → Type 0
+PeekableGives {A = A} reads peeked source result = (w : A) (whole : Bool) (zs : List A)
+    → peeked whole (with_first result w) zs
     → reads whole source (with_head (peekable_first result) zs) × (zs ≡ with_head w zs)

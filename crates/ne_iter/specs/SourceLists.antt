@@ -1,13 +1,14 @@
 -- What a method says of the list that its source gives.
--- `grind` takes such a fact at a term that fits the first call in its conclusion. So the mark of the
--- source and its list stands there, and an equation of the new list with itself.
-use Rattle.std.specs.Prelude.{◌≡◌, ℕ, ◌<◌, ◌≤◌, ◌++◌, map, true, Some, List, length, Option, slice_index_or}
-use Rattle.std.specs.Fn.{Mut}
+-- `grind` takes such a fact at a term that fits the first call in its conclusion. So the mark of
+-- the source and its list stands there, and an equation of the new list with itself.
+use Rattle.std.specs.Prelude.{◌≡◌, ℕ, ◌<◌, ◌≤◌, ◌++◌, ◌∷◌, [], drop, map, true, Some, List}
+use Rattle.std.specs.Prelude.{length, Option, MatchOption, slice_index_or}
+use Rattle.std.specs.Fn.{Called, Mut}
 use Rattle.std.specs.Iterator.{ActsAs}
 use Rattle.std.specs.Iterator.Runs.{Run, EachRunFrom}
-use Rattle.std.specs.List.{zip}
+use Rattle.std.specs.List.{flat_map, zip}
 use Rattle.std.specs.Option.{option_map}
-use Rattle.ne_vec.specs.Fronts.{Lists, mark, view_mark}
+use Rattle.ne_vec.specs.Fronts.{GivesFronts, Lists, mark, view_mark}
 
 -- The items of a run are the first of xs, and all of them if the run is whole: how a std iterator's
 -- own clause says it.
@@ -49,7 +50,8 @@ module _ {U V A B F : Type 0} (calls : Mut F (A × Unit {0}) B) (f : F)
   MapsShown shows = EachShown shows u (λ view xs. (h : ℕ → B)
       → ActsAs calls f (λ x. h (view x)) → (map h xs ≡ map h xs) × gives v (map h xs))
 
--- `chain`: the lists of two sources, one after the other. The second may be one that no call speaks of.
+-- `chain`: the lists of two sources, one after the other. The second may be one that no call speaks
+-- of.
 abbrev pub ChainsLists : {U W V A : Type 0} → (U → List A → Type 0) → (W → List A → Type 0)
     → (W → List A → Type 0) → (V → List A → Type 0) → U → W → V → Type 0
 ChainsLists {A = A} lists others meets gives u w v = EachList lists u (λ xs.
@@ -63,3 +65,45 @@ ZipsLists {A = A} {B = B} lists others meets gives u w v =
     EachList lists u (λ xs. EachList others w (λ ys. gives v (zip xs ys)))
     × ((xs : List A) (ys : List B) → (zip xs ys ≡ zip xs ys)
     × (lists u xs → meets w ys → gives v (zip xs ys)))
+
+-- each call of f on x leaves f as it was and answers what gives the items of `inner x`
+abbrev pub AnswersLists : {A W B F : Type 0} → Mut F (A × Unit {0}) W → F
+    → (W → List B → Type 0) → (A → List B) → Type 0
+AnswersLists {A} {W} {F = F} calls f lists inner =
+    (x : A) (w : W) (g : F) → Called calls f (x, tt) w g → (g ≡ f) × lists w (inner x)
+
+-- `flat_map`: the lists of the answers, one after another. An answer may be one that no call speaks
+-- of.
+abbrev pub SpreadsLists : {U A W B V F : Type 0} → Mut F (A × Unit {0}) W → F
+    → (U → List A → Type 0) → (W → List B → Type 0) → (W → List B → Type 0)
+    → (V → List B → Type 0) → U → V → Type 0
+SpreadsLists {A = A} {B = B} calls f lists others meets gives u v =
+    EachList lists u (λ xs. (inner : A → List B) → (flat_map inner xs ≡ flat_map inner xs)
+    × (AnswersLists calls f others inner → gives v (flat_map inner xs))
+    × (AnswersLists calls f meets inner → gives v (flat_map inner xs)))
+
+-- `flatten`: the lists of the items, one after another
+abbrev pub FlattensLists : {U W B V : Type 0} → (U → List W → Type 0) → (W → List B → Type 0)
+    → (W → List B → Type 0) → (V → List B → Type 0) → U → V → Type 0
+FlattensLists {W = W} {B = B} lists others meets gives u v =
+    EachList lists u (λ us. (inner : W → List B) → (flat_map inner us ≡ flat_map inner us)
+    × (((w : W) → others w (inner w)) → gives v (flat_map inner us))
+    × (((w : W) → meets w (inner w)) → gives v (flat_map inner us)))
+
+-- `next`: the first item, and an iterator that gives the others
+abbrev pub BeginsList : {U S A : Type 0} → (U → List A → Type 0) → (S → Option A → S → Type 0)
+    → U → A → S → Type 0
+BeginsList lists steps u x rest =
+    EachList lists u (λ xs. (xs ≡ x ∷ drop 1 xs) × GivesFronts steps (drop 1 xs) rest)
+
+-- P holds of each list that the source gives, also where no call speaks of it
+abbrev pub EachMet : {U A : Type 0} → (U → List A → Type 0) → (U → List A → Type 0) → U
+    → (List A → Type 0) → Type 0
+EachMet {A = A} lists meets u P = EachList lists u P
+    × ((xs : List A) → (length xs ≡ length xs) × (meets u xs → P xs))
+
+-- `try_into_nonempty_iter`: `None` where the list is empty, and else a source that gives it
+abbrev pub LooksLists : {U V A : Type 0} → (U → List A → Type 0) → (U → List A → Type 0)
+    → (V → List A → Type 0) → U → Option V → Type 0
+LooksLists lists meets gives u result = MatchOption result (EachMet lists meets u (λ xs. xs ≡ []))
+    (λ v. EachMet lists meets u (λ xs. (0 < length xs) × gives v xs))

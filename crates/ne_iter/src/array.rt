@@ -23,7 +23,8 @@ pub trait NonEmptyArrayExt<T> {
     fn nonzero_len(&self) -> NonZeroUsize
         ensures { non_zero_usize_get result ≡ length (items self.now) };
 
-    /// The items as a vector. `AllocError` where there is no memory for it; the items are then dropped.
+    /// The items as a vector. `AllocError` where there is no memory for it; the items are then
+    /// dropped.
     fn into_nonempty_vec(self, alloc: Global) -> Result<NEVec<T>, AllocError>
         ensures { IfOk result (λ v. v ≡ items self) };
 }
@@ -62,13 +63,14 @@ pub struct ArrayNonEmptyIterator<T, const N: usize> {
 }
 
 impl<T: Drop, const N: usize> IntoIterator for ArrayNonEmptyIterator<T, N> {
-    ghost use Rattle.ne_iter.specs.Parts.{items_of_array};
+    ghost use Rattle.ne_iter.specs.Parts.{array_items};
 
     type Item = T;
 
     type IntoIter = array::IntoIter<T, N>;
 
-    ghost into_iter_gives = { λ s it. ⟦<[T; N] as IntoIterator>⟧.into_iter_gives (items_of_array s) it × (0 < N) };
+    ghost into_iter_gives = { λ s it. ⟦<[T; N] as IntoIterator>⟧.into_iter_gives (array_items s) it
+        × (0 < N) };
 
     fn into_iter(self) -> array::IntoIter<T, N> {
         self.items.into_iter()
@@ -87,11 +89,11 @@ where
     ghost use Rattle.ne_vec.specs.Fronts.{Listed};
     ghost use Rattle.ne_iter.specs.SourceLaws.{SameLists-through};
     ghost use Rattle.ne_iter.specs.ArrayLaws.{array_gives};
-    ghost use Rattle.ne_iter.specs.Parts.{items_of_array};
+    ghost use Rattle.ne_iter.specs.Parts.{array_items};
 
     type IntoNEIter = ArrayNonEmptyIterator<T, N>;
 
-    ghost into_nonempty_iter_gives = { λ a s. (items_of_array s ≡ a)
+    ghost into_nonempty_iter_gives = { λ a s. (array_items s ≡ a)
         × Listed (⟦<ArrayNonEmptyIterator<T, N> as IntoIterator>⟧.into_iter_gives)
         (⟦<array::IntoIter<T, N> as Iterator>⟧.next_gives) s a };
 
@@ -128,18 +130,27 @@ where
     ghost into_nonempty_iter_gives = { λ a s. (s ≡ a.now) × (length a.now ≡ N)
         × WalkShows s a.now };
 
-    ghost same_lists = { SameLists-through (⟦<&'a [T; N] as IntoIterator>⟧.into_iter_gives) (⟦<std::slice::Iter<'a, T> as Iterator>⟧.next_gives) (λ a s. (s ≡ a.now) × (length a.now ≡ N) × WalkShows s a.now) (⟦<slice::Iter<'a, T> as IntoIterator>⟧.into_iter_gives)
+    ghost same_lists = { SameLists-through (⟦<&'a [T; N] as IntoIterator>⟧.into_iter_gives)
+        (⟦<std::slice::Iter<'a, T> as Iterator>⟧.next_gives)
+        (λ a s. (s ≡ a.now) × (length a.now ≡ N) × WalkShows s a.now)
+        (⟦<slice::Iter<'a, T> as IntoIterator>⟧.into_iter_gives)
         (λ a it made. (
           a.now,
           (refl, sym (ap length made.0) ∙ made.3, walk_shows a.now a.now refl),
           (
-            subst (λ n. 0 < n) (sym made.3 ∙ ap length made.0) ⟦<[T; N] as NonEmptyArray<N>>⟧.has_item,
+            subst (λ n. 0 < n) (sym made.3 ∙ ap length made.0)
+                ⟦<[T; N] as NonEmptyArray<N>>⟧.has_item,
             made.0,
             made.1,
             made.2,
           ),
         ))
-        (λ a s it same made. (made.1 ∙ same.0, made.2, made.3, ap length (made.1 ∙ same.0) ∙ same.1)) };
+        (λ a s it same made. (
+          made.1 ∙ same.0,
+          made.2,
+          made.3,
+          ap length (made.1 ∙ same.0) ∙ same.1,
+        )) };
 
     fn into_nonempty_iter(self) -> slice::Iter<'a, T> {
         match NESlice::try_from_slice(self) {
@@ -151,7 +162,8 @@ where
 
 /// A mark of the arrays that have an item, of 1 to 32 of them. It is for contracts alone.
 ///
-/// Its law is that there is an item. The Rust crate writes the implementations above for each length, by a macro, instead.
+/// Its law is that there is an item. The Rust crate writes the implementations above for each
+/// length, by a macro, instead.
 pub trait NonEmptyArray<const N: usize> {
     ghost has_item: { 0 < N };
 }

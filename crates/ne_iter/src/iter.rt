@@ -1,6 +1,6 @@
 //! Sources that give at least one item: the traits, and the adapters that keep an item.
 ghost use Rattle.std.specs.Prelude.{◌≡◌, ◌∷◌, []};
-ghost use Rattle.ne_iter.specs.Parts.{item_of_once};
+ghost use Rattle.ne_iter.specs.Parts.{once_item};
 ghost use Rattle.ne_iter.specs.Gives.{GivesList};
 
 mod adapters;
@@ -25,13 +25,13 @@ pub use looked::{IntoIteratorExt, LooksAhead, NonEmptyIterAdapter};
 pub use non_empty::NonEmptyIterator;
 pub use peek::Peekable;
 pub use scan::{Scan, ScanIter};
-pub use sources::{FromNonEmptyIterator, IntoNonEmptyIterator, Source};
+pub use sources::{FromNonEmptyIterator, IntoNonEmptyIterator, SourceWords};
 
 /// The source of one item.
 pub fn once<T: Drop>(value: T) -> Once<T>
-    ensures holds { item_of_once result ≡ value }
-    ensures gives { GivesList (⟦<Once<T> as Source>⟧.reads) result (value ∷ []) }
-    ensures lists { ⟦<Once<T> as Source>⟧.gives_items result (value ∷ []) }
+    ensures holds { once_item result ≡ value }
+    ensures gives { GivesList (⟦<Once<T> as SourceWords>⟧.reads) result (value ∷ []) }
+    ensures lists { ⟦<Once<T> as SourceWords>⟧.gives_items result (value ∷ []) }
 {
     Once { item: value }
 }

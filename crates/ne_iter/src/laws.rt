@@ -10,8 +10,9 @@ mod collected;
 mod ends;
 mod extremes;
 mod firsts;
-mod readers;
+mod groupings;
 mod selections;
+mod sorts;
 mod sources;
 
 pub use adapters::{
@@ -25,7 +26,8 @@ pub use closures::{
     folds_of_a_function, keys_of_a_function, scans_of_a_function,
 };
 pub use collected::{
-    interspersed_lists_have_their_places, results_are_read_whole, results_make_a_vector,
+    interspersed_lists_are_joined, interspersed_lists_have_their_places, results_are_read_whole,
+    results_make_a_vector,
 };
 pub use ends::{
     chain_ends, cloned_ends, copied_ends, enumerate_ends, flat_map_ends, flatten_ends,
@@ -36,13 +38,14 @@ pub use extremes::{
     first_least_is_the_least_number, numbers_have_one_greatest, numbers_have_one_least,
 };
 pub use firsts::first_items_stay_first;
-pub use readers::{
-    readers_stand_at_any_moment, runs_by_a_function, runs_by_keys_are_the_division,
-    runs_make_the_whole, stopped_reader_has_the_first_runs, whole_reading_gives_the_division,
+pub use groupings::{
+    groupings_stand_at_any_moment, runs_by_a_function, runs_by_keys_are_the_division,
+    runs_make_the_whole, stopped_grouping_has_the_first_runs, whole_reading_gives_the_division,
 };
 pub use selections::{
     list_of_filter, list_of_filter_map, list_of_skip, list_of_skip_while, list_of_take_while,
 };
+pub use sorts::{ascending_keys_do_not_fall, kept_ties_are_the_same_items};
 pub use sources::{
     arrays_give_their_items, chunks_give_themselves, lists_are_read_whole,
     lists_follow_one_another, lists_of_iterators, lists_stay_the_same,

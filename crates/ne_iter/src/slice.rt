@@ -54,28 +54,28 @@ impl<'a, T> IntoNonEmptyIterator for &'a NESlice<'a, T> {
 }
 
 impl<'a, T> NonEmptyIterator for slice::Iter<'a, T> {
-    ghost use Rattle.ne_iter.specs.Walks.{HasFirst-walk};
+    ghost use Rattle.ne_iter.specs.FirstItemLaws.{HasFirst-walk};
 
     ghost not_empty = { λ s it made. HasFirst-walk s it made };
 }
 
 impl<'a, T> NonEmptyIterator for slice::NEChunks<'a, T> {
     ghost use Rattle.std.proofs.Common.{arith, ap};
-    ghost use Rattle.ne_iter.specs.Walks.{HasFirst-chunks};
+    ghost use Rattle.ne_iter.specs.FirstItemLaws.{HasFirst-chunks};
 
     ghost not_empty = { λ s it made. HasFirst-chunks s it made };
 }
 
 impl<'a, T, F: Fn(&T, &T) -> bool> NonEmptyIterator for slice::SliceRuns<'a, T, F> {
     ghost use Rattle.ne_vec.specs.Divisions.{by_first};
-    ghost use Rattle.ne_iter.specs.Walks.{HasFirst-cuts};
+    ghost use Rattle.ne_iter.specs.FirstItemLaws.{HasFirst-cuts};
 
     ghost not_empty = { λ s it made. HasFirst-cuts F.Fn by_first s it made };
 }
 
 impl<'a, T, F: Fn(&T, &T) -> bool> NonEmptyIterator for slice::AdjacentRuns<'a, T, F> {
     ghost use Rattle.ne_vec.specs.Divisions.{by_previous};
-    ghost use Rattle.ne_iter.specs.Walks.{HasFirst-cuts};
+    ghost use Rattle.ne_iter.specs.FirstItemLaws.{HasFirst-cuts};
 
     ghost not_empty = { λ s it made. HasFirst-cuts F.Fn by_previous s it made };
 }

@@ -24,19 +24,19 @@ impl<T: Drop> FromNonEmptyIterator<T> for NEVec<T> {
 
 impl<'a, T> NonEmptyIterator for vector::Iter<'a, T> {
     ghost use Rattle.std.proofs.Common.{arith, ap};
-    ghost use Rattle.ne_iter.specs.Walks.{HasFirst-walk};
+    ghost use Rattle.ne_iter.specs.FirstItemLaws.{HasFirst-walk};
 
     ghost not_empty = { λ s it made. HasFirst-walk s it made };
 }
 
 impl<'a, T> NonEmptyIterator for vector::IterMut<'a, T> {
-    ghost use Rattle.ne_iter.specs.Walks.{HasFirst-walk_mut};
+    ghost use Rattle.ne_iter.specs.FirstItemLaws.{HasFirst-walk_mut};
 
     ghost not_empty = { λ s it made. HasFirst-walk_mut it made.0 };
 }
 
 impl<T: Drop> NonEmptyIterator for vector::IntoIter<T> {
-    ghost use Rattle.ne_iter.specs.Walks.{HasFirst-walk_out};
+    ghost use Rattle.ne_iter.specs.FirstItemLaws.{HasFirst-walk_out};
 
     ghost not_empty = { λ s it made. HasFirst-walk_out s it made };
 }

@@ -1,10 +1,10 @@
 //! The first runs of a source, and the reader as it stands after them.
 ghost use Rattle.std.specs.Prelude.{◌≡◌, ◌<◌, ◌≤◌, IfOk, length};
 ghost use Rattle.std.specs.Iterator.{IsFiniteIterable, CallableOnAllAt};
-ghost use Rattle.ne_iter.specs.Reader.{HasRead, IsOver};
-ghost use Rattle.ne_iter.specs.Reading.{Unread};
+ghost use Rattle.ne_iter.specs.GroupingRuns.{HasRead, IsOver};
+ghost use Rattle.ne_iter.specs.Grouping.{Unread};
 
-use ne_iter::laws::readers_stand_at_any_moment;
+use ne_iter::laws::groupings_stand_at_any_moment;
 use nonempty_collections::iter::GroupBy;
 use nonempty_collections::{NEVec, NonEmptyIterator};
 use std::alloc::{AllocError, Global};
@@ -31,7 +31,7 @@ pub fn take_runs<I: NonEmptyIterator, K: PartialEq + Drop, F: FnMut(&I::Item) ->
 ) -> Result<(Vec<NEVec<I::Item>>, GroupBy<I::IntoIter, K, I::Item, F>), AllocError>
 where
     I::Item: Drop,
-    requires runs { IsFiniteIterable I.into_iter_gives I.IntoIter.can_next
+    requires ends { IsFiniteIterable I.into_iter_gives I.IntoIter.can_next
         I.IntoIter.remaining iter }
     requires callable { (it : I.IntoIter) → I.into_iter_gives iter it
         → CallableOnAllAt I.IntoIter.next_gives F.FnMut it key }
@@ -42,7 +42,7 @@ where
     ensures fewer { IfOk result (λ taken. length taken.0.items < k → IsOver taken.1) }
     ensures unread { IfOk result (λ taken. k ≡ 0 → taken.1.ahead ≡ Unread) }
 {
-    readers_stand_at_any_moment::<I::IntoIter, K, F>();
+    groupings_stand_at_any_moment::<I::IntoIter, K, F>();
     let mut reader = iter.group_by(alloc, key).into_iter();
     let mut runs = Vec::new(alloc);
     while runs.len() < k {

@@ -1,7 +1,7 @@
 //! A test for each call: its answer, and what stands after it.
 //!
-//! A test prints one line, which the gate reads: `made` with the name of the call, `refused`, or `not reached` where it was what the
-//! test prepares that was refused.
+//! A test prints one line, which the gate reads: `made` with the name of the call, `refused`, or
+//! `not reached` where it was what the test prepares that was refused.
 
 mod changes;
 mod clones;
@@ -76,8 +76,9 @@ fn leaves(
     }
 }
 
-// Counts down to 0, and hints at more items than any memory holds. To grow, `extend` asks for the room of the hint, and where that is
-// refused for the room of one item, so that a single refusal is done without. For this hint it does not ask: each growth is one request.
+// Counts down to 0, and hints at more items than any memory holds. To grow, `extend` asks for the
+// room of the hint, and where that is refused for the room of one item, so that a single refusal is
+// done without. For this hint it does not ask: each growth is one request.
 #[derive(Drop)]
 struct Countdown(u32);
 

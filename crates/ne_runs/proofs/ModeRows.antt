@@ -1,6 +1,7 @@
 -- Each mode makes rows of numbers, and no others.
 use Rattle.std.proofs.Common.{arith, sym, ap₂, ◌∙◌}
-use Rattle.std.specs.Prelude.{◌≡◌, ℕ, ◌<◌, ◌≤◌, Bool, All, Contains, nat_eq, List, [], ◌∷◌, length, sum, refl}
+use Rattle.std.specs.Prelude.{◌≡◌, ℕ, ◌<◌, ◌≤◌, Bool, All, Contains, nat_eq, List, [], ◌∷◌, length}
+use Rattle.std.specs.Prelude.{sum, refl}
 use Rattle.std.specs.Bool.{beq}
 use Rattle.ne_vec.specs.Divisions.{IsDivision, by_first, by_previous}
 use Rattle.ne_runs.specs.Modes.{AreRows, ends_of, is_even, is_near}
@@ -19,7 +20,8 @@ module _ (exists : (goes_on : List ℕ → ℕ → Bool) (xs : List ℕ)
     → Contains xs n → All (λ x. n ≤ x) xs → m ≡ n)
     (only_greatest : (xs : List ℕ) (m n : ℕ) → Contains xs m → All (λ x. x ≤ m) xs
     → Contains xs n → All (λ x. x ≤ n) xs → m ≡ n) where
-  pub has_rows : (mode : Mode) (numbers : List ℕ) → 0 < length numbers → (rows : List (List ℕ)) × AreRows mode numbers rows
+  pub has_rows : (mode : Mode) (numbers : List ℕ) → 0 < length numbers → (rows : List (List ℕ))
+      × AreRows mode numbers rows
   has_rows Ends numbers some = (ends_of numbers ∷ [], refl)
   has_rows Equal numbers some = exists (by_first nat_eq) numbers
   has_rows Parity numbers some = exists (by_first (λ m n. beq (is_even m) (is_even n))) numbers
@@ -34,10 +36,12 @@ module _ (exists : (goes_on : List ℕ → ℕ → Bool) (xs : List ℕ)
         (least.0, greatest.0, (least.1, least.2), (greatest.1, greatest.2), refl),
       )
 
-  pub only_rows : (mode : Mode) (numbers : List ℕ) (rows others : List (List ℕ)) → AreRows mode numbers rows → AreRows mode numbers others → rows ≡ others
+  pub only_rows : (mode : Mode) (numbers : List ℕ) (rows others : List (List ℕ))
+      → AreRows mode numbers rows → AreRows mode numbers others → rows ≡ others
   only_rows Ends numbers rows others a b = a ∙ sym b
   only_rows Equal numbers rows others a b = unique (by_first nat_eq) numbers rows others a b
-  only_rows Parity numbers rows others a b = unique (by_first (λ m n. beq (is_even m) (is_even n))) numbers rows others a b
+  only_rows Parity numbers rows others a b = unique (by_first (λ m n. beq (is_even m) (is_even n)))
+      numbers rows others a b
   only_rows Near numbers rows others a b = unique (by_first is_near) numbers rows others a b
   only_rows Chain numbers rows others a b = unique (by_previous is_near) numbers rows others a b
   only_rows Stats numbers rows others a b =

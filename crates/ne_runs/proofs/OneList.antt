@@ -1,5 +1,6 @@
 -- A text has its lines and no others.
-use Rattle.std.proofs.Common.{◌≡◌, ◌≢◌, ℕ, inl, inr, Bool, true, false, cond, List, [], ◌∷◌, ◌++◌, refl, sym, ap, append_assoc, arith, eqb, eqb-true}
+use Rattle.std.proofs.Common.{◌≡◌, ◌≢◌, ℕ, inl, inr, Bool, true, false, cond, List, [], ◌∷◌, ◌++◌}
+use Rattle.std.proofs.Common.{refl, sym, ap, append_assoc, arith, eqb, eqb-true}
 use Rattle.std.specs.List.{flat_map, onto_first, AllByRecursion}
 use Rattle.std.proofs.lemmas.Bool.{eqb-false}
 use Rattle.std.proofs.lemmas.Bool.Decides.{nat_tests}
@@ -11,23 +12,31 @@ NoFeed line = AllByRecursion (λ byte. byte ≢ 10) line
 not_feed : (byte : ℕ) → byte ≢ 10 → eqb byte 10 ≡ false
 not_feed byte other = grind (arith, nat_tests)
 
-lines_of-ended : (line rest : List ℕ) → NoFeed line → lines_of (line ++ (10 ∷ rest)) ≡ line ∷ lines_of rest
+lines_of-ended : (line rest : List ℕ) → NoFeed line
+    → lines_of (line ++ (10 ∷ rest)) ≡ line ∷ lines_of rest
 lines_of-ended [] rest free = refl
 lines_of-ended (byte ∷ line) rest free = rw (not_feed byte free.0, lines_of-ended line rest free.1)
 
 lines_of-single : (line : List ℕ) → NoFeed line → line ≢ [] → lines_of line ≡ line ∷ []
 lines_of-single [] free some = absurd (some refl)
 lines_of-single (byte ∷ []) free some = rw (not_feed byte free.0)
-lines_of-single (byte ∷ next ∷ line) free some = rw (not_feed byte free.0, lines_of-single (next ∷ line) free.1 (λ e. cc))
+lines_of-single (byte ∷ next ∷ line) free some = rw
+    (not_feed byte free.0, lines_of-single (next ∷ line) free.1 (λ e. cc))
 
 -- the lines of lines that are all ended
-lines_of-all_ended : (lines : List (List ℕ)) → AllByRecursion NoFeed lines → lines_of (flat_map ended lines) ≡ lines
+lines_of-all_ended : (lines : List (List ℕ)) → AllByRecursion NoFeed lines
+    → lines_of (flat_map ended lines) ≡ lines
 lines_of-all_ended [] free = refl
 lines_of-all_ended (line ∷ lines) free =
-    rw (append_assoc line (10 ∷ []) (flat_map ended lines), lines_of-ended line (flat_map ended lines) free.0, lines_of-all_ended lines free.1)
+    rw (
+      append_assoc line (10 ∷ []) (flat_map ended lines),
+      lines_of-ended line (flat_map ended lines) free.0,
+      lines_of-all_ended lines free.1,
+    )
 
 -- the lines of lines the last of which is open
-lines_of-open : (front : List (List ℕ)) (last : List ℕ) → AllByRecursion NoFeed (front ++ last ∷ []) → last ≢ [] → lines_of (flat_map ended front ++ last) ≡ front ++ last ∷ []
+lines_of-open : (front : List (List ℕ)) (last : List ℕ) → AllByRecursion NoFeed (front ++ last ∷ [])
+    → last ≢ [] → lines_of (flat_map ended front ++ last) ≡ front ++ last ∷ []
 lines_of-open [] last free some = lines_of-single last free.0 some
 lines_of-open (line ∷ front) last free some =
     rw (
@@ -37,17 +46,21 @@ lines_of-open (line ∷ front) last free some =
       lines_of-open front last free.1 some,
     )
 
-pub only_lines : (text : List ℕ) (lines : List (List ℕ)) → AreLines text lines → lines ≡ lines_of text
+pub only_lines : (text : List ℕ) (lines : List (List ℕ)) → AreLines text lines
+    → lines ≡ lines_of text
 only_lines text lines are =
     elim are.joined [
       | inl whole ↦ sym (rw whole (lines_of-all_ended lines are.no_feed))
       | inr open_end ↦
-          let free : AllByRecursion NoFeed (open_end.front ++ open_end.last ∷ []) = rw open_end.parts at are.no_feed in
-          rw (open_end.joined, open_end.parts) (sym (lines_of-open open_end.front open_end.last free open_end.not_empty))
+          let free : AllByRecursion NoFeed (open_end.front ++ open_end.last ∷ []) = rw
+          open_end.parts at are.no_feed in
+          rw (open_end.joined, open_end.parts)
+          (sym (lines_of-open open_end.front open_end.last free open_end.not_empty))
     ]
 
 -- a line feed in front is an empty line
-with_feed : (text : List ℕ) (lines : List (List ℕ)) → AreLines text lines → AreLines (10 ∷ text) ([] ∷ lines)
+with_feed : (text : List ℕ) (lines : List (List ℕ)) → AreLines text lines
+    → AreLines (10 ∷ text) ([] ∷ lines)
 with_feed text lines are = record {
   no_feed = (tt, are.no_feed);
   joined = elim are.joined [
@@ -75,7 +88,8 @@ alone byte text are =
     ]
 
 -- a byte in front of lines the last of which is open
-onto_open : (byte : ℕ) (front : List (List ℕ)) (last line : List ℕ) (lines : List (List ℕ)) (text : List ℕ) → line ∷ lines ≡ front ++ last ∷ [] → last ≢ []
+onto_open : (byte : ℕ) (front : List (List ℕ)) (last line : List ℕ) (lines : List (List ℕ))
+    (text : List ℕ) → line ∷ lines ≡ front ++ last ∷ [] → last ≢ []
     → text ≡ flat_map ended front ++ last → EndsOpen (byte ∷ text) ((byte ∷ line) ∷ lines)
 onto_open byte [] last line lines text parts some joined = record {
   front = [];
@@ -93,20 +107,29 @@ onto_open byte (first ∷ front) last line lines text parts some joined = record
 }
 
 -- another byte in front goes onto the first line
-with_byte : (byte : ℕ) → byte ≢ 10 → (text : List ℕ) (lines : List (List ℕ)) → AreLines text lines → AreLines (byte ∷ text) (onto_first byte lines)
+with_byte : (byte : ℕ) → byte ≢ 10 → (text : List ℕ) (lines : List (List ℕ)) → AreLines text lines
+    → AreLines (byte ∷ text) (onto_first byte lines)
 with_byte byte other text [] are = record {
   no_feed = ((other, tt), tt);
-  joined = inr (record { front = []; last = byte ∷ []; parts = refl; not_empty = λ e. cc; joined = alone byte text are });
+  joined = inr (record {
+    front = [];
+    last = byte ∷ [];
+    parts = refl;
+    not_empty = λ e. cc;
+    joined = alone byte text are;
+  });
 }
 with_byte byte other text (line ∷ lines) are = record {
   no_feed = ((other, are.no_feed.0), are.no_feed.1);
   joined = elim are.joined [
     | inl whole ↦ inl (ap (λ t. byte ∷ t) whole)
-    | inr open_end ↦ inr (onto_open byte open_end.front open_end.last line lines text open_end.parts open_end.not_empty open_end.joined)
+    | inr open_end ↦ inr (onto_open byte open_end.front open_end.last line lines text open_end.parts
+        open_end.not_empty open_end.joined)
   ];
 }
 
-with_first : (byte : ℕ) (text : List ℕ) (lines : List (List ℕ)) (is_feed : Bool) → eqb byte 10 ≡ is_feed → AreLines text lines
+with_first : (byte : ℕ) (text : List ℕ) (lines : List (List ℕ)) (is_feed : Bool)
+    → eqb byte 10 ≡ is_feed → AreLines text lines
     → AreLines (byte ∷ text) (cond is_feed ([] ∷ lines) (onto_first byte lines))
 with_first byte text lines true e are = rw (eqb-true byte 10 e) (with_feed text lines are)
 with_first byte text lines false e are = with_byte byte (eqb-false byte 10 e) text lines are

@@ -1,5 +1,6 @@
 -- Rows of numbers, as they are written.
-use Rattle.std.proofs.Common.{◌≡◌, ℕ, ◌≤◌, List, [], ◌∷◌, ◌++◌, length, map, drop, cond, Result, Ok, Err, is_ok, OnOk, sym, ◌∙◌, ap, append_assoc, append-nil}
+use Rattle.std.proofs.Common.{◌≡◌, ℕ, ◌≤◌, List, [], ◌∷◌, ◌++◌, length, map, drop, cond, Result, Ok}
+use Rattle.std.proofs.Common.{Err, is_ok, OnOk, sym, ◌∙◌, ap, append_assoc, append-nil}
 use Rattle.std.specs.List.{flat_map, join_with_byte}
 use Rattle.std.specs.Fmt.{decimal}
 use Rattle.std.proofs.lemmas.List.{drop_all}
@@ -9,16 +10,22 @@ use Rattle.ne_runs.specs.Modes.{row_text}
 abbrev pub behind : ℕ → List ℕ
 behind n = 32 ∷ decimal n
 
-join-cons : (first : ℕ) (rest : List ℕ) → join_with_byte 32 (map decimal (first ∷ rest)) ≡ decimal first ++ flat_map behind rest
+join-cons : (first : ℕ) (rest : List ℕ) → join_with_byte 32 (map decimal (first ∷ rest))
+    ≡ decimal first ++ flat_map behind rest
 join-cons first [] = sym (append-nil (decimal first))
 join-cons first (next ∷ rest) = ap (λ t. decimal first ++ (32 ∷ t)) (join-cons next rest)
 
--- a line feed ends the row that was written: `begun` holds its first number, and `written` all of them
-pub row_ended : {E : Type 0} (r : Result (Unit {0}) E) (old begun written new : List ℕ) (first : ℕ) (rest : List ℕ) (i : ℕ) → begun ≡ old ++ decimal first
-    → written ++ flat_map behind (drop i rest) ≡ begun ++ flat_map behind rest → length rest ≤ i → new ≡ cond (is_ok r) (written ++ 10 ∷ []) written
+-- a line feed ends the row that was written: `begun` holds its first number, and `written` all of
+-- them
+pub row_ended : {E : Type 0} (r : Result (Unit {0}) E) (old begun written new : List ℕ) (first : ℕ)
+    (rest : List ℕ) (i : ℕ) → begun ≡ old ++ decimal first
+    → written ++ flat_map behind (drop i rest) ≡ begun ++ flat_map behind rest → length rest ≤ i
+    → new ≡ cond (is_ok r) (written ++ 10 ∷ []) written
     → OnOk r (new ≡ old ++ row_text (first ∷ rest))
 row_ended (Ok done) old begun written new first rest i begins goes_on all ends =
-    let none_left : flat_map behind (drop i rest) ≡ [] = ap (flat_map behind) (drop_all i rest all) in
-    let whole : written ≡ begun ++ flat_map behind rest = sym (append-nil written) ∙ ap (λ t. written ++ t) (sym none_left) ∙ goes_on in
+    let none_left : flat_map behind (drop i rest)
+    ≡ [] = ap (flat_map behind) (drop_all i rest all) in
+    let whole : written ≡ begun ++ flat_map behind rest = sym (append-nil written)
+    ∙ ap (λ t. written ++ t) (sym none_left) ∙ goes_on in
     rw (ends, whole, begins, join-cons first rest) (simp append_assoc)
 row_ended (Err error) old begun written new first rest i begins goes_on all ends = tt

@@ -1,10 +1,12 @@
 -- The faults: the text and the exit status of each, and the fault that an input has.
-use Rattle.std.specs.Prelude.{ℕ, ◌+◌, List, [], ◌∷◌, ◌++◌, if◌then◌else◌, nat_lt, length, codes, position, Option, Some}
+use Rattle.std.specs.Prelude.{ℕ, ◌+◌, List, [], ◌∷◌, ◌++◌, if◌then◌else◌, nat_lt, length, codes}
+use Rattle.std.specs.Prelude.{position, Option, Some}
 use Rattle.std.specs.Option.{option_map}
 use Rattle.std.specs.Fmt.{decimal}
 use Rattle.ne_runs.specs.Lines.{lines_of, is_bad}
 use Rattle.ne_runs.specs.declared.fault.Fault.{Fault}
-use Rattle.ne_runs.specs.declared.fault.Fault.TheVariants.{Empty, BadLine, TooLong, Usage, Read, Write, Memory}
+use Rattle.ne_runs.specs.declared.fault.Fault.TheVariants.{Empty, BadLine, TooLong, Usage, Read}
+use Rattle.ne_runs.specs.declared.fault.Fault.TheVariants.{Write, Memory}
 
 -- what a fault prints
 abbrev pub fault_text : Fault → List ℕ
@@ -41,4 +43,5 @@ fault_of_lines (line ∷ lines) = bad_line (line ∷ lines)
 
 -- what is wrong with an input: it is too long, else what is wrong with its lines
 abbrev pub fault_of : List ℕ → Option Fault
-fault_of input = if nat_lt most_bytes (length input) then Some TooLong else fault_of_lines (lines_of input)
+fault_of input = if nat_lt most_bytes (length input) then Some TooLong else fault_of_lines
+    (lines_of input)

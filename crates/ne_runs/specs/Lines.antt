@@ -1,5 +1,6 @@
 -- The lines of an input, and the numbers that they write. A line feed is 10, and the digit 0 is 48.
-use Rattle.std.specs.Prelude.{◌≡◌, ◌≢◌, ℕ, ◌+◌, ◌-◌, ◌*◌, ◌^◌, Bool, not, ◌&&◌, ◌⊎◌, List, [], ◌∷◌, ◌++◌, if◌then◌else◌, ◌==◌, nat_le, length, map}
+use Rattle.std.specs.Prelude.{◌≡◌, ◌≢◌, ℕ, ◌+◌, ◌-◌, ◌*◌, ◌^◌, Bool, not, ◌&&◌, ◌⊎◌, List, [], ◌∷◌}
+use Rattle.std.specs.Prelude.{◌++◌, if◌then◌else◌, ◌==◌, nat_le, length, map}
 use Rattle.std.specs.List.{flat_map, onto_first, AllByRecursion}
 use Rattle.std.specs.Str.{all_ascii_digits}
 use Rattle.std.specs.Str.Parse.{digits_value}
@@ -16,7 +17,8 @@ pub record EndsOpen (text : List ℕ) (lines : List (List ℕ)) : Type 0 where
   pub not_empty : last ≢ []
   pub joined : text ≡ flat_map ended front ++ last
 
--- the text is these lines, none of which holds a line feed, each of them ended, save perhaps a last one that is not empty
+-- the text is these lines, none of which holds a line feed, each of them ended, save perhaps a last
+-- one that is not empty
 pub record AreLines (text : List ℕ) (lines : List (List ℕ)) : Type 0 where
   pub no_feed : AllByRecursion (AllByRecursion (λ byte. byte ≢ 10)) lines
   pub joined : (text ≡ flat_map ended lines) ⊎ EndsOpen text lines

@@ -1,5 +1,7 @@
 -- The modes: the word that names each, and what it writes of a list of numbers. A space is 32.
-use Rattle.std.specs.Prelude.{◌≡◌, ◌==◌, ℕ, ◌≤◌, ◌-◌, ◌%◌, Bool, nat_eq, nat_le, List, [], ◌∷◌, ◌++◌, if◌then◌else◌, length, map, slice_index, codes, All, Contains, sum, Option, None, Some}
+use Rattle.std.specs.Prelude.{◌≡◌, ◌==◌, ℕ, ◌≤◌, ◌-◌, ◌%◌, Bool, nat_eq, nat_le, List, [], ◌∷◌}
+use Rattle.std.specs.Prelude.{◌++◌, if◌then◌else◌, length, map, slice_index, codes, All, Contains}
+use Rattle.std.specs.Prelude.{sum, Option, None, Some}
 use Rattle.std.specs.Bool.{beq}
 use Rattle.std.specs.List.{flat_map, join_with_byte}
 use Rattle.std.specs.Fmt.{decimal}
@@ -31,7 +33,8 @@ mode_of word =
 
 -- how many numbers there are, the first and the last
 abbrev pub ends_of : List ℕ → List ℕ
-ends_of numbers = length numbers ∷ slice_index numbers 0 ∷ slice_index numbers (length numbers - 1) ∷ []
+ends_of numbers = length numbers ∷ slice_index numbers 0 ∷ slice_index numbers (length numbers - 1)
+    ∷ []
 
 -- one of the numbers, which is at most each of them
 abbrev pub IsLeast : List ℕ → ℕ → Type 0
@@ -52,9 +55,11 @@ is_near m n = nat_le (abs_diff m n) 1
 abbrev pub AreRows : Mode → List ℕ → List (List ℕ) → Type 0
 AreRows Ends numbers rows = rows ≡ ends_of numbers ∷ []
 AreRows Stats numbers rows =
-    (least : ℕ) × (greatest : ℕ) × IsLeast numbers least × IsGreatest numbers greatest × (rows ≡ (least ∷ greatest ∷ sum numbers ∷ []) ∷ [])
+    (least : ℕ) × (greatest : ℕ) × IsLeast numbers least × IsGreatest numbers greatest
+    × (rows ≡ (least ∷ greatest ∷ sum numbers ∷ []) ∷ [])
 AreRows Equal numbers rows = IsDivision (by_first nat_eq) numbers rows
-AreRows Parity numbers rows = IsDivision (by_first (λ m n. beq (is_even m) (is_even n))) numbers rows
+AreRows Parity numbers rows = IsDivision (by_first (λ m n. beq (is_even m) (is_even n))) numbers
+    rows
 AreRows Near numbers rows = IsDivision (by_first is_near) numbers rows
 AreRows Chain numbers rows = IsDivision (by_previous is_near) numbers rows
 

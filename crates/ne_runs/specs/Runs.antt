@@ -1,6 +1,8 @@
--- What a run reads, answers and writes. `left` and `taken` are what the reader has left and what the writer has taken, before the
--- run, and `left'` and `taken'` the same after it; `None` claims nothing of bytes.
-use Rattle.std.specs.Prelude.{◌≡◌, ℕ, ◌+◌, ◌⊎◌, List, [], ◌++◌, length, Option, None, Some, Result, MatchResult}
+-- What a run reads, answers and writes. `left` and `taken` are what the reader has left and what
+-- the writer has taken, before the run, and `left'` and `taken'` the same after it; `None` claims
+-- nothing of bytes.
+use Rattle.std.specs.Prelude.{◌≡◌, ℕ, ◌+◌, ◌⊎◌, List, [], ◌++◌, length, Option, None, Some, Result}
+use Rattle.std.specs.Prelude.{MatchResult}
 use Rattle.std.specs.Io.KnownBytes.{Appends, Consumes, IsAtEnd}
 use Rattle.ne_runs.specs.Lines.{numbers_of}
 use Rattle.ne_runs.specs.Modes.{IsText}
@@ -16,23 +18,28 @@ pub record TakesPart (text rest : List ℕ) (taken taken' : Option (List ℕ)) :
   pub written : Appends taken taken' part
 
 -- the writer took the mode's text of the input's numbers, all but the rest of it, and nothing more
-pub record WritesBut (rest : List ℕ) (mode : Mode) (input : List ℕ) (taken taken' : Option (List ℕ)) : Type 0 where
+pub record WritesBut (rest : List ℕ) (mode : Mode) (input : List ℕ)
+    (taken taken' : Option (List ℕ)) : Type 0 where
   pub text : List ℕ
   pub is_text : IsText mode (numbers_of input) text
   pub takes : TakesPart text rest taken taken'
 
--- How a run ends that has read this input: nothing is wrong with it, and the whole text was written; or the fault is what is wrong
--- with it; or nothing is wrong with it, and a write or the flush failed when some rest of the text, perhaps none, was left.
-abbrev pub EndsWith : Mode → List ℕ → Option (List ℕ) → Option (List ℕ) → Result (Unit {0}) Fault → Type 0
+-- How a run ends that has read this input: nothing is wrong with it, and the whole text was
+-- written; or the fault is what is wrong with it; or nothing is wrong with it, and a write or the
+-- flush failed when some rest of the text, perhaps none, was left.
+abbrev pub EndsWith : Mode → List ℕ → Option (List ℕ) → Option (List ℕ) → Result (Unit {0}) Fault
+    → Type 0
 EndsWith mode input taken taken' result =
     MatchResult result
     (λ _. (fault_of input ≡ None) × WritesBut [] mode input taken taken')
     (λ fault. (fault_of input ≡ Some fault)
-    ⊎ ((fault_of input ≡ None) × (fault ≡ Write) × ((rest : List ℕ) × WritesBut rest mode input taken taken')))
+    ⊎ ((fault_of input ≡ None) × (fault ≡ Write)
+    × ((rest : List ℕ) × WritesBut rest mode input taken taken')))
 
--- A run that meets no failed read and no want of memory: it reads the whole input, or one byte more than it takes, and ends as that
--- input has it.
-pub record Completes (mode : Mode) (left left' taken taken' : Option (List ℕ)) (result : Result (Unit {0}) Fault) : Type 0 where
+-- A run that meets no failed read and no want of memory: it reads the whole input, or one byte more
+-- than it takes, and ends as that input has it.
+pub record Completes (mode : Mode) (left left' taken taken' : Option (List ℕ))
+    (result : Result (Unit {0}) Fault) : Type 0 where
   pub input : List ℕ
   pub read : Consumes left left' input
   pub whole : (IsAtEnd left') ⊎ (length input ≡ most_bytes + 1)

@@ -1,9 +1,10 @@
 //! What a run reads from and writes to.
 //!
-//! [`Source`] and [`Sink`] are the two sides of a run. Each tells its bytes and whether a call on it has failed, and a sink whether it
-//! was flushed, so that a run's contract can say what was read and written, and when a failure was met. [`StdIo`] makes them of std's
-//! readers and writers.
-ghost use Rattle.std.specs.Prelude.{◌≡◌, ℕ, ◌<◌, ◌≤◌, Bool, true, false, ◌||◌, List, length, IfOk, OnOk, Option, is_err};
+//! [`Source`] and [`Sink`] are the two sides of a run. Each tells its bytes and whether a call on
+//! it has failed, and a sink whether it was flushed, so that a run's contract can say what was read
+//! and written, and when a failure was met. [`StdIo`] makes them of std's readers and writers.
+ghost use Rattle.std.specs.Prelude.{◌≡◌, ℕ, ◌<◌, ◌≤◌, Bool, true, false, ◌||◌, List, length, IfOk};
+ghost use Rattle.std.specs.Prelude.{OnOk, Option, is_err};
 ghost use Rattle.std.specs.Io.KnownBytes.{ReadConsumes, WriteAppends, Keeps};
 
 use std::io;
@@ -19,7 +20,8 @@ pub trait Source {
 
     /// Reads into `buffer`, and answers how many bytes came; they stand at its front.
     ///
-    /// `Ok(0)` with room in the buffer comes only at the end. `Err` comes exactly where the call failed, and then no byte moved.
+    /// `Ok(0)` with room in the buffer comes only at the end. `Err` comes exactly where the call
+    /// failed, and then no byte moved.
     fn read(&mut self, buffer: &mut [u8]) -> Result<usize, ()>
         ensures bound { IfOk result (λ count. count ≤ length buffer.new) }
         ensures bytes { ReadConsumes (left self.old) (left self.new) result buffer.new }
@@ -37,7 +39,8 @@ pub trait Sink {
     /// Whether all that was taken was flushed.
     ghost is_flushed: { Self → Bool };
 
-    /// Writes from the front of `text`, and answers how many bytes were taken, at least one of a text that is not empty.
+    /// Writes from the front of `text`, and answers how many bytes were taken, at least one of a
+    /// text that is not empty.
     ///
     /// `Err` comes exactly where the call failed, and then no byte was taken.
     fn write(&mut self, text: &[u8]) -> Result<usize, ()>
@@ -55,8 +58,8 @@ pub trait Sink {
 
 /// A reader or a writer of std as a [`Source`] or a [`Sink`].
 ///
-/// It tells bytes where std's does. A contract sees it as the reader or writer, whether a call on it has failed, and whether all that
-/// was written is flushed.
+/// It tells bytes where std's does. A contract sees it as the reader or writer, whether a call on
+/// it has failed, and whether all that was written is flushed.
 #[derive(Drop)]
 pub struct StdIo<T> {
     inner: T,
@@ -69,7 +72,11 @@ impl<T> Model for StdIo<T> {
 
     ghost Value = { Device T };
 
-    ghost view = { λ d. record { inner = d.inner; has_failed = d.has_failed; is_flushed = d.is_flushed } };
+    ghost view = { λ d. record {
+      inner = d.inner;
+      has_failed = d.has_failed;
+      is_flushed = d.is_flushed;
+    } };
 }
 
 impl<T> StdIo<T> {
@@ -120,11 +127,13 @@ impl<T: io::Write> Sink for StdIo<T> {
 
     ghost is_flushed = { λ device. device.is_flushed };
 
-    /// A write that takes no byte of a text that is not empty has failed. What is taken is to be flushed.
+    /// A write that takes no byte of a text that is not empty has failed. What is taken is to be
+    /// flushed.
     fn write(&mut self, text: &[u8]) -> Result<usize, ()>
         ensures bound { IfOk result (λ count. count ≤ length text.now) }
         ensures progress { 0 < length text.now → IfOk result (λ count. 0 < count) }
-        ensures bytes { WriteAppends (T.contents self.old.inner) (T.contents self.new.inner) result text.now }
+        ensures bytes { WriteAppends (T.contents self.old.inner) (T.contents self.new.inner) result
+            text.now }
         ensures failed { self.new.has_failed ≡ (self.old.has_failed || is_err result) }
         ensures unflushed { OnOk result (self.new.is_flushed ≡ false) }
     {

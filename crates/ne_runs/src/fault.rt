@@ -1,4 +1,5 @@
-//! [`Fault`], why a run ended otherwise than by writing its text: seven of them, each with its text and its exit status.
+//! [`Fault`], why a run ended otherwise than by writing its text: seven of them, each with its text
+//! and its exit status.
 ghost use Rattle.std.specs.Prelude.{◌≡◌, Some};
 ghost use Rattle.ne_runs.specs.Faults.{fault_text, fault_status};
 ghost use Rattle.ne_runs.specs.declared.fault.Fault.TheVariants.{Memory};
@@ -27,7 +28,8 @@ pub enum Fault {
 }
 
 impl Fault {
-    /// The exit status: 1 for no line, 2 for a bad input or word, 3 for a failed device, 4 for want of memory.
+    /// The exit status: 1 for no line, 2 for a bad input or word, 3 for a failed device, 4 for want
+    /// of memory.
     pub fn status(&self) -> u8
         ensures { result ≡ fault_status self.now }
     {

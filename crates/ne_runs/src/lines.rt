@@ -1,8 +1,11 @@
 //! The lines of an input, and the numbers that they write.
-ghost use Rattle.std.specs.Prelude.{◌≡◌, ℕ, ◌+◌, ◌^◌, ◌==◌, ◌<◌, ◌≤◌, ◌⊎◌, List, ◌∷◌, length, sum, position, None, Some, IfOk, MatchOption, MatchResult, true, false};
+ghost use Rattle.std.specs.Prelude.{◌≡◌, ℕ, ◌+◌, ◌^◌, ◌==◌, ◌<◌, ◌≤◌, ◌⊎◌, List, ◌∷◌, length, sum};
+ghost use Rattle.std.specs.Prelude.{position, None, Some, IfOk, MatchOption, MatchResult, true};
+ghost use Rattle.std.specs.Prelude.{false};
 ghost use Rattle.std.specs.Fmt.{decimal};
 ghost use Rattle.ne_runs.specs.Faults.{bad_line, most_bytes};
-ghost use Rattle.ne_runs.specs.Lines.{AreLines, lines_of, is_number, number_of, numbers_of, place_value};
+ghost use Rattle.ne_runs.specs.Lines.{AreLines, lines_of, is_number, number_of, numbers_of};
+ghost use Rattle.ne_runs.specs.Lines.{place_value};
 
 use crate::fault::Fault;
 use std::alloc::Global;
@@ -10,11 +13,12 @@ use std::alloc::Global;
 /// Each text has its lines, and no others: the two ways in which lines are defined agree.
 pub fn lines_are_one()
     ensures there { (text : List ℕ) → AreLines text (lines_of text) }
-    ensures only { (text : List ℕ) (lines : List (List ℕ)) → AreLines text lines → lines ≡ lines_of text }
+    ensures only { (text : List ℕ) (lines : List (List ℕ)) → AreLines text lines
+        → lines ≡ lines_of text }
 {}
 
-/// The number that a good line writes is the sum of its digits, each by the weight of its place. The digits that print a number are
-/// a good line that writes it.
+/// The number that a good line writes is the sum of its digits, each by the weight of its place.
+/// The digits that print a number are a good line that writes it.
 pub fn numbers_are_decimal()
     ensures weighed { (line : List ℕ) → is_number line ≡ true → number_of line ≡ place_value line }
     ensures good { (n : ℕ) → n < 10 ^ 9 → is_number (decimal n) ≡ true }
@@ -58,7 +62,8 @@ fn number(line: &[u8]) -> Option<u32>
     Some(value)
 }
 
-/// The numbers of all lines of a text, in order; or its first bad line, or `Memory` where there is no memory for them.
+/// The numbers of all lines of a text, in order; or its first bad line, or `Memory` where there is
+/// no memory for them.
 ///
 /// Their sum fits in 64 bits: there are no more of them than bytes, and each fits in 32.
 pub fn numbers(alloc: Global, text: &[u8]) -> Result<Vec<u32>, Fault>

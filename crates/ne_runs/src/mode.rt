@@ -1,6 +1,7 @@
 //! [`Mode`], what a run makes of its numbers: the word that names each mode, and its text.
 //!
-//! The laws of the library that are called here do nothing. What they ensure is cited by the proofs.
+//! The laws of the library that are called here do nothing. What they ensure is cited by the
+//! proofs.
 ghost use Rattle.std.specs.Prelude.{◌≡◌, ◌^◌, ◌<◌, ◌≤◌, ◌∷◌, ◌++◌, OnOk, IfOk, Some, string_bytes};
 ghost use Rattle.std.specs.Prelude.{List, ℕ, Bool, length, sum, true};
 ghost use Rattle.std.specs.Iterator.{IsFiniteIterable};
@@ -11,7 +12,7 @@ ghost use Rattle.ne_runs.specs.Modes.{mode_of, word_of, row_text, AreRows, HasRo
 ghost use Rattle.ne_runs.specs.Modes.{IsLeast, IsGreatest};
 ghost use Rattle.ne_runs.specs.declared.mode.Mode.{Mode};
 
-use nonempty_collections::iter::Source;
+use nonempty_collections::iter::SourceWords;
 use nonempty_collections::laws::{
     has_one_division, numbers_have_one_greatest, numbers_have_one_least,
     slice_runs_are_the_division,
@@ -183,7 +184,7 @@ fn text_of_runs<'a, R: NonEmptyIterator<Item = NESlice<'a, u32>>>(
 ) -> Result<String, AllocError>
     requires { IsFiniteIterable R.into_iter_gives R.IntoIter.can_next R.IntoIter.remaining runs }
     ensures { IfOk result (λ text. (rows : List (List ℕ))
-        × ⟦<R as Source>⟧.reads true runs rows
+        × ⟦<R as SourceWords>⟧.reads true runs rows
         × (string_bytes text ≡ flat_map row_text rows)) }
 {
     let mut text = String::new(alloc);
@@ -217,7 +218,8 @@ fn sum(numbers: &NEVec<u32>) -> u64
 
 // Adds a row to a text: its first number, and the rest of them.
 fn push_row(text: &mut String, first: u64, rest: &[u64]) -> Result<(), AllocError>
-    ensures { OnOk result (string_bytes text.new ≡ string_bytes text.old ++ row_text (first ∷ rest.now)) }
+    ensures { OnOk result (string_bytes text.new ≡ string_bytes text.old
+        ++ row_text (first ∷ rest.now)) }
 {
     write!(text, "{first}")?;
     for number in rest {

@@ -1,5 +1,7 @@
 //! A run: from the word of a mode and the bytes that are read to the text that is written.
-ghost use Rattle.std.specs.Prelude.{◌≡◌, ◌≢◌, ℕ, ◌+◌, ◌⊎◌, ◌↔◌, List, [], ◌∷◌, length, map, true, false, None, IfOk, IfErr, OnOk, OnErr, IfSome, IsErr, IsTrue, IsErrOf, MatchResult, string_bytes};
+ghost use Rattle.std.specs.Prelude.{◌≡◌, ◌≢◌, ℕ, ◌+◌, ◌⊎◌, ◌↔◌, List, [], ◌∷◌, length, map, true};
+ghost use Rattle.std.specs.Prelude.{false, None, IfOk, IfErr, OnOk, OnErr, IfSome, IsErr, IsTrue};
+ghost use Rattle.std.specs.Prelude.{IsErrOf, MatchResult, string_bytes};
 ghost use Rattle.std.specs.Io.KnownBytes.{Consumes, IsAtEnd};
 ghost use Rattle.ne_runs.specs.Faults.{most_bytes};
 ghost use Rattle.ne_runs.specs.Modes.{mode_of};
@@ -35,8 +37,10 @@ fn read_all<R: Source>(alloc: Global, reader: &mut R) -> Result<Vec<u8>, Fault>
     requires { R.has_failed reader.old ≡ false }
     ensures read { IsErrOf result Fault.Read ↔ IsTrue (R.has_failed reader.new) }
     ensures faults { IfErr result (λ fault. (fault ≡ Fault.Read) ⊎ (fault ≡ Fault.Memory)) }
-    ensures bytes { IfOk result (λ input. Consumes (R.left reader.old) (R.left reader.new) input.items) }
-    ensures whole { IfOk result (λ input. IsAtEnd (R.left reader.new) ⊎ (length input.items ≡ most_bytes + 1)) }
+    ensures bytes { IfOk result (λ input. Consumes (R.left reader.old) (R.left reader.new)
+        input.items) }
+    ensures whole { IfOk result (λ input. IsAtEnd (R.left reader.new)
+        ⊎ (length input.items ≡ most_bytes + 1)) }
 {
     let mut input = Vec::new(alloc);
     let mut chunk = [0u8; CHUNK];
@@ -54,8 +58,10 @@ fn read_all<R: Source>(alloc: Global, reader: &mut R) -> Result<Vec<u8>, Fault>
 // Writes a whole text, and flushes.
 fn write_all<W: Sink>(writer: &mut W, text: &[u8]) -> Result<(), Fault>
     requires { W.has_failed writer.old ≡ false }
-    ensures written { OnOk result (TakesPart text.now [] (W.taken writer.old) (W.taken writer.new)) }
-    ensures part { OnErr result ((rest : List ℕ) × TakesPart text.now rest (W.taken writer.old) (W.taken writer.new)) }
+    ensures written { OnOk result (TakesPart text.now [] (W.taken writer.old)
+        (W.taken writer.new)) }
+    ensures part { OnErr result ((rest : List ℕ)
+        × TakesPart text.now rest (W.taken writer.old) (W.taken writer.new)) }
     ensures fault { IfErr result (λ fault. fault ≡ Fault.Write) }
     ensures flushed { OnOk result (W.is_flushed writer.new ≡ true) }
     ensures failed { IsErr result ↔ IsTrue (W.has_failed writer.new) }
@@ -72,9 +78,9 @@ fn write_all<W: Sink>(writer: &mut W, text: &[u8]) -> Result<(), Fault>
 
 /// Reads numbers, one a line, and writes what the mode that `mode` names makes of them.
 ///
-/// No call on the reader or the writer may have failed before. The whole text is built before the first write, and at most one byte
-/// beyond the limit is read. Of the faults, `Usage` comes before all others; of an input, `TooLong` comes before `BadLine`, and that
-/// before `Empty`.
+/// No call on the reader or the writer may have failed before. The whole text is built before the
+/// first write, and at most one byte beyond the limit is read. Of the faults, `Usage` comes before
+/// all others; of an input, `TooLong` comes before `BadLine`, and that before `Empty`.
 pub fn run<R: Source, W: Sink>(
     alloc: Global,
     mode: &str,
@@ -91,13 +97,17 @@ pub fn run<R: Source, W: Sink>(
     ensures read { IsErrOf result Fault.Read ↔ IsTrue (R.has_failed reader.new) }
     ensures write { IsErrOf result Fault.Write ↔ IsTrue (W.has_failed writer.new) }
 
-    // After any fault but `Write` nothing was written. A run without a fault has flushed the writer.
+    // After any fault but `Write` nothing was written. A run without a fault has flushed the
+    // writer.
     ensures unwritten { IfErr result (λ fault. fault ≢ Fault.Write → writer.new ≡ writer.old) }
     ensures flushed { OnOk result (W.is_flushed writer.new ≡ true) }
 
-    // Where a mode is named, no read failed and memory was there, the run ends as the bytes that it read have it.
-    ensures completes { IfSome (mode_of mode.now) (λ m. IsErrOf result Fault.Read ⊎ IsErrOf result Fault.Memory
-        ⊎ Completes m (R.left reader.old) (R.left reader.new) (W.taken writer.old) (W.taken writer.new) result) }
+    // Where a mode is named, no read failed and memory was there, the run ends as the bytes that it
+    // read have it.
+    ensures completes { IfSome (mode_of mode.now)
+        (λ m. IsErrOf result Fault.Read ⊎ IsErrOf result Fault.Memory
+        ⊎ Completes m (R.left reader.old) (R.left reader.new) (W.taken writer.old)
+        (W.taken writer.new) result) }
 {
     let mode = Mode::named(mode).ok_or(Fault::Usage)?;
     let input = read_all(alloc, reader)?;

@@ -1,4 +1,5 @@
-//! Runs over readers and writers in memory: the worked rows, odd inputs, and each read and write failed in turn.
+//! Runs over readers and writers in memory: the worked rows, odd inputs, and each read and write
+//! failed in turn.
 
 mod fakes;
 

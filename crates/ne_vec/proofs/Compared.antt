@@ -153,7 +153,8 @@ module _ {A : Type 0} (cmp : A → A → Ordering) (total : IsTotalOrder cmp) wh
   itself [] = tt
   itself (x ∷ v) = (own_reverse (cmp x x) (total.antisymm x x), itself v)
 
-  pub differs : (front v w : List A) (x y : A) → cmp x y ≢ Equal → slice_cmp cmp (front ++ x ∷ v) (front ++ y ∷ w) ≡ cmp x y
+  pub differs : (front v w : List A) (x y : A) → cmp x y ≢ Equal
+      → slice_cmp cmp (front ++ x ∷ v) (front ++ y ∷ w) ≡ cmp x y
   differs front v w x y = ties_differ cmp front front v w x y (itself front)
 
   pub shorter : (front w : List A) (y : A) → slice_cmp cmp front (front ++ y ∷ w) ≡ Less

@@ -1,24 +1,32 @@
 -- What `retain_mut` and `dedup_by` keep.
-use Rattle.std.proofs.Common.{◌≡◌, ◌<◌, Bool, true, false, cond, List, [], ◌∷◌, ◌++◌, length, map, refl, ap, subst, ◌∙◌, arith}
+use Rattle.std.proofs.Common.{◌≡◌, ◌<◌, Bool, true, false, cond, List, [], ◌∷◌, ◌++◌, length, map}
+use Rattle.std.proofs.Common.{refl, ap, subst, ◌∙◌, arith}
 use Rattle.std.specs.List.{filter, dedup, dedup_from}
 use Rattle.std.specs.List.Retain.{RetainsInTurn, DedupsFrom, IsDeduped}
 use Rattle.std.specs.Fn.{CalledAtMut, ComparesKeys}
 use Rattle.std.specs.Borrow.{MutBor}
 use denote.Param.Members.{Mut}
-use Rattle.ne_vec.specs.Divisions.{by_first, firsts}
+use Rattle.ne_vec.specs.Divisions.{by_first, firsts, runs_from}
 use Rattle.ne_vec.specs.Kept.{KeepsFirsts, ActsAsAtMut}
-use Rattle.ne_vec.proofs.Divisions.{cut, divides}
+use Rattle.ne_vec.proofs.Divisions.{divides}
 
 -- ---- `retain_mut`, by a test that is a function of the item
 
-module _ {S A : Type 0} (R : S → A → Bool → S → A → Type 0) (keeps : A → Bool) (writes : A → A) (s : S) (pure : (x : A) (b : Bool) (t : S) (y : A) → R s x b t y → (t ≡ s) × (b ≡ keeps x) × (y ≡ writes x)) where
-  pub retains_filtered : (xs ys : List A) → RetainsInTurn R s xs ys → ys ≡ map writes (filter keeps xs)
+module _ {S A : Type 0} (R : S → A → Bool → S → A → Type 0) (keeps : A → Bool) (writes : A → A)
+    (s : S) (pure : (x : A) (b : Bool) (t : S) (y : A) → R s x b t y → (t ≡ s) × (b ≡ keeps x)
+    × (y ≡ writes x)) where
+  pub retains_filtered : (xs ys : List A) → RetainsInTurn R s xs ys
+      → ys ≡ map writes (filter keeps xs)
   retains_filtered [] ys r = r
   retains_filtered (x ∷ xs) ys (b, t, y, called, zs, rest, is) =
       let p = pure x b t y called in
-      let kept : zs ≡ map writes (filter keeps xs) = retains_filtered xs zs (subst (λ v. RetainsInTurn R v xs zs) p.0 rest) in
-      let one : ys ≡ cond (keeps x) (writes x ∷ map writes (filter keeps xs)) (map writes (filter keeps xs)) = rw (is, p.1, p.2, kept) refl in
-      one ∙ elim (keeps x) as (λ v. cond v (writes x ∷ map writes (filter keeps xs)) (map writes (filter keeps xs)) ≡ map writes (cond v (x ∷ filter keeps xs) (filter keeps xs))) [ true ↦ refl | false ↦ refl ]
+      let kept : zs ≡ map writes (filter keeps xs) = retains_filtered xs zs
+      (subst (λ v. RetainsInTurn R v xs zs) p.0 rest) in
+      let one : ys ≡ cond (keeps x) (writes x ∷ map writes (filter keeps xs))
+      (map writes (filter keeps xs)) = rw (is, p.1, p.2, kept) refl in
+      one ∙ elim (keeps x) as (λ v. cond v (writes x ∷ map writes (filter keeps xs))
+      (map writes (filter keeps xs)) ≡ map writes
+      (cond v (x ∷ filter keeps xs) (filter keeps xs))) [ true ↦ refl | false ↦ refl ]
 
 -- ---- `dedup_by`, by any test
 
@@ -39,10 +47,13 @@ module _ {A : Type 0} (same : A → A → Bool) where
   abbrev goes_on : List A → A → Bool
   goes_on = by_first (λ kept later. same later kept)
 
-  firsts_from : (xs : List A) (k : A) (run : List A) → dedup_from same k xs ≡ firsts (cut goes_on (k ∷ run) xs)
+  firsts_from : (xs : List A) (k : A) (run : List A)
+      → dedup_from same k xs ≡ firsts (runs_from goes_on (k ∷ run) xs)
   firsts_from [] k run = refl
   firsts_from (x ∷ xs) k run =
-      elim (same x k) as (λ b. cond b (dedup_from same k xs) (k ∷ dedup_from same x xs) ≡ firsts (cond b (cut goes_on (k ∷ (run ++ x ∷ [])) xs) ((k ∷ run) ∷ cut goes_on (x ∷ []) xs))) [
+      elim (same x k) as (λ b. cond b (dedup_from same k xs) (k ∷ dedup_from same x xs)
+      ≡ firsts (cond b (runs_from goes_on (k ∷ (run ++ x ∷ [])) xs)
+      ((k ∷ run) ∷ runs_from goes_on (x ∷ []) xs))) [
         | true ↦ firsts_from xs k (run ++ x ∷ [])
         | false ↦ ap (λ l. k ∷ l) (firsts_from xs x [])
       ]
@@ -50,20 +61,33 @@ module _ {A : Type 0} (same : A → A → Bool) where
   -- what `dedup` leaves are the first items of the runs
   pub keeps_firsts : (xs ys : List A) → ys ≡ dedup same xs → KeepsFirsts same xs ys
   keeps_firsts [] ys e = ([], divides goes_on [], e)
-  keeps_firsts (x ∷ xs) ys e = (cut goes_on (x ∷ []) xs, divides goes_on (x ∷ xs), e ∙ firsts_from xs x [])
+  keeps_firsts (x ∷ xs) ys e = (
+    runs_from goes_on (x ∷ []) xs,
+    divides goes_on (x ∷ xs),
+    e ∙ firsts_from xs x [],
+  )
 
   kept_from : (xs : List A) (k : A) → 0 < length (dedup_from same k xs)
   kept_from [] k = Prim.omega arith
-  kept_from (x ∷ xs) k = elim (same x k) as (λ b. 0 < length (cond b (dedup_from same k xs) (k ∷ dedup_from same x xs))) [ true ↦ kept_from xs k | false ↦ Prim.omega arith ]
+  kept_from (x ∷ xs) k = elim (same x k) as (λ b.
+      0 < length (cond b (dedup_from same k xs) (k ∷ dedup_from same x xs)))
+      [ true ↦ kept_from xs k | false ↦ Prim.omega arith ]
 
   pub some_kept : (xs ys : List A) → ys ≡ dedup same xs → 0 < length xs → 0 < length ys
   some_kept [] ys e some = absurd (Prim.omega (arith, some))
   some_kept (x ∷ xs) ys e some = rw e (kept_from xs x)
 
 -- a comparison by keys, where the key is a function of the item
-pub compares : {F X K : Type 0} (g : Mut F (MutBor X × Unit {0}) (K × (MutBor X × Unit {0}))) (eq : K → K → Bool) (read : X → K) (f : F) → ActsAsAtMut g f read (λ x. x)
-    → (x y : X) (b : Bool) (f' : F) (x' y' : X) → ComparesKeys g eq f x y b f' x' y' → (b ≡ eq (read x) (read y)) × (f' ≡ f) × (x' ≡ x) × (y' ≡ y)
+pub compares : {F X K : Type 0} (g : Mut F (MutBor X × Unit {0}) (K × (MutBor X × Unit {0})))
+    (eq : K → K → Bool) (read : X → K) (f : F) → ActsAsAtMut g f read (λ x. x)
+    → (x y : X) (b : Bool) (f' : F) (x' y' : X) → ComparesKeys g eq f x y b f' x' y'
+    → (b ≡ eq (read x) (read y)) × (f' ≡ f) × (x' ≡ x) × (y' ≡ y)
 compares g eq read f pure x y b f' x' y' c =
     let first = pure x c.key c.between x' c.first in
-    let second = pure y c.other f' y' (subst (λ s. CalledAtMut g s y c.other f' y') first.0 c.second) in
-    (c.compared ∙ ap (λ k. eq k c.other) first.1 ∙ ap (eq (read x)) second.1, second.0, first.2, second.2)
+    let second = pure y c.other f' y' (subst (λ s. CalledAtMut g s y c.other f' y') first.0
+    c.second) in (
+      c.compared ∙ ap (λ k. eq k c.other) first.1 ∙ ap (eq (read x)) second.1,
+      second.0,
+      first.2,
+      second.2,
+    )

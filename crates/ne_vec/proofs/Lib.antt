@@ -8,3 +8,4 @@ pub mod Compared
 pub mod MappedRuns
 pub mod FirstRuns
 pub mod RunFronts
+pub mod PartLists

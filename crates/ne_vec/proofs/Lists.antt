@@ -1,7 +1,8 @@
 -- Facts about how lists begin.
 use Rattle.std.proofs.Common.{◌≡◌, List, [], ◌∷◌, ◌++◌}
 
-pub nil_is_no_append : {A : Type 0} (front : List A) (y : A) (back : List A) → [] ≡ front ++ y ∷ back → ⊥
+pub nil_is_no_append : {A : Type 0} (front : List A) (y : A) (back : List A)
+    → [] ≡ front ++ y ∷ back → ⊥
 nil_is_no_append [] y back e = cc
 nil_is_no_append (f ∷ front) y back e = cc
 

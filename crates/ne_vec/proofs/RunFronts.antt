@@ -14,31 +14,32 @@ pub run_drains : {S A : Type 0} (steps : S → Option A → S → Type 0) (p : R
     → p.from ≡ it → DrainsIf steps (p.whole ≡ true) it p.items
 run_drains steps p it from = subst (λ s. DrainsIf steps (p.whole ≡ true) s p.items) from (took p)
 
-module _ {U S A : Type 0} (becomes : U → S → Type 0) (steps : S → Option A → S → Type 0) (u : U) where
-  pub gives_shown : {B : Type 0} (view : A → B) (xs : List B)
-      → Shows becomes steps view u xs → GivesShown becomes steps view u xs
-  unfolding Shows
-  gives_shown view xs shows = (
-    (marked u xs, view_marked view u xs, shows),
-    λ it made p seen from.
-        let f = shows it made p.whole p.items (run_drains steps p it from) in
-        let l = lists p view xs f.0 (λ w. ap length (f.2 w)) f.1 in
-        (l.0, l.1, l.6),
-  )
+module _ {U S A : Type 0} (becomes : U → S → Type 0) (steps : S → Option A → S → Type 0) (u : U)
+  where
+    pub gives_shown : {B : Type 0} (view : A → B) (xs : List B)
+        → Shows becomes steps view u xs → GivesShown becomes steps view u xs
+    unfolding Shows
+    gives_shown view xs shows = (
+      (marked u xs, view_marked view u xs, shows),
+      λ it made p seen from.
+          let f = shows it made p.whole p.items (run_drains steps p it from) in
+          let l = lists p view xs f.0 (λ w. ap length (f.2 w)) f.1 in
+          (l.0, l.1, l.6),
+    )
 
-  pub gives_items : (xs : List A) → Lists becomes steps u xs → GivesItems becomes steps u xs
-  unfolding Lists
-  gives_items xs gives = (
-    (marked u xs, gives),
-    λ it made p seen from.
-        let f = gives it made p.whole p.items (run_drains steps p it from) in
-        let e = subst (λ l. xs ≡ l ++ f.0) (sym (map-id p.items)) f.1 in
-        let l = as_is p xs (lists p (λ x. x) xs f.0 (λ w. ap length (f.2 w)) e) in (
-          l.0,
-          l.4,
-          l.5,
-          λ k m.
-              at-is p k ∙ sym (nth_left p.items f.0 k (omega (arith, m, p.long)))
-              ∙ ap (λ l. slice_get l k) (sym f.1),
-        ),
-  )
+    pub gives_items : (xs : List A) → Lists becomes steps u xs → GivesItems becomes steps u xs
+    unfolding Lists
+    gives_items xs gives = (
+      (marked u xs, gives),
+      λ it made p seen from.
+          let f = gives it made p.whole p.items (run_drains steps p it from) in
+          let e = subst (λ l. xs ≡ l ++ f.0) (sym (map-id p.items)) f.1 in
+          let l = as_is p xs (lists p (λ x. x) xs f.0 (λ w. ap length (f.2 w)) e) in (
+            l.0,
+            l.4,
+            l.5,
+            λ k m.
+                at-is p k ∙ sym (nth_left p.items f.0 k (omega (arith, m, p.long)))
+                ∙ ap (λ l. slice_get l k) (sym f.1),
+          ),
+    )

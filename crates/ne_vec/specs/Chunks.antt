@@ -1,8 +1,10 @@
 -- The chunks of a list: parts of n items each, the last of which may be shorter.
-use Rattle.std.specs.Prelude.{ℕ, ◌*◌, List, map, length, take, drop}
+use Rattle.std.specs.Prelude.{◌≡◌, ℕ, ◌*◌, ◌<◌, List, map, length, take, drop}
+use Rattle.std.specs.Iterator.{YieldsFirst}
 use Rattle.std.specs.List.{range_with_len}
 use Rattle.std.specs.Slice.Iter.{chunk_count, chunks_rest, chunks_size}
 use Rattle.std.specs.declared.slice.Chunks.{Chunks}
+use Rattle.ne_vec.specs.Fronts.{Listed}
 
 -- chunk j: the items from place j * n up to place (j + 1) * n, or up to the end
 abbrev pub chunk : {X : Type 0} → ℕ → List X → ℕ → List X
@@ -15,3 +17,8 @@ chunks n xs = map (chunk n xs) (range_with_len 0 (chunk_count (length xs) n))
 -- the chunks that std's iterator has left
 abbrev pub chunks_left : {X : Type 0} → Chunks X → List (List X)
 chunks_left it = chunks (chunks_size it) (chunks_rest it)
+
+-- The source c of chunks gives those of parts.
+abbrev pub ChunksGive : {X : Type 0} → List (List X) → List (List X) → Type 0
+ChunksGive c parts =
+    Listed (λ c it. (0 < length c) × (it ≡ c)) (YieldsFirst (λ left. left)) c parts

@@ -1,5 +1,5 @@
 -- The division of a list into runs, as a relation over whole lists.
-use Rattle.std.specs.Prelude.{◌≡◌, ◌≢◌, ⊤, Bool, true, false, List, [], ◌∷◌, ◌++◌}
+use Rattle.std.specs.Prelude.{◌≡◌, ◌≢◌, ⊤, Bool, true, false, cond, List, [], ◌∷◌, ◌++◌}
 use Rattle.std.specs.List.{AllByRecursion}
 
 -- the lists, one after another
@@ -28,7 +28,8 @@ module _ {A : Type 0} (goes_on : List A → A → Bool) where
   -- r has an item, and each later item goes on the part of r before it
   pub record IsRun (r : List A) : Type 0 where
     pub some : r ≢ []
-    pub inside : (front : List A) (x : A) (back : List A) → front ≢ [] → r ≡ front ++ x ∷ back → goes_on front x ≡ true
+    pub inside : (front : List A) (x : A) (back : List A) → front ≢ [] → r ≡ front ++ x ∷ back
+        → goes_on front x ≡ true
 
   -- the first item of s doesn't go on r
   abbrev pub Breaks : List A → List A → Type 0
@@ -46,3 +47,17 @@ abbrev pub firsts : {A : Type 0} → List (List A) → List A
 firsts [] = []
 firsts ([] ∷ rs) = firsts rs
 firsts ((x ∷ r) ∷ rs) = x ∷ firsts rs
+
+module _ {A : Type 0} (goes_on : List A → A → Bool) where
+  -- the runs of r ++ xs, where r is a front of the first
+  abbrev pub runs_from : List A → List A → List (List A)
+  runs_from r [] = r ∷ []
+  runs_from r (x ∷ xs) =
+      cond (goes_on r x) (runs_from (r ++ x ∷ []) xs) (r ∷ runs_from (x ∷ []) xs)
+
+module _ {A : Type 0} (place : (A → A → Bool) → List A → A → Bool) (same : A → A → Bool) where
+  -- The runs of xs, as the test `same` divides it: its one division. `place` is `by_first` or
+  -- `by_previous`.
+  abbrev pub runs_of : List A → List (List A)
+  runs_of [] = []
+  runs_of (x ∷ xs) = runs_from (place same) (x ∷ []) xs

@@ -1,5 +1,6 @@
 -- The list that a source gives from its first item to its last.
-use Rattle.std.specs.Prelude.{◌≡◌, ◌≤◌, ◌<◌, ℕ, Bool, slice_get, true, List, [], ◌++◌, map, length, Option}
+use Rattle.std.specs.Prelude.{◌≡◌, ◌≤◌, ◌<◌, ℕ, Bool, slice_get, true, List, [], ◌++◌, map, length}
+use Rattle.std.specs.Prelude.{Option}
 use Rattle.std.specs.List.{fold}
 use Rattle.std.specs.Iterator.{DrainsIf}
 use Rattle.std.specs.Iterator.Runs.{EachRunFrom}
@@ -37,8 +38,8 @@ module _ {U S A : Type 0} (becomes : U → S → Type 0) (steps : S → Option A
 
 module _ {S A : Type 0} (steps : S → Option A → S → Type 0) where
   -- What `grind` is told of each run of an iterator that gives the items of xs: how many came, all
-  -- of them if it is whole, that a fold which never falls is at most the one over xs, and which item
-  -- stands at a place.
+  -- of them if it is whole, that a fold which never falls is at most the one over xs, and which
+  -- item stands at a place.
   abbrev pub GivesFronts : List A → S → Type 0
   GivesFronts xs it = EachRunFrom steps it (λ p.
       (p.len ≤ length xs) × (p.whole ≡ true → p.items ≡ xs)

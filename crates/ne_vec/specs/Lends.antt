@@ -26,4 +26,5 @@ module _ (T : RattleType) (v : MutBor (List T.Denot)) where
 
   -- the items are those that the walk left, as many as they were
   abbrev pub LendsWalk : StdIterMut T.Denot → Fml
-  LendsWalk it = follows (the_row T) (Array T 0) v.ghost_name (iter_mut_name it) (refill (length v.now) v.now)
+  LendsWalk it = follows (the_row T) (Array T 0) v.ghost_name (iter_mut_name it)
+      (refill (length v.now) v.now)

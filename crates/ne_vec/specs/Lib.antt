@@ -1,6 +1,7 @@
 pub mod Divisions
 pub mod SliceRuns
 pub mod Kept
+pub mod Taken
 pub mod Calls
 pub mod Chunks
 pub mod Fronts

@@ -1,8 +1,10 @@
 -- The runs of a slice, taken one after another from its front, as a closure compares the items.
-use Rattle.std.specs.Prelude.{◌≡◌, ◌≢◌, ℕ, Bool, List, [], ◌++◌, take, drop, Option, MatchOption}
+use Rattle.std.specs.Prelude.{◌≡◌, ◌≢◌, ℕ, ◌<◌, length, Bool, List, [], ◌++◌, take, drop, Option}
+use Rattle.std.specs.Prelude.{MatchOption}
 use Rattle.std.specs.Borrow.{Bor}
 use Rattle.std.specs.Fn.{Shared, FnReturnsAtPair}
-use Rattle.ne_vec.specs.Divisions.{IsRun, Breaks}
+use Rattle.ne_vec.specs.Divisions.{IsRun, Breaks, runs_of}
+use Rattle.ne_vec.specs.Fronts.{Listed}
 
 -- the first n items of xs are its first run
 abbrev pub IsFirstRun : {A : Type 0} → (List A → A → Bool) → List A → ℕ → Type 0
@@ -29,3 +31,10 @@ module _ {A F : Type 0} (calls : Shared F (Bor A × (Bor A × Unit {0})) Bool) w
       (λ run. (s.left ≡ run ++ t.left) × (run ≢ [])
       × ((same : A → A → Bool) → ActsAsAtPair s.closure same
       → IsRun (place same) run × Breaks (place same) run t.left))
+
+  -- The source s of runs gives those of xs, if its closure f acts as a test of two items.
+  abbrev pub RunsGive : ((A → A → Bool) → List A → A → Bool)
+      → F → Cutting A F → List A → Type 0
+  RunsGive place f s xs = (same : A → A → Bool) → ActsAsAtPair f same
+      → (runs_of place same xs ≡ runs_of place same xs)
+      × Listed (λ s it. (0 < length s.left) × (it ≡ s)) (CutsRun place) s (runs_of place same xs)

@@ -1,5 +1,6 @@
 //! Laws on what the contracts cite. Each is the contract of a function that does nothing.
-ghost use Rattle.std.specs.Prelude.{◌≡◌, ◌≢◌, ◌<◌, ◌≤◌, ◌↔◌, ◌*◌, ℕ, Bool, true, false, List, [], ◌∷◌, ◌++◌, length, map, take, drop, slice_get, Some};
+ghost use Rattle.std.specs.Prelude.{◌≡◌, ◌≢◌, ◌<◌, ◌≤◌, ◌↔◌, ◌*◌, ℕ, Bool, true, false, List, []};
+ghost use Rattle.std.specs.Prelude.{◌∷◌, ◌++◌, length, map, take, drop, slice_get, Some};
 ghost use Rattle.std.specs.List.{AllByRecursion, AllZip};
 ghost use Rattle.std.specs.Cmp.{IsPartialEquivalence};
 ghost use Rattle.std.specs.Cmp.Lexicographic.{pointwise, slice_cmp, slice_partial_cmp};
@@ -16,30 +17,41 @@ use std::hash::Hash;
 
 /// Each list has exactly one division into runs, whatever tells which items go on a run.
 pub fn has_one_division<T>()
-    ensures exists { (goes_on : List T → T → Bool) (xs : List T) → (rs : List (List T)) × IsDivision goes_on xs rs }
-    ensures unique { (goes_on : List T → T → Bool) (xs : List T) (rs others : List (List T)) → IsDivision goes_on xs rs → IsDivision goes_on xs others → rs ≡ others }
+    ensures exists { (goes_on : List T → T → Bool) (xs : List T) → (rs : List (List T))
+        × IsDivision goes_on xs rs }
+    ensures unique { (goes_on : List T → T → Bool) (xs : List T) (rs others : List (List T))
+        → IsDivision goes_on xs rs → IsDivision goes_on xs others → rs ≡ others }
 {}
 
 /// The runs of a list, all but its last, are the first runs of each longer list.
 pub fn longer_list_keeps_runs<T>()
-    ensures { (goes_on : List T → T → Bool) (xs more : List T) (rs all : List (List T)) (last : List T) → IsDivision goes_on xs (rs ++ last ∷ []) → IsDivision goes_on (xs ++ more) all → (rest : List (List T)) × (all ≡ rs ++ rest) }
+    ensures { (goes_on : List T → T → Bool) (xs more : List T) (rs all : List (List T))
+        (last : List T) → IsDivision goes_on xs (rs ++ last ∷ [])
+        → IsDivision goes_on (xs ++ more) all → (rest : List (List T)) × (all ≡ rs ++ rest) }
 {}
 
 /// One item more goes on the last run, or begins a run of its own.
 pub fn one_item_more<T>()
-    ensures goes_on { (goes_on : List T → T → Bool) (xs : List T) (x : T) (rs : List (List T)) (last : List T) → IsDivision goes_on xs (rs ++ last ∷ []) → goes_on last x ≡ true → IsDivision goes_on (xs ++ x ∷ []) (rs ++ (last ++ x ∷ []) ∷ []) }
-    ensures breaks { (goes_on : List T → T → Bool) (xs : List T) (x : T) (rs : List (List T)) (last : List T) → IsDivision goes_on xs (rs ++ last ∷ []) → goes_on last x ≡ false → IsDivision goes_on (xs ++ x ∷ []) ((rs ++ last ∷ []) ++ (x ∷ []) ∷ []) }
+    ensures goes_on { (goes_on : List T → T → Bool) (xs : List T) (x : T) (rs : List (List T))
+        (last : List T) → IsDivision goes_on xs (rs ++ last ∷ []) → goes_on last x ≡ true
+        → IsDivision goes_on (xs ++ x ∷ []) (rs ++ (last ++ x ∷ []) ∷ []) }
+    ensures breaks { (goes_on : List T → T → Bool) (xs : List T) (x : T) (rs : List (List T))
+        (last : List T) → IsDivision goes_on xs (rs ++ last ∷ []) → goes_on last x ≡ false
+        → IsDivision goes_on (xs ++ x ∷ []) ((rs ++ last ∷ []) ++ (x ∷ []) ∷ []) }
 {}
 
-/// Under a symmetric and transitive relation it is all one whether an item is compared with its run's first item or with the item
-/// before it.
+/// Under a symmetric and transitive relation it is all one whether an item is compared with its
+/// run's first item or with the item before it.
 pub fn first_and_previous_agree<T>()
-    ensures { (same : T → T → Bool) (xs : List T) (rs : List (List T)) → IsPartialEquivalence same → (IsDivision (by_first same) xs rs ↔ IsDivision (by_previous same) xs rs) }
+    ensures { (same : T → T → Bool) (xs : List T) (rs : List (List T)) → IsPartialEquivalence same
+        → (IsDivision (by_first same) xs rs ↔ IsDivision (by_previous same) xs rs) }
 {}
 
 /// A symmetric relation and its converse have the same division.
 pub fn converse_has_the_same_division<T>()
-    ensures { (same : T → T → Bool) (xs : List T) (rs : List (List T)) → ((x y : T) → same x y ≡ same y x) → IsDivision (by_first same) xs rs → IsDivision (by_first (λ x y. same y x)) xs rs }
+    ensures { (same : T → T → Bool) (xs : List T) (rs : List (List T))
+        → ((x y : T) → same x y ≡ same y x) → IsDivision (by_first same) xs rs
+        → IsDivision (by_first (λ x y. same y x)) xs rs }
 {}
 
 /// Under a key that is a function of the item alone, and leaves the item as it is, the items that
@@ -55,19 +67,28 @@ pub fn dedup_by_key_keeps_the_first_items<T, K: PartialEq>()
     converse_has_the_same_division::<T>();
 }
 
-/// Where a mapped item goes on a mapped run as the item goes on the run, the runs of the mapped list are the mapped runs.
+/// Where a mapped item goes on a mapped run as the item goes on the run, the runs of the mapped
+/// list are the mapped runs.
 pub fn mapped_list_has_the_mapped_runs<T, U>()
-    ensures { (f : T → U) (goes_on : List T → T → Bool) (mapped_on : List U → U → Bool) (xs : List T) (rs : List (List T)) → ((r : List T) (x : T) → mapped_on (map f r) (f x) ≡ goes_on r x) → IsDivision goes_on xs rs → IsDivision mapped_on (map f xs) (map (map f) rs) }
+    ensures { (f : T → U) (goes_on : List T → T → Bool) (mapped_on : List U → U → Bool)
+        (xs : List T) (rs : List (List T)) → ((r : List T) (x : T)
+        → mapped_on (map f r) (f x) ≡ goes_on r x) → IsDivision goes_on xs rs
+        → IsDivision mapped_on (map f xs) (map (map f) rs) }
 {}
 
-/// There is a chunk j for each j at which the list has an item left, and it is the items from place j times the size on, as many as
-/// the size. One after another the chunks are the list; each but the last has the size that was asked for, and the last has at least
-/// one item and at most that size.
+/// There is a chunk j for each j at which the list has an item left, and it is the items from place
+/// j times the size on, as many as the size. One after another the chunks are the list; each but
+/// the last has the size that was asked for, and the last has at least one item and at most that
+/// size.
 pub fn chunks_make_the_whole<T>()
-    ensures count { (size : ℕ) (xs : List T) (j : ℕ) → 0 < size → ((j < length (chunks size xs)) ↔ (j * size < length xs)) }
-    ensures each { (size : ℕ) (xs : List T) (j : ℕ) → j < length (chunks size xs) → slice_get (chunks size xs) j ≡ Some (take size (drop (j * size) xs)) }
+    ensures count { (size : ℕ) (xs : List T) (j : ℕ) → 0 < size
+        → ((j < length (chunks size xs)) ↔ (j * size < length xs)) }
+    ensures each { (size : ℕ) (xs : List T) (j : ℕ) → j < length (chunks size xs)
+        → slice_get (chunks size xs) j ≡ Some (take size (drop (j * size) xs)) }
     ensures whole { (size : ℕ) (xs : List T) → 0 < size → joined (chunks size xs) ≡ xs }
-    ensures sizes { (size : ℕ) (xs : List T) (front : List (List T)) (last : List T) → 0 < size → chunks size xs ≡ front ++ last ∷ [] → AllByRecursion (λ c. length c ≡ size) front × (0 < length last) × (length last ≤ size) }
+    ensures sizes { (size : ℕ) (xs : List T) (front : List (List T)) (last : List T) → 0 < size
+        → chunks size xs ≡ front ++ last ∷ [] → AllByRecursion (λ c. length c ≡ size) front
+        × (0 < length last) × (length last ≤ size) }
 {}
 
 /// Vectors compare as their lists do, item by item, and equal ones are hashed alike.
@@ -76,7 +97,8 @@ pub fn vectors_compare_as_lists<T: Ord + Hash>()
     ensures ordered { (v w : List T) → ⟦<NEVec<T> as Ord>⟧.cmp v w ≡ slice_cmp T.cmp v w }
     ensures partly_ordered { (v w : List T)
         → ⟦<NEVec<T> as PartialOrd>⟧.partial_cmp v w ≡ slice_partial_cmp T.partial_cmp v w }
-    ensures hashed { (v w : List T) → ⟦<NEVec<T> as PartialEq>⟧.eq v w ≡ true → ⟦<NEVec<T> as Hash>⟧.hash_input v ≡ ⟦<NEVec<T> as Hash>⟧.hash_input w }
+    ensures hashed { (v w : List T) → ⟦<NEVec<T> as PartialEq>⟧.eq v w ≡ true
+        → ⟦<NEVec<T> as Hash>⟧.hash_input v ≡ ⟦<NEVec<T> as Hash>⟧.hash_input w }
 {}
 
 /// And so do slices.
@@ -85,13 +107,15 @@ pub fn slices_compare_as_lists<'a, T: Ord + Hash + 'a>()
     ensures ordered { (v w : List T) → ⟦<NESlice<'a, T> as Ord>⟧.cmp v w ≡ slice_cmp T.cmp v w }
     ensures partly_ordered { (v w : List T)
         → ⟦<NESlice<'a, T> as PartialOrd>⟧.partial_cmp v w ≡ slice_partial_cmp T.partial_cmp v w }
-    ensures hashed { (v w : List T) → ⟦<NESlice<'a, T> as PartialEq>⟧.eq v w ≡ true → ⟦<NESlice<'a, T> as Hash>⟧.hash_input v ≡ ⟦<NESlice<'a, T> as Hash>⟧.hash_input w }
+    ensures hashed { (v w : List T) → ⟦<NESlice<'a, T> as PartialEq>⟧.eq v w ≡ true
+        → ⟦<NESlice<'a, T> as Hash>⟧.hash_input v ≡ ⟦<NESlice<'a, T> as Hash>⟧.hash_input w }
 {}
 
-/// The order of lists is the lexicographic one: the first place at which they differ decides, and where one is the front of the
-/// other, the shorter is less.
+/// The order of lists is the lexicographic one: the first place at which they differ decides, and
+/// where one is the front of the other, the shorter is less.
 pub fn lists_are_in_lexicographic_order<T: Ord>()
-    ensures differs { (front v w : List T) (x y : T) → T.cmp x y ≢ Equal → slice_cmp T.cmp (front ++ x ∷ v) (front ++ y ∷ w) ≡ T.cmp x y }
+    ensures differs { (front v w : List T) (x y : T) → T.cmp x y ≢ Equal
+        → slice_cmp T.cmp (front ++ x ∷ v) (front ++ y ∷ w) ≡ T.cmp x y }
     ensures shorter { (front w : List T) (y : T) → slice_cmp T.cmp front (front ++ y ∷ w) ≡ Less }
     ensures longer { (front v : List T) (x : T)
         → slice_cmp T.cmp (front ++ x ∷ v) front ≡ Greater }

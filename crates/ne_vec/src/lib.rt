@@ -1,9 +1,10 @@
 //! Vectors and slices that hold at least one item.
 //!
-//! This is the part of the port of `nonempty-collections` that the other crates stand on. Its modules and the items in them have
-//! the Rust crate's names.
+//! This is the part of the port of `nonempty-collections` that the other crates stand on. Its
+//! modules and the items in them have the Rust crate's names.
 //!
-//! A contract sees an [`NEVec`] and an [`NESlice`] as the list of their items. That the list has an item is the types' invariant.
+//! A contract sees an [`NEVec`] and an [`NESlice`] as the list of their items. That the list has an
+//! item is the types' invariant.
 #![tactic(auto)]
 
 pub mod laws;
@@ -37,9 +38,10 @@ impl fmt::Display for Error {
 
 /// A collection that can be made of one item, and that takes further items one at a time.
 ///
-/// `collected xs c` says that `c` is what the items `xs` make, in this order: of a vector, that it is this list. The clauses of the
-/// two calls are the law that each implementation proves of its own `collected`. In the Rust crate the trait has no `extend_one`,
-/// and what wants to add items asks for `Extend` besides.
+/// `collected xs c` says that `c` is what the items `xs` make, in this order: of a vector, that it
+/// is this list. The clauses of the two calls are the law that each implementation proves of its
+/// own `collected`. In the Rust crate the trait has no `extend_one`, and what wants to add items
+/// asks for `Extend` besides.
 pub trait Singleton: Sized {
     /// What it holds: of a map, pairs of a key and a value.
     type Item;
@@ -54,8 +56,10 @@ pub trait Singleton: Sized {
 
     /// Adds an item: `push` on a vector, `insert` on a set or a map.
     ///
-    /// `AllocError` where the collection has to grow and there is no memory for it; it is then as it was, and the item is dropped.
+    /// `AllocError` where the collection has to grow and there is no memory for it; it is then as
+    /// it was, and the item is dropped.
     fn extend_one(&mut self, item: Self::Item) -> Result<(), AllocError>
-        ensures added { OnOk result ((xs : List Self.Item) → collected xs self.old → collected (xs ++ item ∷ []) self.new) }
+        ensures added { OnOk result ((xs : List Self.Item) → collected xs self.old
+            → collected (xs ++ item ∷ []) self.new) }
         ensures unchanged { OnErr result (self.new ≡ self.old) };
 }

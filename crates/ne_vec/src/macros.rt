@@ -1,11 +1,13 @@
 //! The macro [`nev!`](crate::nev).
 
-/// The vector of the items that are written out, as `nev![alloc; 1, 2, 3]`, or of an item repeated, as `nev![alloc; 0; 7]`.
+/// The vector of the items that are written out, as `nev![alloc; 1, 2, 3]`, or of an item repeated,
+/// as `nev![alloc; 0; 7]`.
 ///
-/// Either is a `Result`: `AllocError` where there is no memory for the items, which are then dropped. The expressions are evaluated
-/// from left to right, the allocator first, and none after a refusal. They hold no `return`, `break` or `?`. How often an item is
-/// repeated is a `usize`, on the condition that it is not 0; in the Rust crate it is a constant. Without an item the macro does not
-/// compile.
+/// Either is a `Result`: `AllocError` where there is no memory for the items, which are then
+/// dropped. The expressions are evaluated from left to right, the allocator first, and none after a
+/// refusal. They hold no `return`, `break` or `?`. How often an item is repeated is a `usize`, on
+/// the condition that it is not 0; in the Rust crate it is a constant. Without an item the macro
+/// does not compile.
 ///
 /// ```
 /// let three = nev![alloc; 1, 2, 3]?;

@@ -3,7 +3,9 @@ ghost use Rattle.std.specs.Prelude.{◌≡◌, ◌-◌, ◌<◌, ◌≤◌, ◌�
 ghost use Rattle.std.specs.Prelude.{slice_get, ⊤};
 ghost use Rattle.std.specs.NonZero.{non_zero_usize_get};
 ghost use Rattle.std.specs.Iterator.{YieldsFirst, item_count, IsFiniteIterable};
-ghost use Rattle.std.specs.Cmp.Lexicographic.{pointwise, slice_cmp, slice_partial_cmp, lists_equiv, lists_agrees, lists_total, lists_ties, lists_po, lists_per};
+ghost use Rattle.std.specs.Cmp.Lexicographic.{pointwise, slice_cmp, slice_partial_cmp, lists_equiv};
+ghost use Rattle.std.specs.Cmp.Lexicographic.{lists_agrees, lists_total, lists_ties, lists_po};
+ghost use Rattle.std.specs.Cmp.Lexicographic.{lists_per};
 ghost use Rattle.std.specs.Hash as fed;
 ghost use Rattle.std.specs.Hash.{items_Alike};
 
@@ -41,7 +43,9 @@ impl<'a, T> Model for NESlice<'a, T> {
 impl<'a, T> NESlice<'a, T> {
     ghost use Rattle.ne_vec.specs.Walks.{Walks};
     ghost use Rattle.ne_vec.specs.WalkFronts.{WalkShows};
-    ghost use Rattle.ne_vec.specs.Chunks.{chunks};
+    ghost use Rattle.ne_vec.specs.Chunks.{chunks, ChunksGive};
+    ghost use Rattle.ne_vec.specs.Divisions.{by_first, by_previous};
+    ghost use Rattle.ne_vec.specs.SliceRuns.{RunsGive};
 
     /// The first item.
     pub fn first(&self) -> &T
@@ -102,10 +106,11 @@ impl<'a, T> NESlice<'a, T> {
         Iter { inner: self.inner }
     }
 
-    /// The chunks of `chunk_size` items, in order, of which the last may be shorter. They are parts of the slice: nothing is
-    /// copied.
+    /// The chunks of `chunk_size` items, in order, of which the last may be shorter. They are parts
+    /// of the slice: nothing is copied.
     pub fn nonempty_chunks(&'a self, chunk_size: NonZeroUsize) -> NEChunks<'a, T>
-        ensures { result ≡ chunks (non_zero_usize_get chunk_size) self.now }
+        ensures items { result ≡ chunks (non_zero_usize_get chunk_size) self.now }
+        ensures lists { ChunksGive result (chunks (non_zero_usize_get chunk_size) self.now) }
     {
         NEChunks {
             inner: self.inner.chunks(chunk_size.get()),
@@ -130,6 +135,7 @@ impl<'a, T> NESlice<'a, T> {
             → IsFiniteIterable (⟦<SliceRuns<'a, T, F> as IntoIterator>⟧.into_iter_gives)
             (⟦<SliceRunsIter<'a, T, F> as Iterator>⟧.can_next)
             (⟦<SliceRunsIter<'a, T, F> as Iterator>⟧.remaining) result }
+        ensures lists { RunsGive F.Fn by_first same result self.now }
     {
         SliceRuns {
             items: self.inner,
@@ -153,6 +159,7 @@ impl<'a, T> NESlice<'a, T> {
             → IsFiniteIterable (⟦<AdjacentRuns<'a, T, F> as IntoIterator>⟧.into_iter_gives)
             (⟦<AdjacentRunsIter<'a, T, F> as Iterator>⟧.can_next)
             (⟦<AdjacentRunsIter<'a, T, F> as Iterator>⟧.remaining) result }
+        ensures lists { RunsGive F.Fn by_previous same result self.now }
     {
         AdjacentRuns {
             items: self.inner,
@@ -355,7 +362,8 @@ impl<'a, T> IntoIterator for NEChunks<'a, T> {
     }
 }
 
-/// The chunks of a list that are left, one after the other. A contract sees it as the list of these chunks.
+/// The chunks of a list that are left, one after the other. A contract sees it as the list of these
+/// chunks.
 ///
 /// It stands in the place of std's `FilterMap`, which the Rust crate's `into_iter` gives.
 #[derive(Drop)]

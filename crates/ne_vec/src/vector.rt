@@ -1,14 +1,18 @@
 //! [`NEVec`], a vector that is never empty, and the walks over it.
 //!
-//! The calls stand in the Rust crate's order: here those that read and edit, in `order` those that search, sort and draw, in `dedup`
-//! those that drop neighbours, and in `walks` and `traits` what the types implement.
+//! The calls stand in the Rust crate's order: here those that read and edit, in `order` those that
+//! search, sort and draw, in `dedup` those that drop neighbours, and in `walks` and `traits` what
+//! the types implement.
 //!
-//! Where there is no memory the Rust crate's calls end the process. Here a call that takes memory answers `AllocError`, and says what
-//! then stands; constructors are handed the allocator, and a vector keeps its own. What else differs from the Rust crate, a call's
-//! comment says.
-ghost use Rattle.std.specs.Prelude.{◌≡◌, ◌-◌, ◌<◌, ◌≤◌, ◌↔◌, Bool, false, [], ◌∷◌, ◌++◌, map, length, take, drop, reverse, replicate, Some, None, IsSome, IfSome, IfOk, OnOk, OnErr, IsErr, MatchOption, slice_get};
+//! Where there is no memory the Rust crate's calls end the process. Here a call that takes memory
+//! answers `AllocError`, and says what then stands; constructors are handed the allocator, and a
+//! vector keeps its own. What else differs from the Rust crate, a call's comment says.
+ghost use Rattle.std.specs.Prelude.{◌≡◌, ◌-◌, ◌<◌, ◌≤◌, ◌↔◌, Bool, false, [], ◌∷◌, ◌++◌, map};
+ghost use Rattle.std.specs.Prelude.{length, take, drop, reverse, replicate, Some, None, IsSome};
+ghost use Rattle.std.specs.Prelude.{IfSome, IfOk, OnOk, OnErr, IsErr, slice_get};
 ghost use Rattle.std.specs.NonZero.{non_zero_usize_get};
-ghost use Rattle.std.specs.List.{AllZip, AllClonesOf, filter, insert, remove, swap_remove, list_any};
+ghost use Rattle.std.specs.List.{AllZip, AllClonesOf, filter, insert, remove, swap_remove};
+ghost use Rattle.std.specs.List.{list_any};
 ghost use Rattle.std.specs.List.Retain.{IsFiltered, RetainsInTurn};
 ghost use Rattle.std.specs.Fn.{CalledAt, CalledAtMut};
 ghost use Rattle.std.specs.Iterator.{ActsAsAt, IsFiniteIterable, ExtendsWithItems};
@@ -28,8 +32,9 @@ pub use walks::{IntoIter, Iter, IterMut};
 
 /// A vector that holds at least one item.
 ///
-/// It grows at its end like std's `Vec`, in whose place it stands, and what asks for a first or a last item is always answered. A
-/// contract sees it as the list of its items. A call that says nothing of memory takes none.
+/// It grows at its end like std's `Vec`, in whose place it stands, and what asks for a first or a
+/// last item is always answered. A contract sees it as the list of its items. A call that says
+/// nothing of memory takes none.
 ///
 /// ```
 /// let mut words = nev![alloc; "one"]?;
@@ -58,8 +63,9 @@ impl<T> NEVec<T> {
     ghost use Rattle.ne_vec.specs.Lends.{LendsItem, LendsItemIf, LendsItems, LendsWalk, std_walk};
     ghost use Rattle.ne_vec.specs.Walks.{Walks, WalksMut};
     ghost use Rattle.ne_vec.specs.WalkFronts.{WalkShows};
-    ghost use Rattle.ne_vec.specs.Chunks.{chunks};
+    ghost use Rattle.ne_vec.specs.Chunks.{chunks, ChunksGive};
     ghost use Rattle.ne_vec.specs.Kept.{kept_items, ActsAsAtMut};
+    ghost use Rattle.ne_vec.specs.Taken.{TakesUnlessLast};
 
     /// The vector of one item, `head`.
     ///
@@ -76,14 +82,15 @@ impl<T> NEVec<T> {
 
     /// `n` times `elem`: the item itself, and clones of it.
     ///
-    /// `AllocError` where there is no memory for them, or where a clone was refused. That the items are all the same asks that a
-    /// clone equals its original.
+    /// `AllocError` where there is no memory for them, or where a clone was refused. That the items
+    /// are all the same asks that a clone equals its original.
     pub fn from_elem(alloc: Global, elem: T, n: NonZeroUsize) -> Result<Self, AllocError>
     where
         T: Clone + Drop,
         ensures clones { IfOk result (λ v. AllClonesOf T.is_clone elem v) }
         ensures len { IfOk result (λ v. length v ≡ non_zero_usize_get n) }
-        ensures same { IfOk result (λ v. ((y : T) → T.is_clone elem y → y ≡ elem) → v ≡ replicate (non_zero_usize_get n) elem) }
+        ensures same { IfOk result (λ v. ((y : T) → T.is_clone elem y → y ≡ elem)
+            → v ≡ replicate (non_zero_usize_get n) elem) }
     {
         let inner = Vec::from_elem(alloc, elem, n.get())?;
         Ok(NEVec { inner })
@@ -91,7 +98,8 @@ impl<T> NEVec<T> {
 
     /// The vector of one item, `head`, with room for `capacity` items from the start.
     ///
-    /// `AllocError` where there is no memory for them; `head` is then dropped. How much room there is in the end is not promised.
+    /// `AllocError` where there is no memory for them; `head` is then dropped. How much room there
+    /// is in the end is not promised.
     pub fn with_capacity(alloc: Global, capacity: NonZeroUsize, head: T) -> Result<Self, AllocError>
     where
         T: Drop,
@@ -104,8 +112,8 @@ impl<T> NEVec<T> {
 
     /// `head`, and behind it the items of `tail`, whose memory and allocator the vector keeps.
     ///
-    /// `AllocError` where `tail` has to grow and there is no memory for it; all items are then dropped. The Rust crate has
-    /// `From<(T, Vec<T>)>` in its place.
+    /// `AllocError` where `tail` has to grow and there is no memory for it; all items are then
+    /// dropped. The Rust crate has `From<(T, Vec<T>)>` in its place.
     pub fn from_parts(head: T, tail: Vec<T>) -> Result<Self, AllocError>
     where
         T: Drop,
@@ -133,7 +141,8 @@ impl<T> NEVec<T> {
 
     /// Adds `e` at the end.
     ///
-    /// `AllocError` where the vector has to grow and there is no memory for it; the vector is then as it was, and `e` is dropped.
+    /// `AllocError` where the vector has to grow and there is no memory for it; the vector is then
+    /// as it was, and `e` is dropped.
     pub fn push(&mut self, e: T) -> Result<(), AllocError>
     where
         T: Drop,
@@ -144,10 +153,10 @@ impl<T> NEVec<T> {
         Ok(())
     }
 
-    /// Takes the last item out, or answers `None`, exactly where it is the only one: that one stays.
+    /// Takes the last item out, or answers `None`, exactly where it is the only one: that one
+    /// stays.
     pub fn pop(&mut self) -> Option<T>
-        ensures only { (result ≡ None) ↔ (length self.old ≡ 1) }
-        ensures rest { MatchOption result (self.new ≡ self.old) (λ x. self.old ≡ self.new ++ x ∷ []) }
+        ensures { TakesUnlessLast self.old self.new result (λ x. self.old ≡ self.new ++ x ∷ []) }
     {
         if self.inner.len() > 1 {
             self.inner.pop()
@@ -156,15 +165,15 @@ impl<T> NEVec<T> {
         }
     }
 
-    /// Takes the item at `index` out, and moves the later ones one place to the left, or answers `None`, exactly where there is but
-    /// one item, whatever `index` is: that one stays.
+    /// Takes the item at `index` out, and moves the later ones one place to the left, or answers
+    /// `None`, exactly where there is but one item, whatever `index` is: that one stays.
     ///
-    /// Where there are more, the condition is that `index` is below the length; in the Rust crate it panics otherwise.
+    /// Where there are more, the condition is that `index` is below the length; in the Rust crate
+    /// it panics otherwise.
     pub fn remove(&mut self, index: usize) -> Option<T>
         requires { 1 < length self.old → index < length self.old }
-        ensures only { (result ≡ None) ↔ (length self.old ≡ 1) }
-        ensures value { IfSome result (λ x. slice_get self.old index ≡ Some x) }
-        ensures rest { MatchOption result (self.new ≡ self.old) (λ _. self.new ≡ remove self.old index) }
+        ensures { TakesUnlessLast self.old self.new result (λ x.
+            (slice_get self.old index ≡ Some x) × (self.new ≡ remove self.old index)) }
     {
         if self.inner.len() > 1 {
             Some(self.inner.remove(index))
@@ -173,15 +182,15 @@ impl<T> NEVec<T> {
         }
     }
 
-    /// Takes the item at `index` out, and moves the last one into its place, or answers `None`, exactly where there is but one item,
-    /// whatever `index` is: that one stays.
+    /// Takes the item at `index` out, and moves the last one into its place, or answers `None`,
+    /// exactly where there is but one item, whatever `index` is: that one stays.
     ///
-    /// Where there are more, the condition is that `index` is below the length; in the Rust crate it panics otherwise.
+    /// Where there are more, the condition is that `index` is below the length; in the Rust crate
+    /// it panics otherwise.
     pub fn swap_remove(&mut self, index: usize) -> Option<T>
         requires { 1 < length self.old → index < length self.old }
-        ensures only { (result ≡ None) ↔ (length self.old ≡ 1) }
-        ensures value { IfSome result (λ x. slice_get self.old index ≡ Some x) }
-        ensures rest { MatchOption result (self.new ≡ self.old) (λ x. self.new ≡ swap_remove self.old index x) }
+        ensures { TakesUnlessLast self.old self.new result (λ x.
+            (slice_get self.old index ≡ Some x) × (self.new ≡ swap_remove self.old index x)) }
     {
         if self.inner.len() > 1 {
             Some(self.inner.swap_remove(index))
@@ -190,17 +199,19 @@ impl<T> NEVec<T> {
         }
     }
 
-    /// Keeps the items that `f` accepts, in order, or hands the empty vector back, exactly where it accepts none.
+    /// Keeps the items that `f` accepts, in order, or hands the empty vector back, exactly where it
+    /// accepts none.
     ///
-    /// `f` is asked once for each item, in order, and may be called at any value of the items' type.
-    /// `kept` speaks of an `f` whose answer depends on the item alone, and `asked` of every other one
-    /// too.
+    /// `f` is asked once for each item, in order, and may be called at any value of the items'
+    /// type. `kept` speaks of an `f` whose answer depends on the item alone, and `asked` of every
+    /// other one too.
     pub fn retain<F: FnMut(&T) -> bool>(self, f: F) -> Result<Self, Vec<T>>
     where
         T: Drop,
         requires { F.IsAlwaysCallable f }
         ensures none { IsErr result ↔ (kept_items result ≡ []) }
-        ensures kept { (keeps : T → Bool) → ActsAsAt F.FnMut f keeps → kept_items result ≡ filter keeps self }
+        ensures kept { (keeps : T → Bool) → ActsAsAt F.FnMut f keeps
+            → kept_items result ≡ filter keeps self }
         ensures asked { IsFiltered (CalledAt F.FnMut) f self (kept_items result) }
     {
         let mut inner = self.inner;
@@ -208,18 +219,19 @@ impl<T> NEVec<T> {
         NEVec::try_from_kept(inner)
     }
 
-    /// Keeps the items that `f` accepts, in order and as `f` wrote them, or hands the empty vector back, exactly where it accepts
-    /// none.
+    /// Keeps the items that `f` accepts, in order and as `f` wrote them, or hands the empty vector
+    /// back, exactly where it accepts none.
     ///
-    /// `f` is asked once for each item, in order, and may be called at any value of the items' type.
-    /// `kept` speaks of an `f` whose answer, and what it writes, depend on the item alone, and `asked`
-    /// of every other one too.
+    /// `f` is asked once for each item, in order, and may be called at any value of the items'
+    /// type. `kept` speaks of an `f` whose answer, and what it writes, depend on the item alone,
+    /// and `asked` of every other one too.
     pub fn retain_mut<F: FnMut(&mut T) -> bool>(self, f: F) -> Result<Self, Vec<T>>
     where
         T: Drop,
         requires { F.IsAlwaysCallable f }
         ensures none { IsErr result ↔ (kept_items result ≡ []) }
-        ensures kept { (keeps : T → Bool) (writes : T → T) → ActsAsAtMut F.FnMut f keeps writes → kept_items result ≡ map writes (filter keeps self) }
+        ensures kept { (keeps : T → Bool) (writes : T → T) → ActsAsAtMut F.FnMut f keeps writes
+            → kept_items result ≡ map writes (filter keeps self) }
         ensures asked { RetainsInTurn (CalledAtMut F.FnMut) f self (kept_items result) }
     {
         let mut inner = self.inner;
@@ -239,10 +251,12 @@ impl<T> NEVec<T> {
         }
     }
 
-    /// Puts `element` at the place `index`, and moves the items from there on one place to the right.
+    /// Puts `element` at the place `index`, and moves the items from there on one place to the
+    /// right.
     ///
-    /// The condition is that `index` is at most the length; in the Rust crate it panics otherwise. `AllocError` where the vector has
-    /// to grow and there is no memory for it; the vector is then as it was, and `element` is dropped.
+    /// The condition is that `index` is at most the length; in the Rust crate it panics otherwise.
+    /// `AllocError` where the vector has to grow and there is no memory for it; the vector is then
+    /// as it was, and `element` is dropped.
     pub fn insert(&mut self, index: usize, element: T) -> Result<(), AllocError>
     where
         T: Drop,
@@ -274,8 +288,8 @@ impl<T> NEVec<T> {
 
     /// How many items the vector can hold before it has to grow: at least as many as there are.
     ///
-    /// Where an item takes no memory std answers `usize::MAX`. The Rust crate trusts std for the answer not to be 0; this is the
-    /// greater of it and the length.
+    /// Where an item takes no memory std answers `usize::MAX`. The Rust crate trusts std for the
+    /// answer not to be 0; this is the greater of it and the length.
     pub fn capacity(&self) -> NonZeroUsize
         ensures { length self.now ≤ non_zero_usize_get result }
     {
@@ -316,8 +330,8 @@ impl<T> NEVec<T> {
         self.inner.get(index)
     }
 
-    /// The item at the place `index`, for writing, or `None`, exactly where `index` is not below the length. The others stay as they
-    /// are.
+    /// The item at the place `index`, for writing, or `None`, exactly where `index` is not below
+    /// the length. The others stay as they are.
     pub fn get_mut(&mut self, index: usize) -> Option<&mut T>
         ensures* writes_back { sem 𝓛 (LendsItemIf T.row self.entry index result) }
         ensures there { IsSome result ↔ (index < length self.old) }
@@ -329,7 +343,8 @@ impl<T> NEVec<T> {
 
     /// All items, for writing. They can be changed and exchanged, and stay as many as they are.
     ///
-    /// It stands in the place of the Rust crate's `AsMut<Vec<T>>`, by which a caller could take the last item out.
+    /// It stands in the place of the Rust crate's `AsMut<Vec<T>>`, by which a caller could take the
+    /// last item out.
     pub fn as_mut_slice(&mut self) -> &mut [T]
         ensures* writes_back { sem 𝓛 (LendsItems T.row self.entry result) }
         ensures value { result.now ≡ self.old }
@@ -391,14 +406,15 @@ impl<T> NEVec<T> {
 
     /// Clones of the items of `slice`, in order, or `Ok(None)`, exactly where it is empty.
     ///
-    /// `AllocError` where there is no memory for them, or where a clone was refused. That the items are the same asks that a clone
-    /// equals its original.
+    /// `AllocError` where there is no memory for them, or where a clone was refused. That the items
+    /// are the same asks that a clone equals its original.
     pub fn try_from_slice(alloc: Global, slice: &[T]) -> Result<Option<NEVec<T>>, AllocError>
     where
         T: Clone + Drop,
         ensures empty { IfOk result (λ made. (made ≡ None) ↔ (slice.now ≡ [])) }
         ensures clones { IfOk result (λ made. IfSome made (AllZip T.is_clone slice.now)) }
-        ensures same { IfOk result (λ made. ((x y : T) → T.is_clone x y → y ≡ x) → IfSome made (λ v. v ≡ slice.now)) }
+        ensures same { IfOk result (λ made. ((x y : T) → T.is_clone x y → y ≡ x)
+            → IfSome made (λ v. v ≡ slice.now)) }
     {
         if slice.is_empty() {
             return Ok(None);
@@ -407,7 +423,8 @@ impl<T> NEVec<T> {
         Ok(Some(NEVec { inner }))
     }
 
-    /// The same items in the same place, or `None`, exactly where `vec` is empty. It takes no memory.
+    /// The same items in the same place, or `None`, exactly where `vec` is empty. It takes no
+    /// memory.
     pub fn try_from_vec(vec: Vec<T>) -> Option<NEVec<T>>
         ensures empty { (result ≡ None) ↔ (vec.items ≡ []) }
         ensures same { IfSome result (λ v. v ≡ vec.items) }
@@ -442,8 +459,8 @@ impl<T> NEVec<T> {
         (&self.inner[0], &self.inner[1..])
     }
 
-    /// The first item, those in the middle, of which there may be none, and the last item. A single item is both the first and the
-    /// last.
+    /// The first item, those in the middle, of which there may be none, and the last item. A single
+    /// item is both the first and the last.
     pub fn split(&self) -> (&T, &[T], &T)
         ensures first { slice_get self.now 0 ≡ Some result.0.now }
         ensures middle { result.1.now ≡ drop 1 (take (length self.now - 1) self.now) }
@@ -459,10 +476,13 @@ impl<T> NEVec<T> {
 
     /// Moves the items of `other` to the end, in order, and leaves `other` empty.
     ///
-    /// `AllocError` where the vector has to grow and there is no memory for it; both are then as they were.
+    /// `AllocError` where the vector has to grow and there is no memory for it; both are then as
+    /// they were.
     pub fn append(&mut self, other: &mut Vec<T>) -> Result<(), AllocError>
-        ensures added { OnOk result ((self.new ≡ self.old ++ other.old.items) × (other.new.items ≡ [])) }
-        ensures unchanged { OnErr result ((self.new ≡ self.old) × (other.new.items ≡ other.old.items)) }
+        ensures added { OnOk result ((self.new ≡ self.old ++ other.old.items)
+            × (other.new.items ≡ [])) }
+        ensures unchanged { OnErr result ((self.new ≡ self.old)
+            × (other.new.items ≡ other.old.items)) }
     {
         self.inner.append(other)
     }
@@ -475,8 +495,10 @@ impl<T> NEVec<T> {
     pub fn extend<I: IntoIterator<Item = T>>(&mut self, iter: I) -> Result<(), AllocError>
     where
         T: Drop,
-        requires { IsFiniteIterable I.into_iter_gives I.IntoIter.can_next I.IntoIter.remaining iter }
-        ensures { ExtendsWithItems I.into_iter_gives I.IntoIter.next_gives (λ old xs new. new ≡ old ++ xs) iter self.old self.new result }
+        requires { IsFiniteIterable I.into_iter_gives I.IntoIter.can_next I.IntoIter.remaining
+            iter }
+        ensures { ExtendsWithItems I.into_iter_gives I.IntoIter.next_gives
+            (λ old xs new. new ≡ old ++ xs) iter self.old self.new result }
     {
         self.inner.extend(iter)
     }
@@ -490,10 +512,11 @@ impl<T> NEVec<T> {
         }
     }
 
-    /// The chunks of `chunk_size` items, in order, of which the last may be shorter. They are parts of the vector: nothing is
-    /// copied.
+    /// The chunks of `chunk_size` items, in order, of which the last may be shorter. They are parts
+    /// of the vector: nothing is copied.
     pub fn nonempty_chunks(&self, chunk_size: NonZeroUsize) -> NEChunks<'_, T>
-        ensures { result ≡ chunks (non_zero_usize_get chunk_size) self.now }
+        ensures items { result ≡ chunks (non_zero_usize_get chunk_size) self.now }
+        ensures lists { ChunksGive result (chunks (non_zero_usize_get chunk_size) self.now) }
     {
         NEChunks {
             inner: self.inner.as_slice().chunks(chunk_size.get()),

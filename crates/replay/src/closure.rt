@@ -3,7 +3,8 @@
 use std::cell::Cell;
 use std::cmp::Ordering;
 
-/// A named closure on numbers. It counts its calls and adds up the numbers that it was shown, so that some answer by state.
+/// A named closure on numbers. It counts its calls and adds up the numbers that it was shown, so
+/// that some answer by state.
 #[derive(Drop)]
 pub struct Closure {
     rule: Rule,

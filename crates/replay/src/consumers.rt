@@ -54,7 +54,8 @@ pub fn totalled(items: &NEVec<u32>, call: &Call, text: &mut String) -> Result<bo
     Ok(true)
 }
 
-/// Consumers that answer a greatest or a least item. The items are shown with their places, so that equal ones are told apart.
+/// Consumers that answer a greatest or a least item. The items are shown with their places, so that
+/// equal ones are told apart.
 pub fn extreme(items: &NEVec<u32>, call: &Call, text: &mut String) -> Result<bool, AllocError> {
     let items = items.clone()?.into_nonempty_iter();
     let order = |x: &(usize, u32), y: &(usize, u32)| call.closure.order(x.1, y.1);

@@ -4,7 +4,8 @@ use crate::call::Call;
 use nonempty_collections::{IntoNonEmptyIterator, NEVec, NonEmptyIterator};
 use std::alloc::{AllocError, Global};
 
-/// Runs, whole and stopped. That the closure is called once for each item drawn shows how many were.
+/// Runs, whole and stopped. That the closure is called once for each item drawn shows how many
+/// were.
 pub fn read(
     alloc: Global,
     items: &NEVec<u32>,

@@ -7,7 +7,8 @@ use nonempty_collections::{
 };
 use std::alloc::{AllocError, Global};
 
-/// Calls on an array of three items, by value and by reference: the call's first number, its last, and the first again.
+/// Calls on an array of three items, by value and by reference: the call's first number, its last,
+/// and the first again.
 pub fn arrayed(alloc: Global, call: &Call, text: &mut String) -> Result<bool, AllocError> {
     let array = [call.first, call.last, call.first];
     match call.name {

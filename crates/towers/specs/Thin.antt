@@ -4,10 +4,20 @@ use Rattle.std.specs.Fn.{Mut}
 use Rattle.std.specs.List.{enumerate_from}
 use Rattle.ne_iter.specs.Calls.{Calls}
 
--- c is made of ys ++ zs, each item with its place: ys are the answers of f on the source's items xs, and zs the items of the other.
--- They are at most n; where they are fewer and c is complete, both sources had ended.
-abbrev pub IsNumbered : {S A B F O C : Type 0} → (Bool → S → List A → Type 0) → Mut F (A × Unit {0}) B → (Bool → O → List B → Type 0)
-    → (C → Bool) → (List (ℕ × B) → C → Type 0) → S → F → O → ℕ → C → Type 0
-IsNumbered {A = A} {B = B} {F = F} reads calls others complete collected source f other n c = (xs : List A) × (ys : List B) × (zs : List B) × (g : F) × (whole : Bool)
-    × reads (whole || ltb 0 (length zs)) source xs × Calls calls f xs ys g × others whole other zs
-    × (whole ≡ complete c && ltb (length (ys ++ zs)) n) × (length (ys ++ zs) ≤ n) × collected (enumerate_from 0 (ys ++ zs)) c
+-- c is made of the answers of f on the source's items, and then the items of the other, each with
+-- its place. They are at most n; where they are fewer and c is complete, both sources had ended.
+pub record IsNumbered {S A B F O C : Type 0} (reads : Bool → S → List A → Type 0)
+    (calls : Mut F (A × Unit {0}) B) (others : Bool → O → List B → Type 0) (complete : C → Bool)
+    (collected : List (ℕ × B) → C → Type 0) (source : S) (f : F) (other : O) (n : ℕ) (c : C)
+    : Type 0 where
+  pub items : List A
+  pub answers : List B
+  pub other_items : List B
+  pub f_then : F
+  pub whole : Bool
+  pub read : reads (whole || ltb 0 (length other_items)) source items
+  pub called : Calls calls f items answers f_then
+  pub read_other : others whole other other_items
+  pub is_whole : whole ≡ complete c && ltb (length (answers ++ other_items)) n
+  pub at_most : length (answers ++ other_items) ≤ n
+  pub made : collected (enumerate_from 0 (answers ++ other_items)) c

@@ -7,7 +7,7 @@ ghost use Rattle.std.specs.Int.NonZero.{non_zero_usize_get};
 ghost use Rattle.std.specs.List.{All, Contains};
 ghost use Rattle.ne_iter.specs.Gives.{GivesList, ShowsList};
 
-use nonempty_collections::iter::{NonEmptyIterator, Source};
+use nonempty_collections::iter::{NonEmptyIterator, SourceWords};
 use nonempty_collections::{NEVec, laws};
 use std::alloc::{AllocError, Global};
 use std::num::NonZeroUsize;
@@ -17,8 +17,8 @@ pub fn halves<S: NonEmptyIterator<Item = u32>>(
     alloc: Global,
     source: S,
 ) -> Result<NEVec<u32>, AllocError>
-    requires { ⟦<S as Source>⟧.ends source }
-    ensures { IfOk result (λ v. (xs : List ℕ) → GivesList (⟦<S as Source>⟧.reads) source xs
+    requires { ⟦<S as SourceWords>⟧.ends source }
+    ensures { IfOk result (λ v. (xs : List ℕ) → GivesList (⟦<S as SourceWords>⟧.reads) source xs
         → v ≡ map (λ x. x / 2) xs) }
 {
     let half = |x| x / 2;
@@ -34,8 +34,8 @@ pub fn first_items<T: Drop, S: NonEmptyIterator<Item = T>>(
     source: S,
     n: NonZeroUsize,
 ) -> Result<NEVec<T>, AllocError>
-    requires { ⟦<S as Source>⟧.starts source }
-    ensures { IfOk result (λ v. (xs : List T) → GivesList (⟦<S as Source>⟧.reads) source xs
+    requires { ⟦<S as SourceWords>⟧.starts source }
+    ensures { IfOk result (λ v. (xs : List T) → GivesList (⟦<S as SourceWords>⟧.reads) source xs
         → v ≡ take (non_zero_usize_get n) xs) }
 {
     laws::list_of_take(&source);
@@ -50,10 +50,10 @@ pub fn joined<T: Drop, S: NonEmptyIterator<Item = T>, U: IntoIterator<Item = T>>
     source: S,
     other: U,
 ) -> Result<NEVec<T>, AllocError>
-    requires ends { ⟦<S as Source>⟧.ends source }
-    requires other_ends { ⟦<U as Source>⟧.ends other }
-    ensures { IfOk result (λ v. (xs ys : List T) → GivesList (⟦<S as Source>⟧.reads) source xs
-        → GivesList (⟦<U as Source>⟧.reads) other ys → v ≡ xs ++ ys) }
+    requires ends { ⟦<S as SourceWords>⟧.ends source }
+    requires other_ends { ⟦<U as SourceWords>⟧.ends other }
+    ensures { IfOk result (λ v. (xs ys : List T) → GivesList (⟦<S as SourceWords>⟧.reads) source xs
+        → GivesList (⟦<U as SourceWords>⟧.reads) other ys → v ≡ xs ++ ys) }
 {
     laws::list_of_chain(&source, &other);
     let chained = source.chain(other);
@@ -66,8 +66,8 @@ pub fn small<S: NonEmptyIterator<Item = u32>>(
     alloc: Global,
     source: S,
 ) -> Result<Vec<u32>, AllocError>
-    requires { ⟦<S as Source>⟧.ends source }
-    ensures { IfOk result (λ v. (xs : List ℕ) → GivesList (⟦<S as Source>⟧.reads) source xs
+    requires { ⟦<S as SourceWords>⟧.ends source }
+    ensures { IfOk result (λ v. (xs : List ℕ) → GivesList (⟦<S as SourceWords>⟧.reads) source xs
         → v.items ≡ filter (λ x. ltb x 10) xs) }
 {
     let is_small = |x: &u32| *x < 10;
@@ -79,10 +79,10 @@ pub fn small<S: NonEmptyIterator<Item = u32>>(
 
 /// The greatest of the numbers that a source shows.
 pub fn greatest<'a, S: NonEmptyIterator<Item = &'a u32>>(source: S) -> u32
-    requires { ⟦<S as Source>⟧.ends source }
-    ensures among { (xs : List ℕ) → ShowsList (⟦<S as Source>⟧.reads) source xs
+    requires { ⟦<S as SourceWords>⟧.ends source }
+    ensures among { (xs : List ℕ) → ShowsList (⟦<S as SourceWords>⟧.reads) source xs
         → Contains xs result }
-    ensures bound { (xs : List ℕ) → ShowsList (⟦<S as Source>⟧.reads) source xs
+    ensures bound { (xs : List ℕ) → ShowsList (⟦<S as SourceWords>⟧.reads) source xs
         → All (λ x. x ≤ result) xs }
 {
     laws::list_of_copied(&source);

@@ -1,6 +1,8 @@
-//! Towers of adapters over any source, and sources of a user's own, proved from the contracts of the public calls alone.
+//! Towers of adapters over any source, and sources of a user's own, proved from the contracts of
+//! the public calls alone.
 //!
-//! This crate is no part of the library. It stands for a user's: what is proved here, a user of the library can prove.
+//! This crate is no part of the library. It stands for a user's: what is proved here, a user of the
+//! library can prove.
 #![tactic(auto)]
 
 mod any_source;

@@ -4,7 +4,7 @@ ghost use Rattle.std.specs.Iterator.{IsFinite, IsFiniteIterable, size};
 ghost use Rattle.std.specs.List.{scan};
 ghost use Rattle.towers.specs.Nested.{IsScanOfAll};
 
-use nonempty_collections::iter::{FromNonEmptyIterator, NonEmptyIterator, Source};
+use nonempty_collections::iter::{FromNonEmptyIterator, NonEmptyIterator, SourceWords};
 use nonempty_collections::laws::{first_items_stay_first, list_of_scan, vectors_give_their_items};
 use nonempty_collections::{IntoNonEmptyIterator, NEVec};
 use std::alloc::{AllocError, Global};
@@ -19,13 +19,13 @@ pub fn scan_of_all<
     F: FnMut(&mut St, A) -> D,
     B: FromNonEmptyIterator<D>,
 >(alloc: Global, source: S, init: St, f: F) -> Result<B, AllocError>
-    requires runs { IsFiniteIterable S.into_iter_gives S.IntoIter.can_next
+    requires ends { IsFiniteIterable S.into_iter_gives S.IntoIter.can_next
         S.IntoIter.remaining source }
-    requires inner_runs { (inner : U) (it : U.IntoIter) → U.into_iter_gives inner it
+    requires inner_ends { (inner : U) (it : U.IntoIter) → U.into_iter_gives inner it
         → U.IntoIter.can_next it × IsFinite (U.IntoIter.remaining it)
         × (size (U.IntoIter.remaining it) < 2 ^ 64) }
     requires callable { F.IsAlwaysCallable f }
-    ensures { IfOk result (IsScanOfAll (⟦<S as Source>⟧.reads) (⟦<U as Source>⟧.reads)
+    ensures { IfOk result (IsScanOfAll (⟦<S as SourceWords>⟧.reads) (⟦<U as SourceWords>⟧.reads)
         F.FnMut B.is_complete B.collected source init f) }
 {
     source.flatten().scan(init, f).collect(alloc)

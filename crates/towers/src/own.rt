@@ -1,4 +1,5 @@
-//! Sources of a user's own: a plain one, one seen through a model, a borrowed and a boxed one, and a value that becomes one.
+//! Sources of a user's own: a plain one, one seen through a model, a borrowed and a boxed one, and
+//! a value that becomes one.
 //!
 //! Each implements [`NonEmptyIterator`] by its law alone, and has all the methods.
 ghost use Rattle.std.specs.Prelude.{◌≡◌, ◌<◌, List, [], ◌∷◌, length, reverse, IfOk, IfErr};
@@ -66,7 +67,8 @@ impl IntoIterator for Countdown {
 impl NonEmptyIterator for Countdown {
     ghost use Rattle.towers.specs.OwnLaws.{some_counted};
 
-    ghost not_empty = { λ s it made t ended. some_counted (left_of it) (start_of s) s.from.ok made ended.0 };
+    ghost not_empty = { λ s it made t ended. some_counted (left_of it) (start_of s) s.from.ok made
+        ended.0 };
 }
 
 /// A start, which is a [`Countdown`] where a source is asked for.
@@ -104,7 +106,11 @@ impl IntoNonEmptyIterator for Start {
     ghost into_nonempty_iter_gives = { λ s c. start_of c ≡ seconds_of s };
 
     ghost same_lists = { λ s whole xs. (
-      (λ h. (record { from = s.seconds }, refl, record { it = h.it; made = h.made; given = h.given })),
+      (λ h. (
+        record { from = s.seconds },
+        refl,
+        record { it = h.it; made = h.made; given = h.given },
+      )),
       (λ c same h. record { it = h.it; made = h.made ∙ same; given = h.given }),
     ) };
 
@@ -139,7 +145,8 @@ impl<T: Drop> Stack<T> {
         Ok(Stack { items })
     }
 
-    /// Puts an item on top. `AllocError` where there is no memory for it; it is then dropped, and the stack stays as it was.
+    /// Puts an item on top. `AllocError` where there is no memory for it; it is then dropped, and
+    /// the stack stays as it was.
     pub fn push(&mut self, item: T) -> Result<(), AllocError>
         ensures added { IfOk result (λ _. self.new ≡ item ∷ self.old) }
         ensures unchanged { IfErr result (λ _. self.new ≡ self.old) }

@@ -7,7 +7,7 @@ ghost use Rattle.ne_vec.specs.SliceRuns.{ActsAsAtPair};
 ghost use Rattle.ne_iter.specs.Gives.{HasRuns};
 ghost use Rattle.towers.specs.Runs.{AreRunsOfAnswers};
 
-use nonempty_collections::iter::{Map, NEGroupBy, NonEmptyIterator, Source, Take};
+use nonempty_collections::iter::{Map, NEGroupBy, NonEmptyIterator, SourceWords, Take};
 use nonempty_collections::laws::{
     always_callable_is_callable_on_all_items, calls_of_a_function, first_items_stay_first,
     results_are_read_whole, slice_runs_are_the_division,
@@ -27,17 +27,21 @@ pub fn runs_of_answers<
 >(alloc: Global, source: S, f: F, key: G) -> Result<NEVec<NEVec<T>>, AllocError>
 where
     S::Item: Drop,
-    requires runs { IsFiniteIterable S.into_iter_gives S.IntoIter.can_next S.IntoIter.remaining source }
-    requires callable { (it : S.IntoIter) → S.into_iter_gives source it → CallableOnAll S.IntoIter.next_gives F.FnMut it f }
+    requires ends { IsFiniteIterable S.into_iter_gives S.IntoIter.can_next S.IntoIter.remaining
+        source }
+    requires callable { (it : S.IntoIter) → S.into_iter_gives source it
+        → CallableOnAll S.IntoIter.next_gives F.FnMut it f }
     requires key_callable { G.IsAlwaysCallable key }
-    ensures { IfOk result (AreRunsOfAnswers (⟦<S as Source>⟧.reads) F.FnMut G.FnMut K.eq source f key) }
+    ensures { IfOk result (AreRunsOfAnswers (⟦<S as SourceWords>⟧.reads) F.FnMut G.FnMut K.eq source
+        f key) }
 {
     results_are_read_whole::<NEVec<T>, AllocError, NEGroupBy<Map<S, F>, G>>();
     always_callable_is_callable_on_all_items::<iter::Map<S::IntoIter, F>, K, G>();
     source.map(f).group_by(alloc, key).collect(alloc)?
 }
 
-/// The first `n` runs of the items of `source`, by the keys that `key` answers at them. No more is drawn than one item behind them.
+/// The first `n` runs of the items of `source`, by the keys that `key` answers at them. No more is
+/// drawn than one item behind them.
 pub fn first_runs<K: PartialEq + Drop, S: NonEmptyIterator, G: FnMut(&S::Item) -> K + Drop>(
     alloc: Global,
     source: S,
@@ -46,9 +50,11 @@ pub fn first_runs<K: PartialEq + Drop, S: NonEmptyIterator, G: FnMut(&S::Item) -
 ) -> Result<NEVec<NEVec<S::Item>>, AllocError>
 where
     S::Item: Drop,
-    requires runs { IsFiniteIterable S.into_iter_gives S.IntoIter.can_next S.IntoIter.remaining source }
+    requires ends { IsFiniteIterable S.into_iter_gives S.IntoIter.can_next S.IntoIter.remaining
+        source }
     requires key_callable { G.IsAlwaysCallable key }
-    ensures runs { IfOk result (λ rs. HasRuns (⟦<S as Source>⟧.reads) G.FnMut K.eq (ltb (length rs) (non_zero_usize_get n)) source key rs) }
+    ensures runs { IfOk result (λ rs. HasRuns (⟦<S as SourceWords>⟧.reads) G.FnMut K.eq
+        (ltb (length rs) (non_zero_usize_get n)) source key rs) }
     ensures count { IfOk result (λ rs. length rs ≤ non_zero_usize_get n) }
 {
     results_are_read_whole::<NEVec<S::Item>, AllocError, Take<NEGroupBy<S, G>>>();

@@ -5,7 +5,7 @@ ghost use Rattle.std.specs.Int.NonZero.{non_zero_usize_get};
 ghost use Rattle.std.specs.List.{enumerate_from};
 ghost use Rattle.towers.specs.Thin.{IsNumbered};
 
-use nonempty_collections::iter::{FromNonEmptyIterator, NonEmptyIterator, Source};
+use nonempty_collections::iter::{FromNonEmptyIterator, NonEmptyIterator, SourceWords};
 use nonempty_collections::laws::{
     calls_of_a_function, first_items_stay_first, std_vectors_give_their_items,
     vectors_give_their_items,
@@ -14,7 +14,8 @@ use nonempty_collections::{IntoNonEmptyIterator, NEVec};
 use std::alloc::{AllocError, Global};
 use std::num::NonZeroUsize;
 
-/// The answers of `f` on the items of `source`, and then the items of `other`, with their places: the first `n` of them, collected.
+/// The answers of `f` on the items of `source`, and then the items of `other`, with their places:
+/// the first `n` of them, collected.
 ///
 /// The places have to fit.
 pub fn numbered<
@@ -24,11 +25,18 @@ pub fn numbered<
     O: IntoIterator<Item = U>,
     B: FromNonEmptyIterator<(usize, U)>,
 >(alloc: Global, source: S, f: F, other: O, n: NonZeroUsize) -> Result<B, AllocError>
-    requires runs { IsFiniteIterable S.into_iter_gives S.IntoIter.can_next S.IntoIter.remaining source }
-    requires other_runs { IsFiniteIterable O.into_iter_gives O.IntoIter.can_next O.IntoIter.remaining other }
-    requires fits { (it : S.IntoIter) (rest : O.IntoIter) → S.into_iter_gives source it → O.into_iter_gives other rest → size (S.IntoIter.remaining it) + size (O.IntoIter.remaining rest) < 2 ^ 64 }
-    requires callable { (it : S.IntoIter) → S.into_iter_gives source it → CallableOnAll S.IntoIter.next_gives F.FnMut it f }
-    ensures { IfOk result (IsNumbered (⟦<S as Source>⟧.reads) F.FnMut (⟦<O as Source>⟧.reads) B.is_complete B.collected source f other (non_zero_usize_get n)) }
+    requires ends { IsFiniteIterable S.into_iter_gives S.IntoIter.can_next S.IntoIter.remaining
+        source }
+    requires other_ends { IsFiniteIterable O.into_iter_gives O.IntoIter.can_next
+        O.IntoIter.remaining other }
+    requires fits { (it : S.IntoIter) (rest : O.IntoIter) → S.into_iter_gives source it
+        → O.into_iter_gives other rest → size (S.IntoIter.remaining it) + size
+        (O.IntoIter.remaining rest) < 2 ^ 64 }
+    requires callable { (it : S.IntoIter) → S.into_iter_gives source it
+        → CallableOnAll S.IntoIter.next_gives F.FnMut it f }
+    ensures { IfOk result (IsNumbered (⟦<S as SourceWords>⟧.reads) F.FnMut
+        (⟦<O as SourceWords>⟧.reads) B.is_complete B.collected source f other
+        (non_zero_usize_get n)) }
 {
     source
         .map(f)
@@ -46,7 +54,8 @@ pub fn numbered_halves(
     n: NonZeroUsize,
 ) -> Result<NEVec<(usize, u32)>, AllocError>
     requires { length items + length other.items < 2 ^ 64 }
-    ensures { IfOk result (λ v. v ≡ take (non_zero_usize_get n) (enumerate_from 0 (map (λ x. x / 2) items ++ other.items))) }
+    ensures { IfOk result (λ v. v ≡ take (non_zero_usize_get n)
+        (enumerate_from 0 (map (λ x. x / 2) items ++ other.items))) }
 {
     let half = |x| x / 2;
     vectors_give_their_items::<u32>();

@@ -7,7 +7,7 @@ ghost use Rattle.towers.specs.Own.{counted_down, start_of};
 ghost use Rattle.towers.specs.Wide.{IsSpread, IsSpreadOfPairs, IsParted};
 
 use crate::Countdown;
-use nonempty_collections::iter::{FromNonEmptyIterator, NonEmptyIterator, Source};
+use nonempty_collections::iter::{FromNonEmptyIterator, NonEmptyIterator, SourceWords};
 use nonempty_collections::laws::{
     arrays_give_their_items, calls_of_a_function, first_items_stay_first, lists_follow_one_another,
     sources_give_what_is_left,
@@ -16,8 +16,8 @@ use nonempty_collections::{IntoNonEmptyIterator, NEVec, Singleton};
 use std::alloc::{AllocError, Global};
 use std::num::NonZeroUsize;
 
-/// The items of what `f` answers on the items of `source`, with their places: the first `n` of them, collected. The first item is looked
-/// at on the way.
+/// The items of what `f` answers on the items of `source`, with their places: the first `n` of
+/// them, collected. The first item is looked at on the way.
 pub fn spread<
     U: Drop,
     W: IntoNonEmptyIterator<Item = U>,
@@ -25,10 +25,15 @@ pub fn spread<
     F: FnMut(S::Item) -> W,
     B: FromNonEmptyIterator<(usize, U)>,
 >(alloc: Global, source: S, f: F, n: NonZeroUsize) -> Result<B, AllocError>
-    requires runs { IsFiniteIterable S.into_iter_gives S.IntoIter.can_next S.IntoIter.remaining source }
-    requires callable { (it : S.IntoIter) → S.into_iter_gives source it → CallableOnAll S.IntoIter.next_gives F.FnMut it f }
-    requires inner_runs { (inner : W) (it : W.IntoIter) → W.into_iter_gives inner it → W.IntoIter.can_next it × IsFinite (W.IntoIter.remaining it) × (size (W.IntoIter.remaining it) < 2 ^ 64) }
-    ensures { IfOk result (IsSpread (⟦<S as Source>⟧.reads) F.FnMut (⟦<W as Source>⟧.reads) B.is_complete B.collected source f (non_zero_usize_get n)) }
+    requires ends { IsFiniteIterable S.into_iter_gives S.IntoIter.can_next S.IntoIter.remaining
+        source }
+    requires callable { (it : S.IntoIter) → S.into_iter_gives source it
+        → CallableOnAll S.IntoIter.next_gives F.FnMut it f }
+    requires inner_ends { (inner : W) (it : W.IntoIter) → W.into_iter_gives inner it
+        → W.IntoIter.can_next it × IsFinite (W.IntoIter.remaining it)
+        × (size (W.IntoIter.remaining it) < 2 ^ 64) }
+    ensures { IfOk result (IsSpread (⟦<S as SourceWords>⟧.reads) F.FnMut
+        (⟦<W as SourceWords>⟧.reads) B.is_complete B.collected source f (non_zero_usize_get n)) }
 {
     source
         .flat_map(f)
@@ -49,11 +54,17 @@ pub fn spread_pairs<
 >(alloc: Global, source: S, other: O, f: F, n: NonZeroUsize) -> Result<B, AllocError>
 where
     S::Item: Drop,
-    requires runs { IsFiniteIterable S.into_iter_gives S.IntoIter.can_next S.IntoIter.remaining source }
-    requires other_runs { IsFiniteIterable O.into_iter_gives O.IntoIter.can_next O.IntoIter.remaining other }
+    requires ends { IsFiniteIterable S.into_iter_gives S.IntoIter.can_next S.IntoIter.remaining
+        source }
+    requires other_ends { IsFiniteIterable O.into_iter_gives O.IntoIter.can_next
+        O.IntoIter.remaining other }
     requires callable { F.IsAlwaysCallable f }
-    requires inner_runs { (inner : W) (it : W.IntoIter) → W.into_iter_gives inner it → W.IntoIter.can_next it × IsFinite (W.IntoIter.remaining it) × (size (W.IntoIter.remaining it) < 2 ^ 64) }
-    ensures { IfOk result (IsSpreadOfPairs (⟦<S as Source>⟧.reads) (⟦<O as Source>⟧.reads) F.FnMut (⟦<W as Source>⟧.reads) B.is_complete B.collected source other f (non_zero_usize_get n)) }
+    requires inner_ends { (inner : W) (it : W.IntoIter) → W.into_iter_gives inner it
+        → W.IntoIter.can_next it × IsFinite (W.IntoIter.remaining it)
+        × (size (W.IntoIter.remaining it) < 2 ^ 64) }
+    ensures { IfOk result (IsSpreadOfPairs (⟦<S as SourceWords>⟧.reads) (⟦<O as SourceWords>⟧.reads)
+        F.FnMut (⟦<W as SourceWords>⟧.reads) B.is_complete B.collected source other f
+        (non_zero_usize_get n)) }
 {
     spread(alloc, source.zip(other), f, n)
 }
@@ -64,7 +75,8 @@ pub fn spread_countdown(
     source: Countdown,
     n: NonZeroUsize,
 ) -> Result<NEVec<(usize, u32)>, AllocError>
-    ensures { IfOk result (λ v. v ≡ take (non_zero_usize_get n) (enumerate_from 0 (flat_map (λ x. x ∷ x ∷ []) (counted_down (start_of source))))) }
+    ensures { IfOk result (λ v. v ≡ take (non_zero_usize_get n)
+        (enumerate_from 0 (flat_map (λ x. x ∷ x ∷ []) (counted_down (start_of source))))) }
 {
     let twice = |x: u32| -> [u32; 2]
         ensures { result ≡ x ∷ x ∷ [] }
@@ -78,7 +90,8 @@ pub fn spread_countdown(
     spread(alloc, source, twice, n)
 }
 
-/// The answers of `f` on the items of `source` in pairs with the items of `other`: the first `n` of them, parted into two collections.
+/// The answers of `f` on the items of `source` in pairs with the items of `other`: the first `n` of
+/// them, parted into two collections.
 pub fn parted<
     U: Drop,
     D: Drop,
@@ -88,10 +101,15 @@ pub fn parted<
     R: Singleton<Item = U> + Drop,
     Q: Singleton<Item = D> + Drop,
 >(alloc: Global, source: S, f: F, other: O, n: NonZeroUsize) -> Result<(R, Q), AllocError>
-    requires runs { IsFiniteIterable S.into_iter_gives S.IntoIter.can_next S.IntoIter.remaining source }
-    requires other_runs { IsFiniteIterable O.into_iter_gives O.IntoIter.can_next O.IntoIter.remaining other }
-    requires callable { (it : S.IntoIter) → S.into_iter_gives source it → CallableOnAll S.IntoIter.next_gives F.FnMut it f }
-    ensures { IfOk result (IsParted (⟦<S as Source>⟧.reads) F.FnMut (⟦<O as Source>⟧.reads) R.collected Q.collected source f other (non_zero_usize_get n)) }
+    requires ends { IsFiniteIterable S.into_iter_gives S.IntoIter.can_next S.IntoIter.remaining
+        source }
+    requires other_ends { IsFiniteIterable O.into_iter_gives O.IntoIter.can_next
+        O.IntoIter.remaining other }
+    requires callable { (it : S.IntoIter) → S.into_iter_gives source it
+        → CallableOnAll S.IntoIter.next_gives F.FnMut it f }
+    ensures { IfOk result (IsParted (⟦<S as SourceWords>⟧.reads) F.FnMut
+        (⟦<O as SourceWords>⟧.reads) R.collected Q.collected source f other
+        (non_zero_usize_get n)) }
 {
     source.map(f).zip(other).take(n).unzip(alloc)
 }

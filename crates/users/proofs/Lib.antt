@@ -1,4 +1,3 @@
 pub mod Groups
-pub mod Joins
 pub mod Numerals
 pub mod Readings

@@ -1,5 +1,6 @@
 -- A test tells whether a text is the numeral of a number of 32 bits.
-use Rattle.std.proofs.Common.{◌≡◌, ◌<◌, ◌^◌, ◌&&◌, List, ℕ, Bool, true, false, cond, ltb, length, refl, ap}
+use Rattle.std.proofs.Common.{◌≡◌, ◌<◌, ◌^◌, ◌&&◌, List, ℕ, Bool, true, false, cond, ltb, length}
+use Rattle.std.proofs.Common.{refl, ap}
 use Rattle.std.proofs.lemmas.Bool.{false≢true, lt-ltb, ltb-true, and_from, and_parts}
 use Rattle.std.proofs.lemmas.Str.Parse.{numerals_by_value, tells_all_ascii_digits}
 use Rattle.std.specs.Prelude.{Some, None, Result, Ok, Err}

@@ -1,5 +1,6 @@
 -- What the fields of a form say, and what is wrong with them.
-use Rattle.std.specs.Prelude.{ℕ, ◌^◌, nat_lt, ◌&&◌, if◌then◌else◌, List, length, map, Option, Some, None, Result, filter_map}
+use Rattle.std.specs.Prelude.{ℕ, ◌^◌, nat_lt, ◌&&◌, if◌then◌else◌, List, length, map, Option, Some}
+use Rattle.std.specs.Prelude.{None, Result, filter_map}
 use Rattle.std.specs.Borrow.{Bor}
 use Rattle.std.specs.List.{enumerate_from}
 use Rattle.std.specs.Option.{ok_or}

@@ -11,8 +11,7 @@ ghost use Rattle.std.specs.Prelude.{
   MatchOption,
   string_bytes,
 };
-ghost use Rattle.std.specs.List.{flat_map, join_by};
-ghost use Rattle.ne_iter.specs.Interspersed.{interspersed};
+ghost use Rattle.std.specs.List.{join_by};
 ghost use Rattle.users.specs.Queries.{query_text};
 
 use nonempty_collections::{NEVec, NonEmptyIterator};
@@ -97,24 +96,7 @@ pub fn push_joined(
     Ok(())
 }
 
-// The names with the separator between each two, as one text.
-fn separated_text<'a>(
-    alloc: Global,
-    names: &NEVec<&'a str>,
-    separator: &'a str,
-) -> Result<String, AllocError>
-    ensures { IfOk result (λ text. string_bytes text
-        ≡ flat_map (λ t. t.now) (interspersed separator.entry names.now)) }
-{
-    names
-        .nonempty_iter()
-        .copied()
-        .intersperse(separator)
-        .collect::<Result<String, AllocError>>(alloc)?
-}
-
 /// Names that are lent, with the separator between each two, as one text.
-#[tactic(auto, using(crate::proofs::Joins::interspersed_texts))]
 pub fn joined<'a>(
     alloc: Global,
     names: &NEVec<&'a str>,
@@ -123,5 +105,9 @@ pub fn joined<'a>(
     ensures { IfOk result (λ text.
         string_bytes text ≡ join_by (λ t. t.now) separator.now names.now) }
 {
-    separated_text(alloc, names, separator)
+    names
+        .nonempty_iter()
+        .copied()
+        .intersperse(separator)
+        .collect::<Result<String, AllocError>>(alloc)?
 }

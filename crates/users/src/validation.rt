@@ -1,6 +1,7 @@
 //! A form whose fields are numbers: their values, or all that is wrong with them.
 ghost use Rattle.std.specs.Prelude.{◌≡◌, ◌≢◌, [], IfOk, MatchResult, map, filter_map, Ok};
 ghost use Rattle.std.specs.Result.{result_ok};
+ghost use Rattle.ne_iter.specs.Collected.{values_or_first_err};
 ghost use Rattle.users.specs.Fields.{number_of, reading, readings, faults_of};
 
 use nonempty_collections::{NEVec, NonEmptyIterator};
@@ -26,10 +27,9 @@ pub fn read(place: usize, text: &str) -> Result<u32, Fault>
     number(text).ok_or(Fault { place })
 }
 
-/// The numbers of all fields, or a fault.
+/// The numbers of all fields, or the first fault.
 pub fn numbers(alloc: Global, fields: &NEVec<&str>) -> Result<Result<NEVec<u32>, Fault>, AllocError>
-    ensures { IfOk result (λ valid. IfOk valid
-        (λ numbers. readings fields.now ≡ map Ok numbers)) }
+    ensures { IfOk result (λ valid. valid ≡ values_or_first_err (readings fields.now)) }
 {
     fields
         .nonempty_iter()

@@ -25,8 +25,8 @@ fn sums<S: NonEmptyIterator<Item = u32>, O: IntoNonEmptyIterator<Item = u32>>(
     s: S,
     other: O,
 ) -> Result<NEVec<u32>, AllocError>
-    requires runs { IsFiniteIterable S.into_iter_gives S.IntoIter.can_next S.IntoIter.remaining s }
-    requires other_runs { IsFiniteIterable O.into_iter_gives O.IntoIter.can_next
+    requires ends { IsFiniteIterable S.into_iter_gives S.IntoIter.can_next S.IntoIter.remaining s }
+    requires other_ends { IsFiniteIterable O.into_iter_gives O.IntoIter.can_next
         O.IntoIter.remaining other }
 {
     s.zip(other).map(|(a, b)| a.wrapping_add(b)).collect(alloc)
@@ -37,8 +37,8 @@ fn chained<S: NonEmptyIterator<Item = u32>, O: IntoIterator<Item = u32>>(
     s: S,
     other: O,
 ) -> Result<NEVec<u32>, AllocError>
-    requires runs { IsFiniteIterable S.into_iter_gives S.IntoIter.can_next S.IntoIter.remaining s }
-    requires other_runs { IsFiniteIterable O.into_iter_gives O.IntoIter.can_next
+    requires ends { IsFiniteIterable S.into_iter_gives S.IntoIter.can_next S.IntoIter.remaining s }
+    requires other_ends { IsFiniteIterable O.into_iter_gives O.IntoIter.can_next
         O.IntoIter.remaining other }
 {
     s.chain(other).collect(alloc)
@@ -57,7 +57,7 @@ fn placed<S: NonEmptyIterator<Item = char>>(
     alloc: Global,
     s: S,
 ) -> Result<NEVec<(usize, char)>, AllocError>
-    requires runs { IsFiniteIterable S.into_iter_gives S.IntoIter.can_next S.IntoIter.remaining s }
+    requires ends { IsFiniteIterable S.into_iter_gives S.IntoIter.can_next S.IntoIter.remaining s }
     requires fits { (it : S.IntoIter) → S.into_iter_gives s it
         → size (S.IntoIter.remaining it) < 2 ^ 64 }
 {

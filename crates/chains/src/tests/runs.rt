@@ -16,7 +16,7 @@ fn runs<K: PartialEq + Drop, S: NonEmptyIterator<Item = u32>, F: FnMut(&u32) -> 
     source: S,
     key: F,
 ) -> Result<NEVec<NEVec<u32>>, AllocError>
-    requires runs { IsFiniteIterable S.into_iter_gives S.IntoIter.can_next
+    requires ends { IsFiniteIterable S.into_iter_gives S.IntoIter.can_next
         S.IntoIter.remaining source }
     requires callable { (it : S.IntoIter) → S.into_iter_gives source it
         → CallableOnAllAt S.IntoIter.next_gives F.FnMut it key }

@@ -30,7 +30,7 @@ pub(super) fn reduced<S: NonEmptyIterator<Item = u32>>(s: S) -> u32
 }
 
 fn sum<T: Sum<u32>, S: NonEmptyIterator<Item = u32>>(s: S) -> T
-    requires runs { IsFiniteIterable S.into_iter_gives S.IntoIter.can_next S.IntoIter.remaining s }
+    requires ends { IsFiniteIterable S.into_iter_gives S.IntoIter.can_next S.IntoIter.remaining s }
     requires fits { (it : S.IntoIter) → S.into_iter_gives s it
         → EachRunFrom S.IntoIter.next_gives it (λ p. T.can_sum p.items) }
 {
@@ -38,7 +38,7 @@ fn sum<T: Sum<u32>, S: NonEmptyIterator<Item = u32>>(s: S) -> T
 }
 
 fn product<X, T: Product<X>, S: NonEmptyIterator<Item = X>>(s: S) -> T
-    requires runs { IsFiniteIterable S.into_iter_gives S.IntoIter.can_next S.IntoIter.remaining s }
+    requires ends { IsFiniteIterable S.into_iter_gives S.IntoIter.can_next S.IntoIter.remaining s }
     requires fits { (it : S.IntoIter) → S.into_iter_gives s it
         → EachRunFrom S.IntoIter.next_gives it (λ p. T.can_product p.items) }
 {

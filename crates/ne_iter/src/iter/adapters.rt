@@ -13,17 +13,18 @@ pub struct Map<I, F> {
 
 impl<U, I: IntoIterator, F: FnMut(I::Item) -> U> IntoIterator for Map<I, F> {
     ghost use Rattle.std.specs.Prelude.{◌≡◌};
-    ghost use Rattle.std.specs.Iterator.Adapters.{map_source, map_callee};
+    ghost use Rattle.std.specs.Iterator.Adapters.{map_source as std_map_source};
+    ghost use Rattle.std.specs.Iterator.Adapters.{map_callee as std_map_callee};
     ghost use Rattle.ne_iter.specs.SourceRuns.{MapsRuns};
-    ghost use Rattle.ne_iter.specs.Parts.{source_of_map, closure_of_map};
+    ghost use Rattle.ne_iter.specs.Parts.{map_source, map_callee};
 
     type Item = U;
 
     type IntoIter = iter::Map<I::IntoIter, F>;
 
-    ghost into_iter_gives = { λ s it. I.into_iter_gives (source_of_map s) (map_source it)
-        × (map_callee it ≡ closure_of_map s)
-        × MapsRuns I.IntoIter.next_gives F.FnMut (closure_of_map s) (map_source it) it };
+    ghost into_iter_gives = { λ s it. I.into_iter_gives (map_source s) (std_map_source it)
+        × (std_map_callee it ≡ map_callee s)
+        × MapsRuns I.IntoIter.next_gives F.FnMut (map_callee s) (std_map_source it) it };
 
     fn into_iter(self) -> iter::Map<I::IntoIter, F> {
         self.iter.into_iter().map(self.f)
@@ -31,10 +32,11 @@ impl<U, I: IntoIterator, F: FnMut(I::Item) -> U> IntoIterator for Map<I, F> {
 }
 
 impl<U, I: NonEmptyIterator, F: FnMut(I::Item) -> U> NonEmptyIterator for Map<I, F> {
-    ghost use Rattle.std.specs.Iterator.Adapters.{map_source};
-    ghost use Rattle.ne_iter.specs.Parts.{source_of_map};
+    ghost use Rattle.std.specs.Iterator.Adapters.{map_source as std_map_source};
+    ghost use Rattle.ne_iter.specs.Parts.{map_source};
 
-    ghost not_empty = { λ s it made t ended. I.not_empty (source_of_map s) (map_source it) made.0 (map_source t) ended.0 };
+    ghost not_empty = { λ s it made t ended. I.not_empty (map_source s) (std_map_source it) made.0
+        (std_map_source t) ended.0 };
 }
 
 /// The items of a source with their places: see [`NonEmptyIterator::enumerate`].
@@ -45,15 +47,17 @@ pub struct Enumerate<I> {
 
 impl<I: IntoIterator> IntoIterator for Enumerate<I> {
     ghost use Rattle.std.specs.Prelude.{◌≡◌};
-    ghost use Rattle.std.specs.Iterator.Adapters.{enumerate_source, enumerate_count};
-    ghost use Rattle.ne_iter.specs.Parts.{source_of_enumerate};
+    ghost use Rattle.std.specs.Iterator.Adapters.{enumerate_source as std_enumerate_source};
+    ghost use Rattle.std.specs.Iterator.Adapters.{enumerate_count};
+    ghost use Rattle.ne_iter.specs.Parts.{enumerate_source};
 
     type Item = (usize, I::Item);
 
     type IntoIter = iter::Enumerate<I::IntoIter>;
 
     ghost into_iter_gives = { λ s it.
-        I.into_iter_gives (source_of_enumerate s) (enumerate_source it) × (enumerate_count it ≡ 0) };
+        I.into_iter_gives (enumerate_source s) (std_enumerate_source it)
+        × (enumerate_count it ≡ 0) };
 
     fn into_iter(self) -> iter::Enumerate<I::IntoIter> {
         self.iter.into_iter().enumerate()
@@ -61,10 +65,11 @@ impl<I: IntoIterator> IntoIterator for Enumerate<I> {
 }
 
 impl<I: NonEmptyIterator> NonEmptyIterator for Enumerate<I> {
-    ghost use Rattle.std.specs.Iterator.Adapters.{enumerate_source};
-    ghost use Rattle.ne_iter.specs.Parts.{source_of_enumerate};
+    ghost use Rattle.std.specs.Iterator.Adapters.{enumerate_source as std_enumerate_source};
+    ghost use Rattle.ne_iter.specs.Parts.{enumerate_source};
 
-    ghost not_empty = { λ s it made t ended. I.not_empty (source_of_enumerate s) (enumerate_source it) made.0 (enumerate_source t) ended.0 };
+    ghost not_empty = { λ s it made t ended. I.not_empty (enumerate_source s)
+        (std_enumerate_source it) made.0 (std_enumerate_source t) ended.0 };
 }
 
 /// The first items of a source: see [`NonEmptyIterator::take`].
@@ -76,15 +81,16 @@ pub struct Take<I> {
 
 impl<I: IntoIterator> IntoIterator for Take<I> {
     ghost use Rattle.std.specs.Prelude.{◌≡◌, ◌<◌};
-    ghost use Rattle.std.specs.Iterator.Adapters.{take_source, take_count};
-    ghost use Rattle.ne_iter.specs.Parts.{source_of_take, count_of_take};
+    ghost use Rattle.std.specs.Iterator.Adapters.{take_source as std_take_source};
+    ghost use Rattle.std.specs.Iterator.Adapters.{take_count as std_take_count};
+    ghost use Rattle.ne_iter.specs.Parts.{take_source, take_count};
 
     type Item = I::Item;
 
     type IntoIter = iter::Take<I::IntoIter>;
 
-    ghost into_iter_gives = { λ s it. I.into_iter_gives (source_of_take s) (take_source it)
-        × (take_count it ≡ count_of_take s) };
+    ghost into_iter_gives = { λ s it. I.into_iter_gives (take_source s) (std_take_source it)
+        × (std_take_count it ≡ take_count s) };
 
     fn into_iter(self) -> iter::Take<I::IntoIter> {
         self.iter.into_iter().take(self.n.get())
@@ -92,11 +98,13 @@ impl<I: IntoIterator> IntoIterator for Take<I> {
 }
 
 impl<I: NonEmptyIterator> NonEmptyIterator for Take<I> {
-    ghost use Rattle.std.specs.Iterator.Adapters.{take_source};
+    ghost use Rattle.std.specs.Iterator.Adapters.{take_source as std_take_source};
     ghost use Rattle.std.proofs.Common.{rules};
-    ghost use Rattle.ne_iter.specs.Parts.{source_of_take};
+    ghost use Rattle.ne_iter.specs.Parts.{take_source};
 
-    ghost not_empty = { λ s it made t ended. I.not_empty (source_of_take s) (take_source it) made.0 (take_source t) (ended (let some = s.n.ok in let count = made.1 in Prim.search rules)) };
+    ghost not_empty = { λ s it made t ended. I.not_empty (take_source s) (std_take_source it) made.0
+        (std_take_source t) (ended (let some = s.n.ok in let count = made.1 in
+        Prim.search rules)) };
 }
 
 /// The items of a source and then those of another: see [`NonEmptyIterator::chain`].
@@ -108,19 +116,21 @@ pub struct Chain<A, B> {
 
 impl<A: IntoIterator, B: IntoIterator<Item = A::Item>> IntoIterator for Chain<A, B> {
     ghost use Rattle.std.specs.Prelude.{◌≡◌, false};
-    ghost use Rattle.std.specs.Iterator.Adapters.{chain_first, chain_second, chain_first_done, chain_second_done};
+    ghost use Rattle.std.specs.Iterator.Adapters.{chain_first as std_chain_first};
+    ghost use Rattle.std.specs.Iterator.Adapters.{chain_second as std_chain_second};
+    ghost use Rattle.std.specs.Iterator.Adapters.{chain_first_done, chain_second_done};
     ghost use Rattle.ne_iter.specs.SourceRuns.{ChainsRuns};
-    ghost use Rattle.ne_iter.specs.Parts.{first_of_chain, second_of_chain};
+    ghost use Rattle.ne_iter.specs.Parts.{chain_first, chain_second};
 
     type Item = A::Item;
 
     type IntoIter = iter::Chain<A::IntoIter, B::IntoIter>;
 
-    ghost into_iter_gives = { λ s it. A.into_iter_gives (first_of_chain s) (chain_first it)
-        × B.into_iter_gives (second_of_chain s) (chain_second it) × (chain_first_done it ≡ false)
+    ghost into_iter_gives = { λ s it. A.into_iter_gives (chain_first s) (std_chain_first it)
+        × B.into_iter_gives (chain_second s) (std_chain_second it) × (chain_first_done it ≡ false)
         × (chain_second_done it ≡ false)
         × ChainsRuns A.IntoIter.next_gives B.IntoIter.next_gives
-        (chain_first it) (chain_second it) it };
+        (std_chain_first it) (std_chain_second it) it };
 
     fn into_iter(self) -> iter::Chain<A::IntoIter, B::IntoIter> {
         self.a.into_iter().chain(self.b)
@@ -128,11 +138,12 @@ impl<A: IntoIterator, B: IntoIterator<Item = A::Item>> IntoIterator for Chain<A,
 }
 
 impl<A: NonEmptyIterator, B: IntoIterator<Item = A::Item>> NonEmptyIterator for Chain<A, B> {
-    ghost use Rattle.std.specs.Iterator.Adapters.{chain_first};
-    ghost use Rattle.ne_iter.specs.Parts.{first_of_chain};
+    ghost use Rattle.std.specs.Iterator.Adapters.{chain_first as std_chain_first};
+    ghost use Rattle.ne_iter.specs.Parts.{chain_first};
     ghost use Rattle.ne_iter.specs.SourceLaws.{HasFirst-chain};
 
-    ghost not_empty = { λ s it made. HasFirst-chain A.IntoIter.next_gives B.IntoIter.next_gives it made.2 (A.not_empty (first_of_chain s) (chain_first it) made.0) };
+    ghost not_empty = { λ s it made. HasFirst-chain A.IntoIter.next_gives B.IntoIter.next_gives it
+        made.2 (A.not_empty (chain_first s) (std_chain_first it) made.0) };
 }
 
 /// A source of one item: see [`once`](super::once).
@@ -143,14 +154,14 @@ pub struct Once<T> {
 
 impl<T: Drop> IntoIterator for Once<T> {
     ghost use Rattle.std.specs.Prelude.{◌≡◌, Some};
-    ghost use Rattle.std.specs.Iterator.Adapters.{once_item, OnceYieldsItsItem};
-    ghost use Rattle.ne_iter.specs.Parts.{item_of_once};
+    ghost use Rattle.std.specs.Iterator.Adapters.{once_item as std_once_item, OnceYieldsItsItem};
+    ghost use Rattle.ne_iter.specs.Parts.{once_item};
 
     type Item = T;
 
     type IntoIter = iter::Once<T>;
 
-    ghost into_iter_gives = { λ s it. (once_item it ≡ Some (item_of_once s))
+    ghost into_iter_gives = { λ s it. (std_once_item it ≡ Some (once_item s))
         × OnceYieldsItsItem T };
 
     fn into_iter(self) -> iter::Once<T> {
@@ -160,9 +171,9 @@ impl<T: Drop> IntoIterator for Once<T> {
 
 impl<T: Drop> NonEmptyIterator for Once<T> {
     ghost use Rattle.ne_iter.specs.SourceLaws.{HasFirst-once};
-    ghost use Rattle.ne_iter.specs.Parts.{item_of_once};
+    ghost use Rattle.ne_iter.specs.Parts.{once_item};
 
-    ghost not_empty = { λ s it made. HasFirst-once it (item_of_once s) made.0 };
+    ghost not_empty = { λ s it made. HasFirst-once it (once_item s) made.0 };
 }
 
 /// Pairs of an item of one source and an item of another: see [`NonEmptyIterator::zip`].
@@ -176,15 +187,16 @@ impl<A: IntoIterator, B: IntoNonEmptyIterator> IntoIterator for Zip<A, B>
 where
     A::Item: Drop,
 {
-    ghost use Rattle.std.specs.Iterator.Adapters.{zip_first, zip_second};
-    ghost use Rattle.ne_iter.specs.Parts.{first_of_zip, second_of_zip};
+    ghost use Rattle.std.specs.Iterator.Adapters.{zip_first as std_zip_first};
+    ghost use Rattle.std.specs.Iterator.Adapters.{zip_second as std_zip_second};
+    ghost use Rattle.ne_iter.specs.Parts.{zip_first, zip_second};
 
     type Item = (A::Item, B::Item);
 
     type IntoIter = iter::Zip<A::IntoIter, B::IntoIter>;
 
-    ghost into_iter_gives = { λ s it. A.into_iter_gives (first_of_zip s) (zip_first it)
-        × B.into_iter_gives (second_of_zip s) (zip_second it) };
+    ghost into_iter_gives = { λ s it. A.into_iter_gives (zip_first s) (std_zip_first it)
+        × B.into_iter_gives (zip_second s) (std_zip_second it) };
 
     fn into_iter(self) -> iter::Zip<A::IntoIter, B::IntoIter> {
         self.a.into_iter().zip(self.b)
@@ -195,9 +207,14 @@ impl<A: NonEmptyIterator, B: IntoNonEmptyIterator> NonEmptyIterator for Zip<A, B
 where
     A::Item: Drop,
 {
-    ghost use Rattle.std.specs.Iterator.Adapters.{zip_first, zip_second};
-    ghost use Rattle.ne_iter.specs.Parts.{first_of_zip, second_of_zip};
+    ghost use Rattle.std.specs.Iterator.Adapters.{zip_first as std_zip_first};
+    ghost use Rattle.std.specs.Iterator.Adapters.{zip_second as std_zip_second};
+    ghost use Rattle.ne_iter.specs.Parts.{zip_first, zip_second};
     ghost use Rattle.ne_iter.specs.SourceLaws.{HasFirst-zip, IsNonEmpty-into};
 
-    ghost not_empty = { λ s it made. HasFirst-zip A.IntoIter.next_gives B.IntoIter.next_gives it (A.not_empty (first_of_zip s) (zip_first it) made.0) (IsNonEmpty-into B.into_iter_gives B.IntoIter.next_gives B.into_nonempty_iter_gives B.IntoNEIter.into_iter_gives B.IntoNEIter.IntoIter.next_gives B.same_lists B.IntoNEIter.not_empty (second_of_zip s) (zip_second it) made.1) };
+    ghost not_empty = { λ s it made. HasFirst-zip A.IntoIter.next_gives B.IntoIter.next_gives it
+        (A.not_empty (zip_first s) (std_zip_first it) made.0)
+        (IsNonEmpty-into B.into_iter_gives B.IntoIter.next_gives B.into_nonempty_iter_gives
+        B.IntoNEIter.into_iter_gives B.IntoNEIter.IntoIter.next_gives B.same_lists
+        B.IntoNEIter.not_empty (zip_second s) (std_zip_second it) made.1) };
 }

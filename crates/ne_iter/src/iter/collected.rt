@@ -1,5 +1,5 @@
-//! Collecting into the standard library's types: here into nothing, vectors and results; into texts and paths in `texts`, into maps
-//! and sets in `keys`.
+//! Collecting into the standard library's types: here into nothing, vectors and results; into texts
+//! and paths in `texts`, into maps and sets in `keys`.
 ghost use Rattle.std.specs.Result.{is_ok};
 ghost use Rattle.ne_iter.specs.Collected.{ResultsMake};
 

@@ -11,13 +11,13 @@ pub struct Cloned<I> {
 }
 
 impl<'a, T: Clone + 'a, I: IntoIterator<Item = &'a T>> IntoIterator for Cloned<I> {
-    ghost use Rattle.ne_iter.specs.Parts.{source_of_cloned, iterator_of_cloned};
+    ghost use Rattle.ne_iter.specs.Parts.{cloned_source, cloned_iterator};
 
     type Item = Result<T, AllocError>;
 
     type IntoIter = ClonedIter<I::IntoIter>;
 
-    ghost into_iter_gives = { λ s it. I.into_iter_gives (source_of_cloned s) (iterator_of_cloned it) };
+    ghost into_iter_gives = { λ s it. I.into_iter_gives (cloned_source s) (cloned_iterator it) };
 
     fn into_iter(self) -> ClonedIter<I::IntoIter> {
         ClonedIter {
@@ -27,14 +27,18 @@ impl<'a, T: Clone + 'a, I: IntoIterator<Item = &'a T>> IntoIterator for Cloned<I
 }
 
 impl<'a, T: Clone + 'a, I: NonEmptyIterator<Item = &'a T>> NonEmptyIterator for Cloned<I> {
-    ghost use Rattle.ne_iter.specs.Parts.{source_of_cloned, iterator_of_cloned};
+    ghost use Rattle.ne_iter.specs.Parts.{cloned_source, cloned_iterator};
     ghost use Rattle.ne_iter.specs.Clones.{TriesClone};
     ghost use Rattle.ne_iter.specs.SourceLaws.{none_cloned};
 
-    ghost not_empty = { λ s it made t ended. I.not_empty (source_of_cloned s) (iterator_of_cloned it) made (iterator_of_cloned t) (none_cloned I.IntoIter.next_gives _ (TriesClone T.is_clone T.is_infallible) (iterator_of_cloned it) (iterator_of_cloned t) ended.0 ended.1 ended.2) };
+    ghost not_empty = { λ s it made t ended. I.not_empty (cloned_source s) (cloned_iterator it) made
+        (cloned_iterator t) (none_cloned I.IntoIter.next_gives _
+        (TriesClone T.is_clone T.is_infallible) (cloned_iterator it) (cloned_iterator t) ended.0
+        ended.1 ended.2) };
 }
 
-/// The iterator of a [`Cloned`]: for each reference a clone of what it shows, or an `Err` where that clone was refused.
+/// The iterator of a [`Cloned`]: for each reference a clone of what it shows, or an `Err` where
+/// that clone was refused.
 ///
 /// The Rust crate has std's `Cloned` here, whose clones cannot be refused.
 #[derive(Drop)]
@@ -43,16 +47,17 @@ pub struct ClonedIter<I> {
 }
 
 impl<'a, T: Clone + 'a, I: Iterator<Item = &'a T>> Iterator for ClonedIter<I> {
-    ghost use Rattle.ne_iter.specs.Parts.{iterator_of_cloned};
+    ghost use Rattle.ne_iter.specs.Parts.{cloned_iterator};
     ghost use Rattle.ne_iter.specs.Clones.{ClonesNext, TriesClone};
 
     type Item = Result<T, AllocError>;
 
-    ghost can_next = { λ s. I.can_next (iterator_of_cloned s) };
+    ghost can_next = { λ s. I.can_next (cloned_iterator s) };
 
-    ghost next_gives = { λ s r t. ClonesNext I.next_gives (TriesClone T.is_clone T.is_infallible) (iterator_of_cloned s) r (iterator_of_cloned t) };
+    ghost next_gives = { λ s r t. ClonesNext I.next_gives (TriesClone T.is_clone T.is_infallible)
+        (cloned_iterator s) r (cloned_iterator t) };
 
-    ghost remaining = { λ s. I.remaining (iterator_of_cloned s) };
+    ghost remaining = { λ s. I.remaining (cloned_iterator s) };
 
     fn next(&mut self) -> Option<Result<T, AllocError>> {
         match self.iter.next() {
@@ -73,14 +78,14 @@ pub struct Copied<I> {
 }
 
 impl<'a, T: Copy + 'a, I: IntoIterator<Item = &'a T>> IntoIterator for Copied<I> {
-    ghost use Rattle.std.specs.Iterator.Adapters.{copied_source};
-    ghost use Rattle.ne_iter.specs.Parts.{source_of_copied};
+    ghost use Rattle.std.specs.Iterator.Adapters.{copied_source as std_copied_source};
+    ghost use Rattle.ne_iter.specs.Parts.{copied_source};
 
     type Item = T;
 
     type IntoIter = iter::Copied<I::IntoIter>;
 
-    ghost into_iter_gives = { λ s it. I.into_iter_gives (source_of_copied s) (copied_source it) };
+    ghost into_iter_gives = { λ s it. I.into_iter_gives (copied_source s) (std_copied_source it) };
 
     fn into_iter(self) -> iter::Copied<I::IntoIter> {
         self.iter.into_iter().copied()
@@ -88,12 +93,12 @@ impl<'a, T: Copy + 'a, I: IntoIterator<Item = &'a T>> IntoIterator for Copied<I>
 }
 
 impl<'a, T: Copy + 'a, I: NonEmptyIterator<Item = &'a T>> NonEmptyIterator for Copied<I> {
-    ghost use Rattle.std.specs.Iterator.Adapters.{copied_source};
-    ghost use Rattle.ne_iter.specs.Parts.{source_of_copied};
+    ghost use Rattle.std.specs.Iterator.Adapters.{copied_source as std_copied_source};
+    ghost use Rattle.ne_iter.specs.Parts.{copied_source};
     ghost use Rattle.ne_iter.specs.SourceLaws.{none_copied};
 
     ghost not_empty = { λ s it made t ended.
-        I.not_empty (source_of_copied s) (copied_source it) made (copied_source t)
-        (none_copied I.IntoIter.next_gives (copied_source it) (copied_source t)
+        I.not_empty (copied_source s) (std_copied_source it) made (std_copied_source t)
+        (none_copied I.IntoIter.next_gives (std_copied_source it) (std_copied_source t)
         ended.0 ended.1 ended.2) };
 }

@@ -5,7 +5,8 @@ use super::{IntoNonEmptyIterator, NonEmptyIterator};
 use std::iter;
 use std::marker::PhantomData;
 
-/// The items of what a closure answers at each item of a source: see [`NonEmptyIterator::flat_map`].
+/// The items of what a closure answers at each item of a source: see
+/// [`NonEmptyIterator::flat_map`].
 #[derive(Drop)]
 pub struct FlatMap<I, U, F> {
     pub(super) iter: I,
@@ -16,8 +17,11 @@ pub struct FlatMap<I, U, F> {
 impl<U: IntoNonEmptyIterator, I: IntoIterator, F: FnMut(I::Item) -> U> IntoIterator
     for FlatMap<I, U, F> {
     ghost use Rattle.std.specs.Prelude.{◌≡◌, None, false};
-    ghost use Rattle.std.specs.Iterator.Adapters.{map_source, map_callee, flatten_source, flatten_front, flatten_back, flatten_done};
-    ghost use Rattle.ne_iter.specs.Parts.{source_of_flat_map, closure_of_flat_map};
+    ghost use Rattle.std.specs.Iterator.Adapters.{map_source as std_map_source};
+    ghost use Rattle.std.specs.Iterator.Adapters.{map_callee as std_map_callee};
+    ghost use Rattle.std.specs.Iterator.Adapters.{flatten_source as std_flatten_source};
+    ghost use Rattle.std.specs.Iterator.Adapters.{flatten_front, flatten_back, flatten_done};
+    ghost use Rattle.ne_iter.specs.Parts.{flat_map_source, flat_map_callee};
     ghost use Rattle.ne_iter.specs.SourceRuns.{FlatMapsRuns};
 
     type Item = U::Item;
@@ -25,11 +29,11 @@ impl<U: IntoNonEmptyIterator, I: IntoIterator, F: FnMut(I::Item) -> U> IntoItera
     type IntoIter = iter::FlatMap<I::IntoIter, U, F>;
 
     ghost into_iter_gives = { λ s it.
-        I.into_iter_gives (source_of_flat_map s) (map_source (flatten_source it))
-        × (map_callee (flatten_source it) ≡ closure_of_flat_map s) × (flatten_front it ≡ None)
+        I.into_iter_gives (flat_map_source s) (std_map_source (std_flatten_source it))
+        × (std_map_callee (std_flatten_source it) ≡ flat_map_callee s) × (flatten_front it ≡ None)
         × (flatten_back it ≡ None) × (flatten_done it ≡ false)
         × FlatMapsRuns I.IntoIter.next_gives U.into_iter_gives U.IntoIter.next_gives F.FnMut
-        (closure_of_flat_map s) (map_source (flatten_source it)) it };
+        (flat_map_callee s) (std_map_source (std_flatten_source it)) it };
 
     fn into_iter(self) -> iter::FlatMap<I::IntoIter, U, F> {
         self.iter.into_iter().flat_map(self.f)
@@ -38,11 +42,18 @@ impl<U: IntoNonEmptyIterator, I: IntoIterator, F: FnMut(I::Item) -> U> IntoItera
 
 impl<U: IntoNonEmptyIterator, I: NonEmptyIterator, F: FnMut(I::Item) -> U> NonEmptyIterator
     for FlatMap<I, U, F> {
-    ghost use Rattle.std.specs.Iterator.Adapters.{map_source, flatten_source};
-    ghost use Rattle.ne_iter.specs.Parts.{source_of_flat_map};
+    ghost use Rattle.std.specs.Iterator.Adapters.{map_source as std_map_source};
+    ghost use Rattle.std.specs.Iterator.Adapters.{flatten_source as std_flatten_source};
+    ghost use Rattle.ne_iter.specs.Parts.{flat_map_source};
     ghost use Rattle.ne_iter.specs.SourceLaws.{HasFirst-flatten, IsNonEmpty-into};
 
-    ghost not_empty = { λ s it made. HasFirst-flatten (⟦<iter::Map<I::IntoIter, F> as Iterator>⟧.next_gives) U.into_iter_gives U.IntoIter.next_gives it made.2 made.4 (λ t ended. I.not_empty (source_of_flat_map s) (map_source (flatten_source it)) made.0 (map_source t) ended.0) (IsNonEmpty-into U.into_iter_gives U.IntoIter.next_gives U.into_nonempty_iter_gives U.IntoNEIter.into_iter_gives U.IntoNEIter.IntoIter.next_gives U.same_lists U.IntoNEIter.not_empty) };
+    ghost not_empty = { λ s it made. HasFirst-flatten
+        (⟦<iter::Map<I::IntoIter, F> as Iterator>⟧.next_gives) U.into_iter_gives
+        U.IntoIter.next_gives it made.2 made.4
+        (λ t ended. I.not_empty (flat_map_source s) (std_map_source (std_flatten_source it)) made.0
+        (std_map_source t) ended.0) (IsNonEmpty-into U.into_iter_gives U.IntoIter.next_gives
+        U.into_nonempty_iter_gives U.IntoNEIter.into_iter_gives U.IntoNEIter.IntoIter.next_gives
+        U.same_lists U.IntoNEIter.not_empty) };
 }
 
 /// The items of a source's items, which are sources: see [`NonEmptyIterator::flatten`].
@@ -53,15 +64,16 @@ pub struct Flatten<I> {
 
 impl<U: IntoNonEmptyIterator, I: IntoIterator<Item = U>> IntoIterator for Flatten<I> {
     ghost use Rattle.std.specs.Prelude.{◌≡◌, None, false};
-    ghost use Rattle.std.specs.Iterator.Adapters.{flatten_source, flatten_front};
+    ghost use Rattle.std.specs.Iterator.Adapters.{flatten_source as std_flatten_source};
+    ghost use Rattle.std.specs.Iterator.Adapters.{flatten_front};
     ghost use Rattle.std.specs.Iterator.Adapters.{flatten_back, flatten_done};
-    ghost use Rattle.ne_iter.specs.Parts.{source_of_flatten};
+    ghost use Rattle.ne_iter.specs.Parts.{flatten_source};
 
     type Item = U::Item;
 
     type IntoIter = iter::Flatten<I::IntoIter, U::IntoIter>;
 
-    ghost into_iter_gives = { λ s it. I.into_iter_gives (source_of_flatten s) (flatten_source it)
+    ghost into_iter_gives = { λ s it. I.into_iter_gives (flatten_source s) (std_flatten_source it)
         × (flatten_front it ≡ None) × (flatten_back it ≡ None) × (flatten_done it ≡ false) };
 
     fn into_iter(self) -> iter::Flatten<I::IntoIter, U::IntoIter> {
@@ -70,14 +82,14 @@ impl<U: IntoNonEmptyIterator, I: IntoIterator<Item = U>> IntoIterator for Flatte
 }
 
 impl<U: IntoNonEmptyIterator, I: NonEmptyIterator<Item = U>> NonEmptyIterator for Flatten<I> {
-    ghost use Rattle.std.specs.Iterator.Adapters.{flatten_source};
-    ghost use Rattle.ne_iter.specs.Parts.{source_of_flatten};
+    ghost use Rattle.std.specs.Iterator.Adapters.{flatten_source as std_flatten_source};
+    ghost use Rattle.ne_iter.specs.Parts.{flatten_source};
     ghost use Rattle.ne_iter.specs.SourceLaws.{HasFirst-flatten, IsNonEmpty-into};
 
     ghost not_empty = { λ s it made.
         HasFirst-flatten I.IntoIter.next_gives U.into_iter_gives U.IntoIter.next_gives it
         made.1 made.3
-        (I.not_empty (source_of_flatten s) (flatten_source it) made.0)
+        (I.not_empty (flatten_source s) (std_flatten_source it) made.0)
         (IsNonEmpty-into U.into_iter_gives U.IntoIter.next_gives U.into_nonempty_iter_gives
         U.IntoNEIter.into_iter_gives U.IntoNEIter.IntoIter.next_gives
         U.same_lists U.IntoNEIter.not_empty) };

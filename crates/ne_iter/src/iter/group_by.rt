@@ -1,6 +1,6 @@
 //! The adapter that divides the items of a source into runs of equal keys.
 ghost use Rattle.std.specs.Iterator.{CallableOnAllAt};
-ghost use Rattle.ne_iter.specs.Reader.{CanRead, GivesRun, GroupsRuns, runs_left};
+ghost use Rattle.ne_iter.specs.GroupingRuns.{CanRead, GivesRun, GroupsRuns, runs_left};
 
 use super::NonEmptyIterator;
 use crate::laws::runs_by_a_function;
@@ -23,15 +23,15 @@ where
     I::Item: Drop,
 {
     ghost use Rattle.std.specs.Prelude.{◌≡◌};
-    ghost use Rattle.ne_iter.specs.Reading.{Unread};
-    ghost use Rattle.ne_iter.specs.Parts.{source_of_group_by, closure_of_group_by};
+    ghost use Rattle.ne_iter.specs.Grouping.{Unread};
+    ghost use Rattle.ne_iter.specs.Parts.{group_by_source, group_by_callee};
 
     type Item = Result<NEVec<I::Item>, AllocError>;
 
     type IntoIter = GroupBy<I::IntoIter, K, I::Item, F>;
 
-    ghost into_iter_gives = { λ s g. I.into_iter_gives (source_of_group_by s) g.source
-        × (g.closure ≡ closure_of_group_by s) × (g.ahead ≡ Unread)
+    ghost into_iter_gives = { λ s g. I.into_iter_gives (group_by_source s) g.source
+        × (g.closure ≡ group_by_callee s) × (g.ahead ≡ Unread)
         × GroupsRuns I.IntoIter.next_gives F.FnMut K.eq g };
 
     fn into_iter(self) -> GroupBy<I::IntoIter, K, I::Item, F> {
@@ -50,17 +50,19 @@ impl<I: NonEmptyIterator, K: PartialEq + Drop, F: FnMut(&I::Item) -> K + Drop> N
 where
     I::Item: Drop,
 {
-    ghost use Rattle.ne_iter.specs.Parts.{source_of_group_by};
-    ghost use Rattle.ne_iter.specs.ReaderLaws.{HasFirst-grouped};
+    ghost use Rattle.ne_iter.specs.Parts.{group_by_source};
+    ghost use Rattle.ne_iter.specs.GroupingLaws.{HasFirst-grouped};
 
-    ghost not_empty = { λ s g made. HasFirst-grouped I.IntoIter.next_gives F.FnMut K.eq g made.2 (I.not_empty (source_of_group_by s) g.source made.0) };
+    ghost not_empty = { λ s g made. HasFirst-grouped I.IntoIter.next_gives F.FnMut K.eq g made.2
+        (I.not_empty (group_by_source s) g.source made.0) };
 }
 
-/// The iterator of a [`NEGroupBy`]: one run after the other, each a vector in `Ok`, or an `Err` where there was no memory for a run; what
-/// it has drawn and not given is then dropped. After an `Err` it answers `None`, and draws nothing more.
+/// The iterator of a [`NEGroupBy`]: one run after the other, each a vector in `Ok`, or an `Err`
+/// where there was no memory for a run; what it has drawn and not given is then dropped. After an
+/// `Err` it answers `None`, and draws nothing more.
 ///
-/// Between two calls a contract sees its source, its closure, and what is ahead: nothing was drawn yet, or one item is held with its
-/// key, or no more will come.
+/// Between two calls a contract sees its source, its closure, and what is ahead: nothing was drawn
+/// yet, or one item is held with its key, or no more will come.
 #[derive(Drop)]
 pub struct GroupBy<I, K, V, F> {
     iter: I,
@@ -79,10 +81,10 @@ enum State<K, V> {
 }
 
 impl<I, K, V, F> Model for GroupBy<I, K, V, F> {
-    ghost use Rattle.ne_iter.specs.Reading.{Reading};
+    ghost use Rattle.ne_iter.specs.Grouping.{Grouping};
     ghost use Rattle.ne_iter.specs.HeldItems.{ahead_of};
 
-    ghost Value = { Reading I K V F };
+    ghost Value = { Grouping I K V F };
 
     ghost view = { λ g. record { source = g.iter; closure = g.key; ahead = ahead_of g.state } };
 }

@@ -20,7 +20,8 @@ where
     I::Item: Clone + Drop,
 {
     ghost use Rattle.std.specs.Prelude.{◌≡◌, Some, false};
-    ghost use Rattle.ne_iter.specs.Parts.{first_of_intersperse, rest_of_intersperse, separator_of_intersperse};
+    ghost use Rattle.ne_iter.specs.Parts.{intersperse_first, intersperse_rest};
+    ghost use Rattle.ne_iter.specs.Parts.{intersperse_separator};
     ghost use Rattle.ne_iter.specs.Interspersed.{
       drawn_from,
       clones_of,
@@ -33,11 +34,11 @@ where
 
     type IntoIter = RawIntersperse<I>;
 
-    ghost into_iter_gives = { λ s it. (in_hand it ≡ Some (first_of_intersperse s))
-        × (drawn_from it ≡ rest_of_intersperse s) × (clones_of it ≡ separator_of_intersperse s)
+    ghost into_iter_gives = { λ s it. (in_hand it ≡ Some (intersperse_first s))
+        × (drawn_from it ≡ intersperse_rest s) × (clones_of it ≡ intersperse_separator s)
         × (is_over it ≡ false)
         × IntersperseRuns I.next_gives I.Item.is_clone I.Item.is_infallible
-        (separator_of_intersperse s) (first_of_intersperse s) (rest_of_intersperse s) it };
+        (intersperse_separator s) (intersperse_first s) (intersperse_rest s) it };
 
     /// In the Rust crate the separator is cloned once more here; it is moved.
     fn into_iter(self) -> RawIntersperse<I> {
@@ -54,18 +55,20 @@ impl<I: Iterator> NonEmptyIterator for Intersperse<I>
 where
     I::Item: Clone + Drop,
 {
-    ghost use Rattle.ne_iter.specs.Parts.{first_of_intersperse};
+    ghost use Rattle.ne_iter.specs.Parts.{intersperse_first};
     ghost use Rattle.ne_iter.specs.Clones.{TriesClone};
-    ghost use Rattle.ne_iter.specs.Interspersed.{HasFirst-interspersed};
+    ghost use Rattle.ne_iter.specs.FirstItemLaws.{HasFirst-interspersed};
 
-    ghost not_empty = { λ s it made. HasFirst-interspersed I.next_gives (TriesClone I.Item.is_clone I.Item.is_infallible) it (first_of_intersperse s) made.0 made.3 };
+    ghost not_empty = { λ s it made. HasFirst-interspersed I.next_gives
+        (TriesClone I.Item.is_clone I.Item.is_infallible) it (intersperse_first s) made.0 made.3 };
 }
 
-/// The iterator of an [`Intersperse`]: each item in `Ok`, and between each two a clone of the separator, or an `Err` where that clone was
-/// refused. After an `Err` it answers `None`, and draws nothing more.
+/// The iterator of an [`Intersperse`]: each item in `Ok`, and between each two a clone of the
+/// separator, or an `Err` where that clone was refused. After an `Err` it answers `None`, and draws
+/// nothing more.
 ///
-/// It draws the item behind a separator before it clones that one. After its end it asks its source again at each `next`. In the Rust
-/// crate the items are plain, as clones cannot be refused there.
+/// It draws the item behind a separator before it clones that one. After its end it asks its source
+/// again at each `next`. In the Rust crate the items are plain, as clones cannot be refused there.
 #[derive(Drop)]
 pub struct RawIntersperse<I: Iterator>
 where
@@ -85,13 +88,15 @@ where
 {
     ghost use Rattle.std.specs.Prelude.{◌≡◌, false};
     ghost use Rattle.ne_iter.specs.Clones.{TriesClone};
-    ghost use Rattle.ne_iter.specs.Interspersed.{drawn_from, is_over, interspersed_left, InterspersesNext};
+    ghost use Rattle.ne_iter.specs.Interspersed.{drawn_from, is_over, interspersed_left};
+    ghost use Rattle.ne_iter.specs.Interspersed.{InterspersesNext};
 
     type Item = Result<I::Item, AllocError>;
 
     ghost can_next = { λ s. is_over s ≡ false → I.can_next (drawn_from s) };
 
-    ghost next_gives = { InterspersesNext I.next_gives (TriesClone I.Item.is_clone I.Item.is_infallible) };
+    ghost next_gives = { InterspersesNext I.next_gives
+        (TriesClone I.Item.is_clone I.Item.is_infallible) };
 
     ghost remaining = { interspersed_left I.remaining };
 

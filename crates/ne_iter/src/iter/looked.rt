@@ -1,13 +1,16 @@
 //! Any iterator, where it has an item.
 ghost use Rattle.std.specs.Prelude.{◌≡◌, Bool, Option, true};
-ghost use Rattle.ne_iter.specs.Looked.{has_looked, LooksWhole, LooksRuns, LooksOn, HasFirst-looked};
+ghost use Rattle.ne_iter.specs.Looked.{has_looked, LooksWhole, LooksRuns, LooksOn};
+ghost use Rattle.ne_iter.specs.FirstItemLaws.{HasFirst-looked};
+ghost use Rattle.ne_iter.specs.SourceLists.{LooksLists, MeetsList};
 ghost use Rattle.std.specs.Iterator.{IsFiniteIterable};
 ghost use Rattle.std.specs.Iterator.Adapters.{peekable_steps};
 
-use super::{NonEmptyIterator, Source};
+use super::{NonEmptyIterator, SourceWords};
 use std::iter;
 
-/// An iterator that can tell whether it has an item in hand. It is for contracts alone, and has no method.
+/// An iterator that can tell whether it has an item in hand. It is for contracts alone, and has no
+/// method.
 pub trait LooksAhead {
     ghost has_looked: { Self → Bool };
 }
@@ -27,13 +30,13 @@ impl<I: Iterator> IntoIterator for NonEmptyIterAdapter<iter::Peekable<I>>
 where
     I::Item: Drop,
 {
-    ghost use Rattle.ne_iter.specs.Parts.{iterator_of_looked};
+    ghost use Rattle.ne_iter.specs.Parts.{looked_iterator};
 
     type Item = I::Item;
 
     type IntoIter = iter::Peekable<I>;
 
-    ghost into_iter_gives = { λ s it. (it ≡ iterator_of_looked s) × (has_looked it ≡ true) };
+    ghost into_iter_gives = { λ s it. (it ≡ looked_iterator s) × (has_looked it ≡ true) };
 
     fn into_iter(self) -> iter::Peekable<I> {
         self.inner
@@ -59,15 +62,18 @@ pub trait IntoIteratorExt {
 
     ghost looks: { Self → Option Self.IntoIter → Type 0 };
 
+    ghost looks_lists: { Self → Option Self.IntoIter → Type 0 };
+
     ghost looks_runs: { Self → Option Self.IntoIter → Type 0 };
 
     ghost looks_on: { Self → Option Self.IntoIter → Type 0 };
 
-    /// Draws the first item, to see whether there is one: `None` exactly where there is none. What it gives has all items, with the
-    /// one that was drawn.
+    /// Draws the first item, to see whether there is one: `None` exactly where there is none. What
+    /// it gives has all items, with the one that was drawn.
     fn try_into_nonempty_iter(self) -> Option<Self::IntoIter>
         requires { can_look self }
         ensures looks { looks self result }
+        ensures looks_lists { looks_lists self result }
         ensures looks_runs { looks_runs self result }
         ensures looks_on { looks_on self result };
 }
@@ -77,7 +83,7 @@ where
     T::Item: Drop,
     T::IntoIter: Drop,
 {
-    ghost use Rattle.ne_iter.specs.Parts.{iterator_of_looked};
+    ghost use Rattle.ne_iter.specs.Parts.{looked_iterator};
 
     type Item = T::Item;
 
@@ -85,12 +91,22 @@ where
 
     ghost can_look = { λ s. (it : T.IntoIter) → T.into_iter_gives s it → T.IntoIter.can_next it };
 
-    ghost looks = { LooksWhole (⟦<T as Source>⟧.reads) (⟦<NonEmptyIterAdapter<iter::Peekable<T::IntoIter>> as Source>⟧.reads) };
+    ghost looks = { LooksWhole (⟦<T as SourceWords>⟧.reads)
+        (⟦<NonEmptyIterAdapter<iter::Peekable<T::IntoIter>> as SourceWords>⟧.reads) };
 
-    ghost looks_runs = { LooksRuns T.into_iter_gives T.IntoIter.next_gives (peekable_steps T.IntoIter.next_gives)
-        iterator_of_looked };
+    ghost looks_lists = { LooksLists (⟦<T as SourceWords>⟧.lists)
+        (MeetsList T.into_iter_gives T.IntoIter.next_gives)
+        (⟦<NonEmptyIterAdapter<iter::Peekable<T::IntoIter>> as SourceWords>⟧.gives_items) };
 
-    ghost looks_on = { LooksOn (IsFiniteIterable T.into_iter_gives T.IntoIter.can_next T.IntoIter.remaining) (IsFiniteIterable (⟦<NonEmptyIterAdapter<iter::Peekable<T::IntoIter>> as IntoIterator>⟧.into_iter_gives) (⟦<iter::Peekable<T::IntoIter> as Iterator>⟧.can_next) (⟦<iter::Peekable<T::IntoIter> as Iterator>⟧.remaining)) };
+    ghost looks_runs = { LooksRuns T.into_iter_gives T.IntoIter.next_gives
+        (peekable_steps T.IntoIter.next_gives)
+        looked_iterator };
+
+    ghost looks_on = { LooksOn (IsFiniteIterable T.into_iter_gives T.IntoIter.can_next
+        T.IntoIter.remaining) (IsFiniteIterable
+        (⟦<NonEmptyIterAdapter<iter::Peekable<T::IntoIter>> as IntoIterator>⟧.into_iter_gives)
+        (⟦<iter::Peekable<T::IntoIter> as Iterator>⟧.can_next)
+        (⟦<iter::Peekable<T::IntoIter> as Iterator>⟧.remaining)) };
 
     fn try_into_nonempty_iter(self) -> Option<NonEmptyIterAdapter<iter::Peekable<T::IntoIter>>> {
         let mut iter = self.into_iter().peekable();

@@ -3,7 +3,8 @@
 use super::NonEmptyIterator;
 use std::iter;
 
-/// A source whose first item was drawn, and can be seen and written: see [`NonEmptyIterator::peekable`].
+/// A source whose first item was drawn, and can be seen and written: see
+/// [`NonEmptyIterator::peekable`].
 #[derive(Drop)]
 pub struct Peekable<I: Iterator>
 where
@@ -43,7 +44,9 @@ where
     I::Item: Drop,
 {
     ghost use Rattle.std.specs.Prelude.{◌≡◌, Some, false};
-    ghost use Rattle.std.specs.Iterator.Adapters.{once_item, chain_first, chain_second, chain_first_done, chain_second_done, once_steps, OnceYieldsItsItem, ChainsRuns};
+    ghost use Rattle.std.specs.Iterator.Adapters.{once_item, chain_first, chain_second};
+    ghost use Rattle.std.specs.Iterator.Adapters.{chain_first_done, chain_second_done, once_steps};
+    ghost use Rattle.std.specs.Iterator.Adapters.{OnceYieldsItsItem, ChainsRuns};
     ghost use Rattle.ne_iter.specs.Peeks.{peekable_first, peekable_rest};
 
     type Item = I::Item;
@@ -68,5 +71,6 @@ where
     ghost use Rattle.ne_iter.specs.Peeks.{peekable_first};
     ghost use Rattle.ne_iter.specs.SourceLaws.{HasFirst-chain, HasFirst-once};
 
-    ghost not_empty = { λ s it made. HasFirst-chain (⟦<iter::Once<I::Item> as Iterator>⟧.next_gives) I.next_gives it made.2 (HasFirst-once (chain_first it) (peekable_first s) made.0) };
+    ghost not_empty = { λ s it made. HasFirst-chain (⟦<iter::Once<I::Item> as Iterator>⟧.next_gives)
+        I.next_gives it made.2 (HasFirst-once (chain_first it) (peekable_first s) made.0) };
 }

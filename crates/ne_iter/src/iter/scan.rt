@@ -13,15 +13,15 @@ pub struct Scan<I, St, F> {
 impl<St: Drop, B, I: IntoIterator, F: FnMut(&mut St, I::Item) -> B> IntoIterator
     for Scan<I, St, F> {
     ghost use Rattle.std.specs.Prelude.{◌≡◌};
-    ghost use Rattle.ne_iter.specs.Parts.{source_of_scan, init_of_scan, closure_of_scan};
+    ghost use Rattle.ne_iter.specs.Parts.{scan_source, scan_init, scan_callee};
     ghost use Rattle.ne_iter.specs.Scanned.{scanned_from, state_of, callee_of};
 
     type Item = B;
 
     type IntoIter = ScanIter<I::IntoIter, St, F>;
 
-    ghost into_iter_gives = { λ s it. I.into_iter_gives (source_of_scan s) (scanned_from it)
-        × (state_of it ≡ init_of_scan s) × (callee_of it ≡ closure_of_scan s) };
+    ghost into_iter_gives = { λ s it. I.into_iter_gives (scan_source s) (scanned_from it)
+        × (state_of it ≡ scan_init s) × (callee_of it ≡ scan_callee s) };
 
     fn into_iter(self) -> ScanIter<I::IntoIter, St, F> {
         ScanIter {
@@ -34,11 +34,11 @@ impl<St: Drop, B, I: IntoIterator, F: FnMut(&mut St, I::Item) -> B> IntoIterator
 
 impl<St: Drop, B, I: NonEmptyIterator, F: FnMut(&mut St, I::Item) -> B> NonEmptyIterator
     for Scan<I, St, F> {
-    ghost use Rattle.ne_iter.specs.Parts.{source_of_scan};
+    ghost use Rattle.ne_iter.specs.Parts.{scan_source};
     ghost use Rattle.ne_iter.specs.Scanned.{scanned_from};
 
     ghost not_empty = { λ s it made t ended.
-        I.not_empty (source_of_scan s) (scanned_from it) made.0 (scanned_from t) ended.0 };
+        I.not_empty (scan_source s) (scanned_from it) made.0 (scanned_from t) ended.0 };
 }
 
 /// The iterator of a [`Scan`]: for each item of its source the answer of the closure, which is lent

@@ -8,7 +8,8 @@ ghost use Rattle.ne_iter.specs.SourceLaws.{SameLists-self};
 use super::NonEmptyIterator;
 use std::alloc::{AllocError, Global};
 
-/// A source by what it may give: every `IntoIterator`. It is for contracts alone, and has no method.
+/// A source by what it may give: every `IntoIterator`. It is for contracts alone, and has no
+/// method.
 ///
 /// `reads whole source xs` says that `source` may give the items `xs` first, and where `whole` is
 /// true may then end. `starts source` says that the first item may be drawn, and `ends source`
@@ -18,7 +19,7 @@ use std::alloc::{AllocError, Global};
 /// and `shows view source xs` the same of what `view` makes of its items. The check's search does
 /// not look into these two; `gives_items` and `gives_shown` say besides what it is told of each run
 /// of the iterator.
-pub trait Source: IntoIterator {
+pub trait SourceWords: IntoIterator {
     ghost reads: { Bool → Self → List Self.Item → Type 0 };
 
     ghost lists: { Self → List Self.Item → Type 0 };
@@ -34,7 +35,7 @@ pub trait Source: IntoIterator {
     ghost ends: { Self → Type 0 };
 }
 
-impl<S: IntoIterator> Source for S {
+impl<S: IntoIterator> SourceWords for S {
     ghost reads = { Reads S.into_iter_gives S.IntoIter.next_gives };
 
     ghost lists = { Lists S.into_iter_gives S.IntoIter.next_gives };
@@ -52,8 +53,9 @@ impl<S: IntoIterator> Source for S {
 
 /// What can be made of one item or more.
 ///
-/// `collected xs c` says that `c` is what the items `xs` make, and `is_complete c` that `c` was made of all items of its source. It is
-/// false where collecting may stop early, as at a first `Err`.
+/// `collected xs c` says that `c` is what the items `xs` make, and `is_complete c` that `c` was
+/// made of all items of its source. It is false where collecting may stop early, as at a first
+/// `Err`.
 pub trait FromNonEmptyIterator<T>: Sized {
     ghost collected: { List T → Self → Type 0 };
 
@@ -66,14 +68,17 @@ pub trait FromNonEmptyIterator<T>: Sized {
         alloc: Global,
         iter: I,
     ) -> Result<Self, AllocError>
-        requires { (source : I.IntoNEIter) → I.into_nonempty_iter_gives iter source → IsFiniteIterable I.IntoNEIter.into_iter_gives I.IntoNEIter.IntoIter.can_next I.IntoNEIter.IntoIter.remaining source }
-        ensures { IfOk result (λ c. (xs : List T) × ⟦<I as Source>⟧.reads (is_complete c) iter xs × collected xs c) };
+        requires { (source : I.IntoNEIter) → I.into_nonempty_iter_gives iter source
+            → IsFiniteIterable I.IntoNEIter.into_iter_gives I.IntoNEIter.IntoIter.can_next
+            I.IntoNEIter.IntoIter.remaining source }
+        ensures { IfOk result (λ c. (xs : List T)
+            × ⟦<I as SourceWords>⟧.reads (is_complete c) iter xs × collected xs c) };
 }
 
 /// What becomes a source that gives at least one item.
 ///
-/// Its law is that such a source, made of a value, may give the same lists as `into_iter` of that value: `same_lists`. A value may
-/// so be handed to what asks for either.
+/// Its law is that such a source, made of a value, may give the same lists as `into_iter` of that
+/// value: `same_lists`. A value may so be handed to what asks for either.
 pub trait IntoNonEmptyIterator: IntoIterator {
     /// The source that it becomes.
     type IntoNEIter: NonEmptyIterator<Item = Self::Item>;
@@ -84,7 +89,9 @@ pub trait IntoNonEmptyIterator: IntoIterator {
     fn into_nonempty_iter(self) -> Self::IntoNEIter
         ensures into_nonempty_iter_gives { into_nonempty_iter_gives self result };
 
-    ghost same_lists: { SameLists Self.into_iter_gives Self.IntoIter.next_gives into_nonempty_iter_gives Self.IntoNEIter.into_iter_gives Self.IntoNEIter.IntoIter.next_gives };
+    ghost same_lists: { SameLists Self.into_iter_gives Self.IntoIter.next_gives
+        into_nonempty_iter_gives Self.IntoNEIter.into_iter_gives
+        Self.IntoNEIter.IntoIter.next_gives };
 }
 
 impl<S: NonEmptyIterator> IntoNonEmptyIterator for S {

@@ -2,20 +2,23 @@
 //!
 //! Each law takes the source, and the closure, by reference, since their types may have no name:
 //! `list_of_map(&source, &f)` and then `source.map(f)`.
-ghost use Rattle.std.specs.Prelude.{◌≡◌, ◌++◌, [], ℕ, Bool, true, List, Option, Result, Ok, length, map, take};
+ghost use Rattle.std.specs.Prelude.{◌≡◌, ◌++◌, [], ℕ, Bool, true, List, Option, Result, Ok, length};
+ghost use Rattle.std.specs.Prelude.{map, take};
 ghost use Rattle.std.specs.Borrow.{Bor};
 ghost use Rattle.std.specs.Iterator.{ActsAs, ActsAsAt};
-ghost use Rattle.std.specs.List.{enumerate_from, flat_map, scan, zip};
+ghost use Rattle.std.specs.List.{All, enumerate_from, flat_map, scan, zip};
 ghost use Rattle.ne_vec.specs.Divisions.{IsDivision, by_first};
 ghost use Rattle.ne_iter.specs.Calls.{ActsAsWithState};
 ghost use Rattle.ne_iter.specs.Clones.{TriesClone};
-ghost use Rattle.ne_iter.specs.Gives.{GivesList, ShowsList, MapGives, EnumerateGives, TakeGives, ChainGives, ZipGives, FlatMapGives, FlattenGives, ScanGives, GroupByGives, CopiedGives, ClonedGives, IntersperseGives};
+ghost use Rattle.ne_iter.specs.Gives.{GivesList, ShowsList, MapGives, EnumerateGives, TakeGives};
+ghost use Rattle.ne_iter.specs.Gives.{ChainGives, ZipGives, FlatMapGives, FlattenGives, ScanGives};
+ghost use Rattle.ne_iter.specs.Gives.{GroupByGives, CopiedGives, ClonedGives, IntersperseGives};
 ghost use Rattle.ne_iter.specs.Peeks.{PeekableGives, with_first, with_head};
-ghost use Rattle.ne_iter.specs.Separated.{separated};
+ghost use Rattle.ne_iter.specs.Interspersed.{interspersed};
 
 use crate::iter::{
     Chain, Cloned, Copied, Enumerate, FlatMap, Flatten, IntoNonEmptyIterator, Map, NEGroupBy,
-    NonEmptyIterator, Peekable, Scan, Source, Take, Zip,
+    NonEmptyIterator, Peekable, Scan, SourceWords, Take, Zip,
 };
 use ne_vec::laws;
 use std::alloc::AllocError;
@@ -24,10 +27,10 @@ use std::alloc::AllocError;
 /// as a function.
 pub fn list_of_map<S: IntoIterator, B, F: FnMut(S::Item) -> B>(source: &S, f: &F)
     ensures { (mapped : _) (h : S.Item → B) (xs : List S.Item)
-        → MapGives (⟦<S as Source>⟧.reads) (⟦<Map<S, F> as Source>⟧.reads) F.FnMut
+        → MapGives (⟦<S as SourceWords>⟧.reads) (⟦<Map<S, F> as SourceWords>⟧.reads) F.FnMut
         source.now f.now mapped
-        → ActsAs F.FnMut f.now h → GivesList (⟦<S as Source>⟧.reads) source.now xs
-        → GivesList (⟦<Map<S, F> as Source>⟧.reads) mapped (map h xs) }
+        → ActsAs F.FnMut f.now h → GivesList (⟦<S as SourceWords>⟧.reads) source.now xs
+        → GivesList (⟦<Map<S, F> as SourceWords>⟧.reads) mapped (map h xs) }
 {}
 
 /// `map` over references gives the function's values at what they show, in order, where its
@@ -37,65 +40,68 @@ pub fn list_of_map_of_references<'a, T: 'a, S: IntoIterator<Item = &'a T>, B, F:
     f: &F,
 )
     ensures { (mapped : _) (h : T → B) (xs : List T)
-        → MapGives (⟦<S as Source>⟧.reads) (⟦<Map<S, F> as Source>⟧.reads) F.FnMut
+        → MapGives (⟦<S as SourceWords>⟧.reads) (⟦<Map<S, F> as SourceWords>⟧.reads) F.FnMut
         source.now f.now mapped
-        → ActsAs F.FnMut f.now (λ x. h x.now) → ShowsList (⟦<S as Source>⟧.reads) source.now xs
-        → GivesList (⟦<Map<S, F> as Source>⟧.reads) mapped (map h xs) }
+        → ActsAs F.FnMut f.now (λ x. h x.now) → ShowsList (⟦<S as SourceWords>⟧.reads) source.now xs
+        → GivesList (⟦<Map<S, F> as SourceWords>⟧.reads) mapped (map h xs) }
 {}
 
 /// `copied` gives what the references of its source show, in order.
 pub fn list_of_copied<'a, T: Copy + 'a, S: IntoIterator<Item = &'a T>>(source: &S)
     ensures { (copied : _) (xs : List T)
-        → CopiedGives (⟦<S as Source>⟧.reads) (⟦<Copied<S> as Source>⟧.reads) source.now copied
-        → ShowsList (⟦<S as Source>⟧.reads) source.now xs
-        → GivesList (⟦<Copied<S> as Source>⟧.reads) copied xs }
+        → CopiedGives (⟦<S as SourceWords>⟧.reads) (⟦<Copied<S> as SourceWords>⟧.reads) source.now
+        copied
+        → ShowsList (⟦<S as SourceWords>⟧.reads) source.now xs
+        → GivesList (⟦<Copied<S> as SourceWords>⟧.reads) copied xs }
 {}
 
 /// `cloned` gives what the references of its source show, each in `Ok`, where no clone can be
 /// refused and each equals its original.
 pub fn list_of_cloned<'a, T: Clone + 'a, S: IntoIterator<Item = &'a T>>(source: &S)
     ensures { (cloned : _) (xs : List T)
-        → ClonedGives (⟦<S as Source>⟧.reads) (TriesClone T.is_clone T.is_infallible)
-        (⟦<Cloned<S> as Source>⟧.reads) source.now cloned
+        → ClonedGives (⟦<S as SourceWords>⟧.reads) (TriesClone T.is_clone T.is_infallible)
+        (⟦<Cloned<S> as SourceWords>⟧.reads) source.now cloned
         → ((x : T) → T.is_infallible x) → ((x y : T) → T.is_clone x y → y ≡ x)
-        → ShowsList (⟦<S as Source>⟧.reads) source.now xs
-        → GivesList (⟦<Cloned<S> as Source>⟧.reads) cloned (map Ok xs) }
+        → ShowsList (⟦<S as SourceWords>⟧.reads) source.now xs
+        → GivesList (⟦<Cloned<S> as SourceWords>⟧.reads) cloned (map Ok xs) }
 {}
 
 /// `enumerate` gives each item of its source with its place before it, from 0.
 pub fn list_of_enumerate<S: IntoIterator>(source: &S)
     ensures { (numbered : _) (xs : List S.Item)
-        → EnumerateGives (⟦<S as Source>⟧.reads) (⟦<Enumerate<S> as Source>⟧.reads)
+        → EnumerateGives (⟦<S as SourceWords>⟧.reads) (⟦<Enumerate<S> as SourceWords>⟧.reads)
         source.now numbered
-        → GivesList (⟦<S as Source>⟧.reads) source.now xs
-        → GivesList (⟦<Enumerate<S> as Source>⟧.reads) numbered (enumerate_from 0 xs) }
+        → GivesList (⟦<S as SourceWords>⟧.reads) source.now xs
+        → GivesList (⟦<Enumerate<S> as SourceWords>⟧.reads) numbered (enumerate_from 0 xs) }
 {}
 
 /// `take` gives the first `n` items of its source, or all where there are no more.
 pub fn list_of_take<S: IntoIterator>(source: &S)
     ensures { (taken : _) (n : ℕ) (xs : List S.Item)
-        → TakeGives (⟦<S as Source>⟧.reads) (⟦<Take<S> as Source>⟧.reads) n source.now taken
-        → GivesList (⟦<S as Source>⟧.reads) source.now xs
-        → GivesList (⟦<Take<S> as Source>⟧.reads) taken (take n xs) }
+        → TakeGives (⟦<S as SourceWords>⟧.reads) (⟦<Take<S> as SourceWords>⟧.reads) n source.now
+        taken
+        → GivesList (⟦<S as SourceWords>⟧.reads) source.now xs
+        → GivesList (⟦<Take<S> as SourceWords>⟧.reads) taken (take n xs) }
 {}
 
 /// `take` over references shows the first `n` items that its source shows.
 pub fn list_of_take_of_references<'a, T: 'a, S: IntoIterator<Item = &'a T>>(source: &S)
     ensures { (taken : _) (n : ℕ) (xs : List T)
-        → TakeGives (⟦<S as Source>⟧.reads) (⟦<Take<S> as Source>⟧.reads) n source.now taken
-        → ShowsList (⟦<S as Source>⟧.reads) source.now xs
-        → ShowsList (⟦<Take<S> as Source>⟧.reads) taken (take n xs) }
+        → TakeGives (⟦<S as SourceWords>⟧.reads) (⟦<Take<S> as SourceWords>⟧.reads) n source.now
+        taken
+        → ShowsList (⟦<S as SourceWords>⟧.reads) source.now xs
+        → ShowsList (⟦<Take<S> as SourceWords>⟧.reads) taken (take n xs) }
 {}
 
 /// `chain` gives the items of its first source, and then those of the second, which may be one of
 /// std's.
 pub fn list_of_chain<S: IntoIterator, U: IntoIterator<Item = S::Item>>(source: &S, other: &U)
     ensures { (chained : _) (xs ys : List S.Item)
-        → ChainGives (⟦<S as Source>⟧.reads) (⟦<U as Source>⟧.reads)
-        (⟦<Chain<S, U> as Source>⟧.reads) source.now other.now chained
-        → GivesList (⟦<S as Source>⟧.reads) source.now xs
-        → GivesList (⟦<U as Source>⟧.reads) other.now ys
-        → GivesList (⟦<Chain<S, U> as Source>⟧.reads) chained (xs ++ ys) }
+        → ChainGives (⟦<S as SourceWords>⟧.reads) (⟦<U as SourceWords>⟧.reads)
+        (⟦<Chain<S, U> as SourceWords>⟧.reads) source.now other.now chained
+        → GivesList (⟦<S as SourceWords>⟧.reads) source.now xs
+        → GivesList (⟦<U as SourceWords>⟧.reads) other.now ys
+        → GivesList (⟦<Chain<S, U> as SourceWords>⟧.reads) chained (xs ++ ys) }
 {}
 
 /// `chain` over references shows what its first source shows, and then what the second does.
@@ -106,11 +112,11 @@ pub fn list_of_chain_of_references<
     U: IntoIterator<Item = &'a T>,
 >(source: &S, other: &U)
     ensures { (chained : _) (xs ys : List T)
-        → ChainGives (⟦<S as Source>⟧.reads) (⟦<U as Source>⟧.reads)
-        (⟦<Chain<S, U> as Source>⟧.reads) source.now other.now chained
-        → ShowsList (⟦<S as Source>⟧.reads) source.now xs
-        → ShowsList (⟦<U as Source>⟧.reads) other.now ys
-        → ShowsList (⟦<Chain<S, U> as Source>⟧.reads) chained (xs ++ ys) }
+        → ChainGives (⟦<S as SourceWords>⟧.reads) (⟦<U as SourceWords>⟧.reads)
+        (⟦<Chain<S, U> as SourceWords>⟧.reads) source.now other.now chained
+        → ShowsList (⟦<S as SourceWords>⟧.reads) source.now xs
+        → ShowsList (⟦<U as SourceWords>⟧.reads) other.now ys
+        → ShowsList (⟦<Chain<S, U> as SourceWords>⟧.reads) chained (xs ++ ys) }
 {}
 
 /// `zip` gives pairs of an item of each source, as many as the shorter one has.
@@ -118,39 +124,38 @@ pub fn list_of_zip<S: IntoIterator, U: IntoNonEmptyIterator>(source: &S, other: 
 where
     S::Item: Drop,
     ensures { (zipped : _) (xs : List S.Item) (ys : List U.Item)
-        → ZipGives (⟦<S as Source>⟧.reads) (⟦<U as Source>⟧.reads)
-        (⟦<Zip<S, U> as Source>⟧.reads) source.now other.now zipped
-        → GivesList (⟦<S as Source>⟧.reads) source.now xs
-        → GivesList (⟦<U as Source>⟧.reads) other.now ys
-        → GivesList (⟦<Zip<S, U> as Source>⟧.reads) zipped (zip xs ys) }
+        → ZipGives (⟦<S as SourceWords>⟧.reads) (⟦<U as SourceWords>⟧.reads)
+        (⟦<Zip<S, U> as SourceWords>⟧.reads) source.now other.now zipped
+        → GivesList (⟦<S as SourceWords>⟧.reads) source.now xs
+        → GivesList (⟦<U as SourceWords>⟧.reads) other.now ys
+        → GivesList (⟦<Zip<S, U> as SourceWords>⟧.reads) zipped (zip xs ys) }
 {}
 
 /// `flat_map` gives the lists of its closure's answers, one after another, where the closure acts
-/// as a function and each answer gives the list that `lists` names.
+/// as a function, and its answer at each item of the source gives the list that `lists` names.
 pub fn list_of_flat_map<S: IntoIterator, U: IntoNonEmptyIterator, F: FnMut(S::Item) -> U>(
     source: &S,
     f: &F,
 )
-    ensures { (spread : _) (h : S.Item → U) (lists : U → List U.Item)
+    ensures { (spread : _) (h : S.Item → U) (lists : S.Item → List U.Item)
         (xs : List S.Item)
-        → FlatMapGives (⟦<S as Source>⟧.reads) (⟦<U as Source>⟧.reads)
-        (⟦<FlatMap<S, U, F> as Source>⟧.reads) F.FnMut source.now f.now spread
+        → FlatMapGives (⟦<S as SourceWords>⟧.reads) (⟦<U as SourceWords>⟧.reads)
+        (⟦<FlatMap<S, U, F> as SourceWords>⟧.reads) F.FnMut source.now f.now spread
         → ActsAs F.FnMut f.now h
-        → ((u : U) → GivesList (⟦<U as Source>⟧.reads) u (lists u))
-        → GivesList (⟦<S as Source>⟧.reads) source.now xs
-        → GivesList (⟦<FlatMap<S, U, F> as Source>⟧.reads) spread
-        (flat_map (λ x. lists (h x)) xs) }
+        → All (λ x. GivesList (⟦<U as SourceWords>⟧.reads) (h x) (lists x)) xs
+        → GivesList (⟦<S as SourceWords>⟧.reads) source.now xs
+        → GivesList (⟦<FlatMap<S, U, F> as SourceWords>⟧.reads) spread (flat_map lists xs) }
 {}
 
-/// `flatten` gives the lists of the items of its source, one after another, where each item gives
-/// the list that `lists` names.
+/// `flatten` gives the lists of the items of its source, one after another, where each of them
+/// gives the list that `lists` names.
 pub fn list_of_flatten<U: IntoNonEmptyIterator, S: IntoIterator<Item = U>>(source: &S)
     ensures { (flat : _) (lists : U → List U.Item) (us : List U)
-        → FlattenGives (⟦<S as Source>⟧.reads) (⟦<U as Source>⟧.reads)
-        (⟦<Flatten<S> as Source>⟧.reads) source.now flat
-        → ((u : U) → GivesList (⟦<U as Source>⟧.reads) u (lists u))
-        → GivesList (⟦<S as Source>⟧.reads) source.now us
-        → GivesList (⟦<Flatten<S> as Source>⟧.reads) flat (flat_map lists us) }
+        → FlattenGives (⟦<S as SourceWords>⟧.reads) (⟦<U as SourceWords>⟧.reads)
+        (⟦<Flatten<S> as SourceWords>⟧.reads) source.now flat
+        → All (λ u. GivesList (⟦<U as SourceWords>⟧.reads) u (lists u)) us
+        → GivesList (⟦<S as SourceWords>⟧.reads) source.now us
+        → GivesList (⟦<Flatten<S> as SourceWords>⟧.reads) flat (flat_map lists us) }
 {}
 
 /// `scan` gives what std's `scan` of lists does, where its closure acts as a function of the state
@@ -161,10 +166,11 @@ pub fn list_of_scan<St: Drop, S: IntoIterator, B, F: FnMut(&mut St, S::Item) -> 
 )
     ensures { (scanned : _) (init : St) (next : St → S.Item → St)
         (out : St → S.Item → B) (xs : List S.Item)
-        → ScanGives (⟦<S as Source>⟧.reads) (⟦<Scan<S, St, F> as Source>⟧.reads)
+        → ScanGives (⟦<S as SourceWords>⟧.reads) (⟦<Scan<S, St, F> as SourceWords>⟧.reads)
         F.FnMut source.now init f.now scanned
-        → ActsAsWithState F.FnMut f.now next out → GivesList (⟦<S as Source>⟧.reads) source.now xs
-        → GivesList (⟦<Scan<S, St, F> as Source>⟧.reads) scanned (scan next out init xs) }
+        → ActsAsWithState F.FnMut f.now next out
+        → GivesList (⟦<S as SourceWords>⟧.reads) source.now xs
+        → GivesList (⟦<Scan<S, St, F> as SourceWords>⟧.reads) scanned (scan next out init xs) }
 {}
 
 /// `peekable` gives the items of its source; and where `w` was written to the first one, the same
@@ -173,15 +179,17 @@ pub fn list_of_peekable<S: IntoIterator>(source: &S)
 where
     S::Item: Drop,
     ensures as_drawn { (peeked : _) (xs : List S.Item)
-        → PeekableGives (⟦<S as Source>⟧.reads) (⟦<Peekable<S::IntoIter> as Source>⟧.reads)
+        → PeekableGives (⟦<S as SourceWords>⟧.reads)
+        (⟦<Peekable<S::IntoIter> as SourceWords>⟧.reads)
         source.now peeked
-        → GivesList (⟦<S as Source>⟧.reads) source.now xs
-        → GivesList (⟦<Peekable<S::IntoIter> as Source>⟧.reads) peeked xs }
+        → GivesList (⟦<S as SourceWords>⟧.reads) source.now xs
+        → GivesList (⟦<Peekable<S::IntoIter> as SourceWords>⟧.reads) peeked xs }
     ensures as_written { (peeked : _) (w : S.Item) (xs : List S.Item)
-        → PeekableGives (⟦<S as Source>⟧.reads) (⟦<Peekable<S::IntoIter> as Source>⟧.reads)
+        → PeekableGives (⟦<S as SourceWords>⟧.reads)
+        (⟦<Peekable<S::IntoIter> as SourceWords>⟧.reads)
         source.now peeked
-        → GivesList (⟦<S as Source>⟧.reads) source.now xs
-        → GivesList (⟦<Peekable<S::IntoIter> as Source>⟧.reads) (with_first peeked w)
+        → GivesList (⟦<S as SourceWords>⟧.reads) source.now xs
+        → GivesList (⟦<Peekable<S::IntoIter> as SourceWords>⟧.reads) (with_first peeked w)
         (with_head w xs) }
 {}
 
@@ -195,13 +203,13 @@ pub fn list_of_intersperse<S: IntoIterator, V: IntoIterator<Item = Result<S::Ite
 where
     S::Item: Clone,
     ensures { (separator : S.Item) (spaced : V) (xs : List S.Item)
-        → IntersperseGives (⟦<S as Source>⟧.reads)
+        → IntersperseGives (⟦<S as SourceWords>⟧.reads)
         (TriesClone S.Item.is_clone S.Item.is_infallible)
-        (⟦<V as Source>⟧.reads) source.now separator spaced
+        (⟦<V as SourceWords>⟧.reads) source.now separator spaced
         → S.Item.is_infallible separator
         → ((y : S.Item) → S.Item.is_clone separator y → y ≡ separator)
-        → GivesList (⟦<S as Source>⟧.reads) source.now xs
-        → GivesList (⟦<V as Source>⟧.reads) spaced (map Ok (separated separator xs)) }
+        → GivesList (⟦<S as SourceWords>⟧.reads) source.now xs
+        → GivesList (⟦<V as SourceWords>⟧.reads) spaced (map Ok (interspersed separator xs)) }
 {}
 
 /// `group_by` gives the first runs of its source's list by the keys, as long as no run is refused,
@@ -214,12 +222,12 @@ pub fn runs_of_group_by<K: PartialEq + Drop, S: IntoIterator, F: FnMut(&S::Item)
 where
     S::Item: Drop,
     ensures { (grouped : _) (h : S.Item → K) (xs : List S.Item)
-        → GroupByGives (⟦<S as Source>⟧.reads) F.FnMut K.eq
-        (⟦<NEGroupBy<S, F> as Source>⟧.reads) source.now f.now grouped
-        → ActsAsAt F.FnMut f.now h → GivesList (⟦<S as Source>⟧.reads) source.now xs
+        → GroupByGives (⟦<S as SourceWords>⟧.reads) F.FnMut K.eq
+        (⟦<NEGroupBy<S, F> as SourceWords>⟧.reads) source.now f.now grouped
+        → ActsAsAt F.FnMut f.now h → GivesList (⟦<S as SourceWords>⟧.reads) source.now xs
         → (all : List (List S.Item)) × IsDivision (by_first (λ x y. K.eq (h x) (h y))) xs all
         × ((whole : Bool) (rs : List (List S.Item))
-        → ⟦<NEGroupBy<S, F> as Source>⟧.reads whole grouped (map Ok rs)
+        → ⟦<NEGroupBy<S, F> as SourceWords>⟧.reads whole grouped (map Ok rs)
         → (more : List (List S.Item)) × (all ≡ rs ++ more) × (whole ≡ true → more ≡ [])) }
 {
     super::runs_by_a_function::<S::Item, K, F>(f);

@@ -2,7 +2,8 @@
 ghost use Rattle.std.specs.Prelude.{◌≡◌, List, map};
 ghost use Rattle.std.specs.Iterator.{ActsAs, ActsAsAt, ActsAsOnTwo, CallableOnAllAt};
 ghost use Rattle.std.specs.List.{All, fold, scan};
-ghost use Rattle.ne_iter.specs.Calls.{Calls, CallsWithState, ActsAsWithState, ShownEach, AnswersEach, AnswersEachAt, Folds};
+ghost use Rattle.ne_iter.specs.Calls.{Calls, CallsWithState, ActsAsWithState, ShownEach};
+ghost use Rattle.ne_iter.specs.Calls.{AnswersEach, AnswersEachAt, Folds};
 ghost use Rattle.ne_iter.specs.Keys.{items_of};
 
 /// A closure that acts as a function answers the function's values, and stays as it is.

@@ -1,10 +1,12 @@
 //! What is collected, and lists with separators.
-ghost use Rattle.std.specs.Prelude.{◌≡◌, ◌+◌, ◌-◌, ◌*◌, ℕ, true, List, [], ◌∷◌, ◌++◌, Option, Some, Result, Ok, Err, is_ok, MatchResult, IsSomeAnd, IfOk, length, map, slice_get};
-ghost use Rattle.std.specs.List.{list_all};
+ghost use Rattle.std.specs.Prelude.{◌≡◌, ◌+◌, ◌-◌, ◌*◌, ℕ, true, List, [], ◌∷◌, ◌++◌, Option, Some};
+ghost use Rattle.std.specs.Prelude.{Result, Ok, Err, is_ok, MatchResult, IsSomeAnd, IfOk, length};
+ghost use Rattle.std.specs.Prelude.{map, slice_get};
+ghost use Rattle.std.specs.List.{flat_map, join_by, list_all};
 ghost use Rattle.ne_iter.specs.Clones.{TriesClone};
-ghost use Rattle.ne_iter.specs.Interspersed.{Interspersed};
+ghost use Rattle.ne_iter.specs.Interspersed.{Interspersed, interspersed};
 
-use crate::iter::{FromNonEmptyIterator, Source};
+use crate::iter::{FromNonEmptyIterator, SourceWords};
 use ne_vec::NEVec;
 use std::alloc::AllocError;
 
@@ -21,9 +23,9 @@ pub fn results_make_a_vector<T: Drop, E: Drop>()
 /// in `Ok`, and ended. What stands before the last arrow is the clause `gives` of `collect`.
 pub fn results_are_read_whole<T: Drop, E: Drop, S: IntoIterator<Item = Result<T, E>>>()
     ensures { (source : S) (result : Result (List T) E)
-        → (items : List (Result T E)) × ⟦<S as Source>⟧.reads (is_ok result) source items
+        → (items : List (Result T E)) × ⟦<S as SourceWords>⟧.reads (is_ok result) source items
         × ⟦<Result<NEVec<T>, E> as FromNonEmptyIterator<Result<T, E>>>⟧.collected items result
-        → IfOk result (λ v. ⟦<S as Source>⟧.reads true source (map Ok v)) }
+        → IfOk result (λ v. ⟦<S as SourceWords>⟧.reads true source (map Ok v)) }
 {
     results_make_a_vector::<T, E>();
 }
@@ -46,4 +48,12 @@ pub fn interspersed_lists_have_their_places<T: Clone>()
         → Interspersed (TriesClone T.is_clone T.is_infallible separator) xs zs
         → (i : ℕ) (refused : AllocError) → slice_get zs i ≡ Some (Err refused)
         → length zs ≡ i + 1 }
+{}
+
+/// Items with a separator between each two, each of which stands for a list as a text for its
+/// bytes: these lists, one after the other, are std's `join` of the items. `f` gives the list of an
+/// item.
+pub fn interspersed_lists_are_joined<T, X>()
+    ensures { (f : T → List X) (separator : T) (xs : List T)
+        → flat_map f (interspersed separator xs) ≡ join_by f (f separator) xs }
 {}

@@ -3,7 +3,7 @@
 ghost use Rattle.std.specs.Prelude.{◌≡◌, ◌≤◌, ℕ, Bool, false, List, [], ◌∷◌};
 ghost use Rattle.std.specs.List.{All, Contains};
 ghost use Rattle.std.specs.Ordering.{nat_cmp};
-ghost use Rattle.ne_iter.specs.Answers.{IsFirstGreatest, IsFirstLeast, less_by};
+ghost use Rattle.ne_iter.specs.Consumers.{IsFirstGreatest, IsFirstLeast, less_by};
 
 /// The first greatest item of a list is one of its items, and less than none of them; the first
 /// least one too, and none of them is less than it.

@@ -1,7 +1,8 @@
 //! The first items of lists, by which a proof goes from what was read so far to a list function.
 //! `AreFirst whole xs us` says that `us` are the first of `xs`, and all of them where `whole` is
 //! true: it is what `GivesList` says of each list that is read.
-ghost use Rattle.std.specs.Prelude.{◌≡◌, ◌≤◌, ◌++◌, ◌||◌, ◌&&◌, ℕ, Bool, true, List, length, ltb, map, take};
+ghost use Rattle.std.specs.Prelude.{◌≡◌, ◌≤◌, ◌++◌, ◌||◌, ◌&&◌, ℕ, Bool, true, List, length, ltb};
+ghost use Rattle.std.specs.Prelude.{map, take};
 ghost use Rattle.std.specs.List.{enumerate_from};
 ghost use Rattle.ne_vec.specs.Fronts.{AreFirst};
 

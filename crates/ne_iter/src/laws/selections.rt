@@ -4,9 +4,10 @@
 ghost use Rattle.std.specs.Prelude.{◌≡◌, ℕ, Bool, List, Option, drop, filter, filter_map};
 ghost use Rattle.std.specs.Iterator.{ActsAs, ActsAsAt};
 ghost use Rattle.std.specs.List.{prefix_len, take_while};
-ghost use Rattle.ne_iter.specs.Gives.{GivesList, FilterGives, FilterMapGives, SkipGives, SkipWhileGives, TakeWhileGives};
+ghost use Rattle.ne_iter.specs.Gives.{GivesList, FilterGives, FilterMapGives, SkipGives};
+ghost use Rattle.ne_iter.specs.Gives.{SkipWhileGives, TakeWhileGives};
 
-use crate::iter::Source;
+use crate::iter::SourceWords;
 use std::iter;
 
 /// `filter` gives the items of its source that pass, in order, where its closure acts as a test.
@@ -14,20 +15,21 @@ pub fn list_of_filter<S: IntoIterator, P: FnMut(&S::Item) -> bool>(source: &S, p
 where
     S::Item: Drop,
     ensures { (kept : _) (test : S.Item → Bool) (xs : List S.Item)
-        → FilterGives (⟦<S as Source>⟧.reads)
-        (⟦<iter::Filter<S::IntoIter, P> as Source>⟧.reads) P.FnMut source.now predicate.now kept
-        → ActsAsAt P.FnMut predicate.now test → GivesList (⟦<S as Source>⟧.reads) source.now xs
-        → GivesList (⟦<iter::Filter<S::IntoIter, P> as Source>⟧.reads) kept (filter test xs) }
+        → FilterGives (⟦<S as SourceWords>⟧.reads)
+        (⟦<iter::Filter<S::IntoIter, P> as SourceWords>⟧.reads) P.FnMut source.now predicate.now
+        kept
+        → ActsAsAt P.FnMut predicate.now test → GivesList (⟦<S as SourceWords>⟧.reads) source.now xs
+        → GivesList (⟦<iter::Filter<S::IntoIter, P> as SourceWords>⟧.reads) kept (filter test xs) }
 {}
 
 /// `filter_map` gives the values among the function's answers at the items of its source, in
 /// order, where its closure acts as a function.
 pub fn list_of_filter_map<S: IntoIterator, B, F: FnMut(S::Item) -> Option<B>>(source: &S, f: &F)
     ensures { (kept : _) (h : S.Item → Option B) (xs : List S.Item)
-        → FilterMapGives (⟦<S as Source>⟧.reads)
-        (⟦<iter::FilterMap<S::IntoIter, F> as Source>⟧.reads) F.FnMut source.now f.now kept
-        → ActsAs F.FnMut f.now h → GivesList (⟦<S as Source>⟧.reads) source.now xs
-        → GivesList (⟦<iter::FilterMap<S::IntoIter, F> as Source>⟧.reads) kept
+        → FilterMapGives (⟦<S as SourceWords>⟧.reads)
+        (⟦<iter::FilterMap<S::IntoIter, F> as SourceWords>⟧.reads) F.FnMut source.now f.now kept
+        → ActsAs F.FnMut f.now h → GivesList (⟦<S as SourceWords>⟧.reads) source.now xs
+        → GivesList (⟦<iter::FilterMap<S::IntoIter, F> as SourceWords>⟧.reads) kept
         (filter_map h xs) }
 {}
 
@@ -36,10 +38,10 @@ pub fn list_of_skip<S: IntoIterator>(source: &S)
 where
     S::Item: Drop,
     ensures { (left : _) (n : ℕ) (xs : List S.Item)
-        → SkipGives (⟦<S as Source>⟧.reads) (⟦<iter::Skip<S::IntoIter> as Source>⟧.reads)
+        → SkipGives (⟦<S as SourceWords>⟧.reads) (⟦<iter::Skip<S::IntoIter> as SourceWords>⟧.reads)
         n source.now left
-        → GivesList (⟦<S as Source>⟧.reads) source.now xs
-        → GivesList (⟦<iter::Skip<S::IntoIter> as Source>⟧.reads) left (drop n xs) }
+        → GivesList (⟦<S as SourceWords>⟧.reads) source.now xs
+        → GivesList (⟦<iter::Skip<S::IntoIter> as SourceWords>⟧.reads) left (drop n xs) }
 {}
 
 /// `skip_while` gives the items of its source from the first one on that does not pass, where its
@@ -48,10 +50,10 @@ pub fn list_of_skip_while<S: IntoIterator, P: FnMut(&S::Item) -> bool>(source: &
 where
     S::Item: Drop,
     ensures { (left : _) (test : S.Item → Bool) (xs : List S.Item)
-        → SkipWhileGives (⟦<S as Source>⟧.reads)
-        (⟦<iter::SkipWhile<S::IntoIter, P> as Source>⟧.reads) P.FnMut source.now pred.now left
-        → ActsAsAt P.FnMut pred.now test → GivesList (⟦<S as Source>⟧.reads) source.now xs
-        → GivesList (⟦<iter::SkipWhile<S::IntoIter, P> as Source>⟧.reads) left
+        → SkipWhileGives (⟦<S as SourceWords>⟧.reads)
+        (⟦<iter::SkipWhile<S::IntoIter, P> as SourceWords>⟧.reads) P.FnMut source.now pred.now left
+        → ActsAsAt P.FnMut pred.now test → GivesList (⟦<S as SourceWords>⟧.reads) source.now xs
+        → GivesList (⟦<iter::SkipWhile<S::IntoIter, P> as SourceWords>⟧.reads) left
         (drop (prefix_len test xs) xs) }
 {}
 
@@ -61,9 +63,9 @@ pub fn list_of_take_while<S: IntoIterator, P: FnMut(&S::Item) -> bool>(source: &
 where
     S::Item: Drop,
     ensures { (taken : _) (test : S.Item → Bool) (xs : List S.Item)
-        → TakeWhileGives (⟦<S as Source>⟧.reads)
-        (⟦<iter::TakeWhile<S::IntoIter, P> as Source>⟧.reads) P.FnMut source.now pred.now taken
-        → ActsAsAt P.FnMut pred.now test → GivesList (⟦<S as Source>⟧.reads) source.now xs
-        → GivesList (⟦<iter::TakeWhile<S::IntoIter, P> as Source>⟧.reads) taken
+        → TakeWhileGives (⟦<S as SourceWords>⟧.reads)
+        (⟦<iter::TakeWhile<S::IntoIter, P> as SourceWords>⟧.reads) P.FnMut source.now pred.now taken
+        → ActsAsAt P.FnMut pred.now test → GivesList (⟦<S as SourceWords>⟧.reads) source.now xs
+        → GivesList (⟦<iter::TakeWhile<S::IntoIter, P> as SourceWords>⟧.reads) taken
         (take_while test xs) }
 {}

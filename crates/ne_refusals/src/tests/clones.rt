@@ -1,4 +1,5 @@
-//! The calls that clone. A clone takes memory of its own, so a later one can be refused when an earlier is made.
+//! The calls that clone. A clone takes memory of its own, so a later one can be refused when an
+//! earlier is made.
 
 use super::tell;
 use nonempty_collections::{IntoNonEmptyIterator, NEVec, NonEmptyIterator};

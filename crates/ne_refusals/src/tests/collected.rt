@@ -1,4 +1,5 @@
-//! Collecting into the standard library's types. What was taken is dropped where more memory is refused.
+//! Collecting into the standard library's types. What was taken is dropped where more memory is
+//! refused.
 
 use super::{Countdown, tell};
 use nonempty_collections::iter::once;

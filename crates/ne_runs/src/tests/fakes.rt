@@ -70,7 +70,8 @@ impl Source for Endless {
     }
 }
 
-/// Takes at most `step` bytes a call, fails at the call `fails_at`, counted from 0, and at the flush where it is told to.
+/// Takes at most `step` bytes a call, fails at the call `fails_at`, counted from 0, and at the
+/// flush where it is told to.
 #[derive(Drop)]
 pub struct Tape {
     pub text: Vec<u8>,
@@ -139,7 +140,8 @@ impl io::Write for Closed {
     }
 }
 
-/// A writer of std that takes all, or fails where it is told to, and counts its flushes, which fail.
+/// A writer of std that takes all, or fails where it is told to, and counts its flushes, which
+/// fail.
 #[derive(Drop)]
 pub struct Clogged {
     pub write_fails: bool,

@@ -1,7 +1,9 @@
 //! What an [`NEVec`] implements: conversions, places, comparisons as a list, printing.
 ghost use Rattle.std.specs.Prelude.{◌≡◌, ◌-◌, ◌<◌, ◌≤◌, [], ◌++◌, length, Some, MatchResult};
 ghost use Rattle.std.specs.Prelude.{slice_get};
-ghost use Rattle.std.specs.Cmp.Lexicographic.{pointwise, slice_cmp, slice_partial_cmp, lists_equiv, lists_agrees, lists_total, lists_ties, lists_po, lists_per};
+ghost use Rattle.std.specs.Cmp.Lexicographic.{pointwise, slice_cmp, slice_partial_cmp, lists_equiv};
+ghost use Rattle.std.specs.Cmp.Lexicographic.{lists_agrees, lists_total, lists_ties, lists_po};
+ghost use Rattle.std.specs.Cmp.Lexicographic.{lists_per};
 ghost use Rattle.std.specs.Hash as fed;
 ghost use Rattle.std.specs.Hash.{items_Alike};
 
@@ -153,7 +155,8 @@ impl<T: Debug> Debug for NEVec<T> {
     }
 }
 
-/// The vector as `try_from_vec` has it, or `Error::Empty`, exactly where `vec` is empty. It takes no memory.
+/// The vector as `try_from_vec` has it, or `Error::Empty`, exactly where `vec` is empty. It takes
+/// no memory.
 impl<T> TryFrom<Vec<T>> for NEVec<T> {
     ghost use Rattle.std.specs.Prelude.{Result};
     ghost use Rattle.ne_vec.specs.declared.Error.{Error};

@@ -1,4 +1,5 @@
-//! The walks over an [`NEVec`], which know that there is an item, and how a vector and they become std's.
+//! The walks over an [`NEVec`], which know that there is an item, and how a vector and they become
+//! std's.
 
 ghost use Rattle.std.specs.Prelude.{◌≡◌, ◌<◌, length, ⊤};
 ghost use Rattle.std.specs.Slice.Iter.{iter_mut_rest};
@@ -48,7 +49,8 @@ impl<'a, T> Clone for Iter<'a, T> {
     }
 }
 
-/// A walk over the items of an [`NEVec`], at least one, for writing. A contract sees std's walk in it, by `std_walk`.
+/// A walk over the items of an [`NEVec`], at least one, for writing. A contract sees std's walk in
+/// it, by `std_walk`.
 #[derive(Drop)]
 pub struct IterMut<'a, T> {
     pub(super) inner: slice::IterMut<'a, T>,

@@ -5,5 +5,6 @@ use Rattle.callers.proofs.lists.joined.Goals as goal
 
 pub returns : goal.returns
 returns g c =
-    fact_from_extend (λ x. x) c.extend.result c.extend.ensures (λ it b. YieldsList-from_vec {s = it} _ b.1 b.2)
+    fact_from_extend (λ x. x) c.extend.result c.extend.ensures
+    (λ it b. YieldsList-from_vec {s = it} _ b.1 b.2)
     (λ xs e h. h ∙ ap (λ ys. c.args.a.now ++ ys) (sym (map-id xs) ∙ e))

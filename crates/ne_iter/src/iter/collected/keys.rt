@@ -1,5 +1,5 @@
-//! Collecting into maps and sets. Keys and items count as the same where `==` says so; which of several equal ones is kept is left
-//! open.
+//! Collecting into maps and sets. Keys and items count as the same where `==` says so; which of
+//! several equal ones is kept is left open.
 ghost use Rattle.std.specs.Prelude.{◌<◌, length};
 ghost use Rattle.std.specs.BTreeMap.{IsOrdered};
 ghost use Rattle.std.specs.BTreeSet.{IsOrdered as AreOrdered};
@@ -25,7 +25,8 @@ impl<K: Eq + Hash + Drop, V: Drop, S: BuildHasher + Default + Drop> FromNonEmpty
 
 /// Each key once, with the value of the last pair that has it; the keys ascend.
 impl<K: Ord + Drop, V: Drop> FromNonEmptyIterator<(K, V)> for BTreeMap<K, V> {
-    ghost collected = { λ xs m. IsMapOf K.eq xs m.entries × IsOrdered K.cmp m × (0 < length m.entries) };
+    ghost collected = { λ xs m. IsMapOf K.eq xs m.entries × IsOrdered K.cmp m
+        × (0 < length m.entries) };
 
     fn from_nonempty_iter<I: IntoNonEmptyIterator<Item = (K, V)>>(
         alloc: Global,

@@ -72,11 +72,13 @@ impl<'a> FromNonEmptyIterator<&'a char> for String {
     }
 }
 
-/// The path that is empty, with each part pushed in turn: an absolute part takes the place of what came before it.
+/// The path that is empty, with each part pushed in turn: an absolute part takes the place of what
+/// came before it.
 ///
 /// It is said of parts whose text is known, as that of each of the standard library's is.
 impl<P: AsPath> FromNonEmptyIterator<P> for PathBuf {
-    ghost collected = { λ xs p. IfSome (path_join_all P.path_text [] xs) (λ joined. path_buf_bytes p ≡ joined) };
+    ghost collected = { λ xs p. IfSome (path_join_all P.path_text [] xs)
+        (λ joined. path_buf_bytes p ≡ joined) };
 
     fn from_nonempty_iter<I: IntoNonEmptyIterator<Item = P>>(
         alloc: Global,

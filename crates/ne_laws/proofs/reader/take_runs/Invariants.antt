@@ -1,7 +1,7 @@
 use Rattle.std.proofs.Common.{◌≤◌, ◌-◌, length, vec_len, ◌≡◌}
 use Rattle.std.specs.Iterator.{CallableOnAllAt}
-use Rattle.ne_iter.specs.Reader.{HasRead, CanRead}
-use Rattle.ne_iter.specs.Reading.{Unread}
+use Rattle.ne_iter.specs.GroupingRuns.{HasRead, CanRead}
+use Rattle.ne_iter.specs.Grouping.{Unread}
 use Rattle.ne_laws.proofs.reader.take_runs.Given as goal
 
 -- the reader began with the source that the loop's first reader had

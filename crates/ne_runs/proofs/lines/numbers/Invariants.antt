@@ -3,12 +3,14 @@ use Rattle.std.specs.List.{position_or_len}
 use Rattle.ne_runs.specs.Lines.{lines_of, numbers_of, is_bad}
 use Rattle.ne_runs.proofs.lines.numbers.Given as goal
 
--- the numbers so far, none of which stands on a bad line and each of which fits in 32 bits, and those of what is left
+-- the numbers so far, none of which stands on a bad line and each of which fits in 32 bits, and
+-- those of what is left
 abbrev pub invariant-loop-rest : goal.invariant-loop-rest
 invariant-loop-rest l = record {
   numbers : l.numbers.items ++ numbers_of l.rest ≡ numbers_of l.text;
   lines : vec_len l.numbers + length (lines_of l.rest) ≡ length (lines_of l.text);
-  good : vec_len l.numbers + position_or_len is_bad (lines_of l.rest) ≡ position_or_len is_bad (lines_of l.text);
+  good : vec_len l.numbers + position_or_len is_bad (lines_of l.rest)
+      ≡ position_or_len is_bad (lines_of l.text);
   fits : sum l.numbers.items ≤ vec_len l.numbers * 4294967295;
   short : vec_len l.numbers + length l.rest ≤ length l.text;
 }

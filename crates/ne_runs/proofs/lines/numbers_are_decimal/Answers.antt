@@ -2,4 +2,8 @@ use Rattle.ne_runs.proofs.Numbers.{number_of-weighed, is_number-decimal, number_
 use Rattle.ne_runs.proofs.lines.numbers_are_decimal.Goals as goal
 
 pub returns : goal.returns
-returns c = record { weighed = number_of-weighed; good = is_number-decimal; printed = number_of-decimal }
+returns c = record {
+  weighed = number_of-weighed;
+  good = is_number-decimal;
+  printed = number_of-decimal;
+}

@@ -6,4 +6,5 @@ use Rattle.ne_runs.proofs.mode.push_row.Given as goal
 -- the numbers so far, and those that are left
 abbrev pub invariant-loop-number : goal.invariant-loop-number
 invariant-loop-number l =
-    string_bytes l.text ++ flat_map behind (drop l.number-index l.rest) ≡ string_bytes l.initial.text ++ flat_map behind l.rest
+    string_bytes l.text ++ flat_map behind (drop l.number-index l.rest)
+    ≡ string_bytes l.initial.text ++ flat_map behind l.rest

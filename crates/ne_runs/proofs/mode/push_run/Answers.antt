@@ -1,4 +1,5 @@
-use Rattle.std.proofs.Common.{lit<, sym, subst, ◌≡◌, ◌∷◌, ◌++◌, string_bytes, OnOk, drop, take, length, ◌-◌, ◌∙◌, arith, List, ℕ, [], ap}
+use Rattle.std.proofs.Common.{lit<, sym, subst, ◌≡◌, ◌∷◌, ◌++◌, string_bytes, OnOk, drop, take}
+use Rattle.std.proofs.Common.{length, ◌-◌, ◌∙◌, arith, List, ℕ, [], ap}
 use Rattle.std.specs.Prelude.{slice_get, Some}
 use Rattle.std.proofs.Math.Seq.{take-length}
 use Rattle.ne_runs.specs.Modes.{row_text}

@@ -7,6 +7,8 @@ returns c =
     let least = c.numbers_have_one_least.ensures in
     let greatest = c.numbers_have_one_greatest.ensures in
     record {
-      there = has_rows division.exists division.unique least.there greatest.there least.only greatest.only;
-      only = only_rows division.exists division.unique least.there greatest.there least.only greatest.only;
+      there = has_rows division.exists division.unique least.there greatest.there least.only
+          greatest.only;
+      only = only_rows division.exists division.unique least.there greatest.there least.only
+          greatest.only;
     }

@@ -9,7 +9,8 @@ returns c = record {
     c.greatest.result,
     c.least.ensures,
     c.greatest.ensures,
-    (let least = c.from-least.ensures in let greatest = c.from-greatest.ensures in let total = c.sum.ensures in cc),
+    (let least = c.from-least.ensures in let greatest = c.from-greatest.ensures in
+        let total = c.sum.ensures in cc),
   );
   written = search rules;
 }

@@ -9,17 +9,19 @@ use Rattle.towers.proofs.runs.runs_of_answers.Goals as goal
 pub returns : goal.returns
 returns g c = IfOk-weaker c.in_ok-collect.field-0 _ _ (λ v h.
     let runs = c.group_by.ensures.gives true v h in
-    let end = runs.8 refl in
-    let mapped = c.map.ensures.gives runs.3 (items_of runs.0) runs.4 in (
-      mapped.0,
-      runs.0,
-      mapped.1,
-      runs.1,
-      subst (λ whole. Reads g.S.IntoIterator.into_iter_gives g.S.IntoIter.Iterator.next_gives whole c.args.source mapped.0) end.0 mapped.2,
-      mapped.3,
-      runs.5,
-      subst (λ held. DividesByKey g.K.PartialEq.eq runs.0 (and_held v held)) end.1 runs.6,
-    )) (c.results_are_read_whole.ensures c.group_by.result c.in_ok-collect.field-0
+    let end = runs.over refl in
+    let mapped = c.map.ensures.gives runs.ended (items_of runs.drawn) runs.read in record {
+      items = mapped.0;
+      answers = runs.drawn;
+      f_then = mapped.1;
+      key_then = runs.closure;
+      read = subst (λ whole. Reads g.S.IntoIterator.into_iter_gives
+          g.S.IntoIter.Iterator.next_gives whole c.args.source mapped.0) end.0 mapped.2;
+      called = mapped.3;
+      asked = runs.asked;
+      divided = subst (λ held. DividesByKey g.K.PartialEq.eq runs.drawn (and_held v held)) end.1
+          runs.divided;
+    }) (c.results_are_read_whole.ensures c.group_by.result c.in_ok-collect.field-0
     c.in_ok-collect.ensures.gives)
 
 -- The tower ends: the mapped items do, and the key may be asked at each of them.

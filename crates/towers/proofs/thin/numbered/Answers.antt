@@ -14,16 +14,18 @@ returns g c = IfOk-weaker c.collect.result _ _ (λ v h.
     let counted = c.enumerate.ensures.gives _ h.0 taken.0 in
     let chained = c.chain.ensures.gives _ counted.0 counted.1 in
     let mapped = c.map.ensures.gives _ chained.0 chained.2 in
-    let long = ap length counted.2 ∙ length-enumerate_from 0 counted.0 ∙ ap length chained.4 in (
-      mapped.0,
-      chained.0,
-      chained.1,
-      mapped.1,
-      _,
-      mapped.2,
-      mapped.3,
-      chained.3,
-      ap (λ len. complete && ltb len n) long,
-      subst (λ len. len ≤ n) long taken.1,
-      subst (λ ws. g.B.FromNonEmptyIterator.collected ws v) (counted.2 ∙ ap (λ l. enumerate_from 0 l) chained.4) h.2,
-    )) c.collect.ensures.gives
+    let long = ap length counted.2 ∙ length-enumerate_from 0 counted.0 ∙ ap length chained.4 in
+    record {
+      items = mapped.0;
+      answers = chained.0;
+      other_items = chained.1;
+      f_then = mapped.1;
+      whole = _;
+      read = mapped.2;
+      called = mapped.3;
+      read_other = chained.3;
+      is_whole = ap (λ len. complete && ltb len n) long;
+      at_most = subst (λ len. len ≤ n) long taken.1;
+      made = subst (λ ws. g.B.FromNonEmptyIterator.collected ws v)
+          (counted.2 ∙ ap (λ l. enumerate_from 0 l) chained.4) h.2;
+    }) c.collect.ensures.gives

@@ -13,21 +13,26 @@ returns g c = IfOk-weaker c.unzip.result _ _ (λ r h.
     let taken = c.take.ensures.gives true h.0 h.1 in
     let zipped = c.zip.ensures.gives _ h.0 taken.0 in
     let mapped = c.map.ensures.gives _ zipped.0 zipped.4 in
-    let firsts = ap (λ l. map (λ p. p.0) l) zipped.6 ∙ firsts-zip zipped.0 zipped.1 (sym zipped.7) in
-    let seconds = ap (λ l. map (λ p. p.1) l) zipped.6 ∙ seconds-zip zipped.0 zipped.1 (sym zipped.7) in
-    let long = sym (length-map h.0 (λ p. p.1)) ∙ ap length seconds in (
-      mapped.0,
-      zipped.0,
-      zipped.1,
-      mapped.1,
-      zipped.2,
-      zipped.3,
-      mapped.2,
-      mapped.3,
-      zipped.5,
-      zipped.7,
-      subst (λ len. len ≤ n) long taken.1,
-      (λ less. zipped.8 (lt-ltb (length h.0) n (subst (λ len. len < n) (sym long) less))),
-      subst (λ l. g.R.Singleton.collected l r.0) firsts h.2,
-      subst (λ l. g.Q.Singleton.collected l r.1) seconds h.3,
-    )) c.unzip.ensures.gives
+    let firsts = ap (λ l. map (λ p. p.0) l) zipped.6
+    ∙ firsts-zip zipped.0 zipped.1 (sym zipped.7) in
+    let seconds = ap (λ l. map (λ p. p.1) l) zipped.6
+    ∙ seconds-zip zipped.0 zipped.1 (sym zipped.7) in
+    let long = sym (length-map h.0 (λ p. p.1)) ∙ ap length seconds in record {
+      items = mapped.0;
+      answers = zipped.0;
+      other_items = zipped.1;
+      f_then = mapped.1;
+      ended = zipped.2;
+      other_ended = zipped.3;
+      read = mapped.2;
+      called = mapped.3;
+      read_other = zipped.5;
+      as_many = zipped.7;
+      at_most = subst (λ len. len ≤ n) long taken.1;
+      fewer = λ less.
+          zipped.8 (lt-ltb (length h.0) n (subst (λ len. len < n) (sym long) less));
+      made = (
+        subst (λ l. g.R.Singleton.collected l r.0) firsts h.2,
+        subst (λ l. g.Q.Singleton.collected l r.1) seconds h.3,
+      );
+    }) c.unzip.ensures.gives

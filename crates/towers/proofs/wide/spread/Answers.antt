@@ -15,18 +15,19 @@ returns g c = IfOk-weaker c.collect.result _ _ (λ v h.
     let looked = c.peekable.ensures.gives (peekable_first c.peekable.result) _ counted.0 taken.0 in
     let spread = c.flat_map.ensures.gives _ _ looked.0 in
     let same = looked.1 ∙ spread.7 in
-    let long = ap length same in (
-      spread.0,
-      _,
-      spread.4,
-      (
-        spread.1,
-        spread.2,
-        spread.3,
-        spread.5,
-        spread.6,
-        ap (λ len. complete && ltb len n) long,
-        subst (λ len. len ≤ n) long taken.1,
-        subst (λ ws. g.B.FromNonEmptyIterator.collected ws v) (counted.2 ∙ ap (λ l. enumerate_from 0 l) same) h.2,
-      ),
-    )) c.collect.ensures.gives
+    let long = ap length same in record {
+      items = spread.0;
+      whole = _;
+      read = spread.4;
+      joins = record {
+        sources = spread.1;
+        lists = spread.2;
+        f_then = spread.3;
+        called = spread.5;
+        read_each = spread.6;
+        is_whole = ap (λ len. complete && ltb len n) long;
+        at_most = subst (λ len. len ≤ n) long taken.1;
+        made = subst (λ ws. g.B.FromNonEmptyIterator.collected ws v)
+            (counted.2 ∙ ap (λ l. enumerate_from 0 l) same) h.2;
+      };
+    }) c.collect.ensures.gives

@@ -15,22 +15,24 @@ returns c = IfOk-weaker c.spread.result _ _ (λ v h.
     let n = non_zero_usize_get c.args.n in
     let twice = λ (x : ℕ). x ∷ x ∷ [] in
     let down = counted_down (start_of c.args.source) in
-    let items = joined h.3.1 in
+    let items = joined h.joins.lists in
     let numbers = c.sources_give_what_is_left.ensures (λ it. counted_down (left_of it))
     (λ it rest x came. came) (λ it rest ended. ended.0) c.args.source down
-    (λ it made. ap counted_down made) h.1 h.0 h.2 in
-    let values = c.calls_of_a_function.ensures twice h.0 h.3.0 h.3.2
-    (λ x r f called. search rules) h.3.3 in
-    let answers = subst (AreFirst h.1 (map twice down)) (sym values.0)
-    (c.first_items_stay_first.ensures.mapped twice h.1 down h.0 numbers) in
-    let follow = subst (λ l. AreFirst h.1 l items) (flat_map-map (λ l. l) twice down)
-    (c.lists_follow_one_another.ensures (λ l. l) c.arrays_give_their_items.ensures.array h.1
-    (map twice down) h.3.0 h.3.1 answers h.3.4) in
-    let all = c.first_items_stay_first.ensures.numbered h.1 (flat_map twice down) items follow in
+    (λ it made. ap counted_down made) h.whole h.items h.read in
+    let values = c.calls_of_a_function.ensures twice h.items h.joins.sources h.joins.f_then
+    (λ x r f called. search rules) h.joins.called in
+    let answers = subst (AreFirst h.whole (map twice down)) (sym values.0)
+    (c.first_items_stay_first.ensures.mapped twice h.whole down h.items numbers) in
+    let follow = subst (λ l. AreFirst h.whole l items) (flat_map-map (λ l. l) twice down)
+    (c.lists_follow_one_another.ensures (λ l. l) c.arrays_give_their_items.ensures.array h.whole
+    (map twice down) h.joins.sources h.joins.lists answers h.joins.read_each) in
+    let all = c.first_items_stay_first.ensures.numbered h.whole (flat_map twice down) items follow
+    in
     let long = sym (length-enumerate_from 0 items) in
     let pairs = enumerate_from 0 (flat_map twice down) in
     let numbered = enumerate_from 0 items in
     let taken = c.first_items_stay_first-2.ensures.taken n true pairs numbered
-    (subst (λ len. len ≤ n) long h.3.6)
-    (subst (λ w. AreFirst w pairs numbered) (h.3.5 ∙ ap (λ len. ltb len n) long) all) in
-    h.3.7 ∙ c.first_items_stay_first-2.ensures.all (take n pairs) numbered taken) c.spread.ensures
+    (subst (λ len. len ≤ n) long h.joins.at_most)
+    (subst (λ w. AreFirst w pairs numbered) (h.joins.is_whole ∙ ap (λ len. ltb len n) long) all) in
+    h.joins.made ∙ c.first_items_stay_first-2.ensures.all (take n pairs) numbered taken)
+    c.spread.ensures

@@ -6,15 +6,25 @@ use Rattle.towers.proofs.wide.spread_pairs.Goals as goal
 -- The pairs are those of the two sources.
 pub returns : goal.returns
 returns g c = IfOk-weaker c.spread.result _ _ (λ v h.
-    let zipped = c.zip.ensures.gives h.1 h.0 h.2 in (
-      zipped.0,
-      zipped.1,
-      zipped.2,
-      zipped.3,
-      h.1,
-      zipped.4,
-      zipped.5,
-      zipped.7,
-      zipped.8,
-      (h.3.0, h.3.1, h.3.2, subst (λ ps. Calls g.F.FnMut c.args.f ps h.3.0 h.3.2) zipped.6 h.3.3, h.3.4, h.3.5, h.3.6, h.3.7),
-    )) c.spread.ensures
+    let zipped = c.zip.ensures.gives h.whole h.items h.read in
+    let j = h.joins in record {
+      items = zipped.0;
+      other_items = zipped.1;
+      ended = zipped.2;
+      other_ended = zipped.3;
+      whole = h.whole;
+      read = zipped.4;
+      read_other = zipped.5;
+      as_many = zipped.7;
+      one_ended = zipped.8;
+      joins = record {
+        sources = j.sources;
+        lists = j.lists;
+        f_then = j.f_then;
+        called = subst (λ ps. Calls g.F.FnMut c.args.f ps j.sources j.f_then) zipped.6 j.called;
+        read_each = j.read_each;
+        is_whole = j.is_whole;
+        at_most = j.at_most;
+        made = j.made;
+      };
+    }) c.spread.ensures

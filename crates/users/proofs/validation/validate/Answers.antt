@@ -8,7 +8,8 @@ pub unreachable-requires : goal.unreachable-requires
 unreachable-requires c =
     let numbers = c.in_ok-good_numbers-in-None in
     let read = are_numbers (readings c.args.fields.now) c.in_ok-faults.field-0.items
-    numbers.field-0.items c.in_ok-faults.ensures (c.try_from_vec.ensures.empty.0 c.in-None.is) numbers.ensures in
+    numbers.field-0.items c.in_ok-faults.ensures (c.try_from_vec.ensures.empty.0 c.in-None.is)
+    numbers.ensures in
     let none = c.try_from_vec-in-None.ensures.empty.0 c.in-None-try_from_vec.is in
     some_reading c.args.fields.now c.is_empty.ensures.nonempty (read ∙ ap (map Ok) none)
 

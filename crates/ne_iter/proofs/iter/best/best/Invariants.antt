@@ -1,5 +1,5 @@
 use Rattle.std.specs.List.{FoldsTo}
-use Rattle.ne_iter.specs.Answers.{KeepsBetter}
+use Rattle.ne_iter.specs.Consumers.{KeepsBetter}
 use Rattle.ne_iter.proofs.iter.best.best.Given as goal
 
 abbrev pub invariant-loop-x : goal.invariant-loop-x

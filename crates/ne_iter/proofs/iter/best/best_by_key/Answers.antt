@@ -4,12 +4,12 @@ use Rattle.ne_iter.specs.Sources.{Reads}
 use Rattle.ne_iter.proofs.Keyed.{CallableOnAll-pairs, KeepsBetter-keyed, keyed, ShownEach-pairs}
 use Rattle.ne_iter.proofs.iter.best.best_by_key.Goals as goal
 
-pub best-key-requires-clause-runs : goal.best-key-requires-clause-runs
-best-key-requires-clause-runs g c it made =
+pub best-key-requires-clause-ends : goal.best-key-requires-clause-ends
+best-key-requires-clause-ends g c it made =
     let from = map_source it in
     let becomes = subst (λ s. g.S.IntoIterator.into_iter_gives s from)
     c.map-pairs.ensures.holds.0 made.0 in
-    let ends = c.requires.runs from becomes in (
+    let ends = c.requires.ends from becomes in (
       (
         ends.0,
         CallableOnAll-pairs g.F.FnMut _ (λ f. f.0.now)

@@ -13,7 +13,8 @@ returns g c grouped h xs gives acts list =
       λ whole rs read.
           let runs = gives whole rs read in
           first_of_all goes_on (c.has_one_division.ensures.unique goes_on)
-          (c.longer_list_keeps_runs.ensures goes_on) xs all.0 rs all.1 runs.3 runs.0
-          (list runs.3 (items_of runs.0) runs.4) whole runs.2
-          (c.runs_by_a_function.ensures eq h runs.0 _ runs.1 acts runs.5 runs.6) runs.7 runs.8,
+          (c.longer_list_keeps_runs.ensures goes_on) xs all.0 rs all.1 runs.ended runs.drawn
+          (list runs.ended (items_of runs.drawn) runs.read) whole runs.held
+          (c.runs_by_a_function.ensures eq h runs.drawn _ runs.closure acts runs.asked runs.divided)
+          runs.holds runs.over,
     )

@@ -1,6 +1,6 @@
 use Rattle.std.specs.Prelude.{◌≤◌}
 use Rattle.std.specs.Ordering.{nat_cmp}
-use Rattle.ne_iter.specs.Answers.{less_by}
+use Rattle.ne_iter.specs.Consumers.{less_by}
 use Rattle.ne_iter.proofs.Extremes.{best_is, not_less}
 use Rattle.ne_iter.proofs.laws.extremes.first_least_is_the_least_number.Goals as goal
 

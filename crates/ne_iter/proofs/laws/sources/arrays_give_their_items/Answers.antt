@@ -6,7 +6,8 @@ use Rattle.ne_iter.proofs.laws.sources.arrays_give_their_items.Goals as goal
 
 pub returns-clause-array : goal.returns-clause-array
 returns-clause-array g c a whole ys h =
-    let m = front array_steps array_into_iter_items (λ s t x st. st) (λ s t st. nil_from_length (array_into_iter_items s) st.0) h.it ys h.given in
+    let m = front array_steps array_into_iter_items (λ s t x st. st)
+    (λ s t st. nil_from_length (array_into_iter_items s) st.0) h.it ys h.given in
     (m.0, sym h.made.0 ∙ m.1, m.2)
 
 pub returns-clause-shown : goal.returns-clause-shown

@@ -1,7 +1,9 @@
+use Rattle.std.specs.Prelude.{slice_index_or}
 use Rattle.ne_iter.specs.Sources.{Reads}
-use Rattle.ne_iter.proofs.ListFronts.{joined_fronts}
+use Rattle.ne_iter.proofs.ListFronts.{joined_sources}
 use Rattle.ne_iter.proofs.laws.sources.lists_follow_one_another.Goals as goal
 
 pub returns : goal.returns
-returns g c lists gives = joined_fronts
-    (Reads g.U.IntoIterator.into_iter_gives g.U.IntoIter.Iterator.next_gives) lists gives
+returns g c lists gives whole all us yss = joined_sources
+    (Reads g.U.IntoIterator.into_iter_gives g.U.IntoIter.Iterator.next_gives) lists whole all us yss
+    (λ k d within. gives (slice_index_or all k d))

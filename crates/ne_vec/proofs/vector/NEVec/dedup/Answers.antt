@@ -6,7 +6,9 @@ pub invariant_of-self : goal.invariant_of-self
 invariant_of-self g c = some_kept _ _ _ (dedup_is _ _ _ c.dedup.ensures.filtered) c.self.invariant
 
 pub returns-clause-stays : goal.returns-clause-stays
-returns-clause-stays g c = some_kept _ _ _ (dedup_is _ _ _ c.dedup.ensures.filtered) c.self.invariant
+returns-clause-stays g c = some_kept _ _ _ (dedup_is _ _ _ c.dedup.ensures.filtered)
+    c.self.invariant
 
 pub returns-clause-firsts : goal.returns-clause-firsts
-returns-clause-firsts g c = rw (← c.self.view_is) (keeps_firsts _ _ _ (dedup_is _ _ _ c.dedup.ensures.filtered))
+returns-clause-firsts g c = rw (← c.self.view_is)
+    (keeps_firsts _ _ _ (dedup_is _ _ _ c.dedup.ensures.filtered))

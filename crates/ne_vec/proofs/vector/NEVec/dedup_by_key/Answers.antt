@@ -10,4 +10,5 @@ returns-clause-stays g c = stays _ _ _ _ c.dedup_by_key.ensures.filtered c.self.
 
 pub returns-clause-firsts : goal.returns-clause-firsts
 returns-clause-firsts g c read pure =
-    rw (← c.self.view_is) (keeps_firsts _ _ _ (dedup_same _ _ _ (compares _ _ read _ pure) _ _ c.dedup_by_key.ensures.filtered))
+    rw (← c.self.view_is) (keeps_firsts _ _ _
+    (dedup_same _ _ _ (compares _ _ read _ pure) _ _ c.dedup_by_key.ensures.filtered))

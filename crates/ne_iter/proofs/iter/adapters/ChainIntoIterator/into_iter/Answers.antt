@@ -23,7 +23,8 @@ returns g c =
     let it = c.chain.result in
     record {
       into_iter_gives = (
-        subst (g.A.IntoIterator.into_iter_gives c.args.self.a) e c.into_iter.ensures.into_iter_gives,
+        subst (g.A.IntoIterator.into_iter_gives c.args.self.a) e
+            c.into_iter.ensures.into_iter_gives,
         c.chain.ensures.second,
         c.chain.ensures.first_done,
         c.chain.ensures.second_done,

@@ -9,7 +9,8 @@ returns g c =
     let f = c.args.self.f in
     record {
       into_iter_gives = (
-        subst (g.I.IntoIterator.into_iter_gives c.args.self.iter) e c.into_iter.ensures.into_iter_gives,
+        subst (g.I.IntoIterator.into_iter_gives c.args.self.iter) e
+            c.into_iter.ensures.into_iter_gives,
         c.map.ensures.closure,
         subst (λ u. MapsRuns steps g.F.FnMut f u c.map.result) e c.map.ensures.runs,
       );

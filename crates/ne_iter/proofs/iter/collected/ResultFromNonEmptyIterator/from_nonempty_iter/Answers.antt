@@ -1,22 +1,30 @@
-use Rattle.std.proofs.Common.{◌≡◌, List, [], ◌∷◌, ◌++◌, length, map, sym, ap, ◌∙◌, append_assoc, refl, true, false}
+use Rattle.std.proofs.Common.{◌≡◌, List, [], ◌∷◌, ◌++◌, length, map, sym, ap, ◌∙◌, append_assoc}
+use Rattle.std.proofs.Common.{refl, true, false}
 use Rattle.std.proofs.lemmas.List.{map-append}
 use Rattle.std.specs.Prelude.{Result, Ok, Err}
 use Rattle.ne_vec.specs.FrontLaws.{counted_front}
+use Rattle.ne_iter.specs.Collected.{values_or_first_err}
+use Rattle.ne_iter.proofs.FrontsMade.{all_values, first_err_at, front_makes}
 use Rattle.ne_iter.proofs.Loops.{Reads-first, Reads-left, Reads-loop}
 use Rattle.ne_iter.proofs.iter.collected.ResultFromNonEmptyIterator.from_nonempty_iter.Goals as goal
 
 module _ {T E : Type 0} where
   -- the values so far are those of the items so far, the first one among them
-  are_values : (first : Result T E) (value : T) (begun values : List T) (yielded : List (Result T E)) → first ≡ Ok value → begun ≡ value ∷ []
+  are_values : (first : Result T E) (value : T) (begun values : List T)
+      (yielded : List (Result T E)) → first ≡ Ok value → begun ≡ value ∷ []
       → map Ok values ≡ map Ok begun ++ yielded → first ∷ yielded ≡ map Ok values
-  are_values first value begun values yielded is one same = ap (λ r. r ∷ yielded) is ∙ sym (same ∙ ap (λ l. map Ok l ++ yielded) one)
+  are_values first value begun values yielded is one same = ap (λ r. r ∷ yielded) is
+      ∙ sym (same ∙ ap (λ l. map Ok l ++ yielded) one)
 
   -- the same, where an `Err` came then
-  up_to_err : (items : List (Result T E)) (item : Result T E) (e : E) (values : List T) → item ≡ Err e → items ≡ map Ok values → items ++ item ∷ [] ≡ map Ok values ++ Err e ∷ []
-  up_to_err items item e values is same = ap (λ r. items ++ r ∷ []) is ∙ ap (λ l. l ++ Err e ∷ []) same
+  up_to_err : (items : List (Result T E)) (item : Result T E) (e : E) (values : List T)
+      → item ≡ Err e → items ≡ map Ok values → items ++ item ∷ [] ≡ map Ok values ++ Err e ∷ []
+  up_to_err items item e values is same = ap (λ r. items ++ r ∷ []) is
+      ∙ ap (λ l. l ++ Err e ∷ []) same
 
   -- one value more
-  one_more : (begun yielded : List (Result T E)) (item : Result T E) (value : T) (values after : List T) → item ≡ Ok value → after ≡ values ++ value ∷ []
+  one_more : (begun yielded : List (Result T E)) (item : Result T E) (value : T)
+      (values after : List T) → item ≡ Ok value → after ≡ values ++ value ∷ []
       → map Ok values ≡ begun ++ yielded → map Ok after ≡ begun ++ (yielded ++ item ∷ [])
   one_more begun yielded item value values after is added same =
       ap (map Ok) added ∙ map-append Ok values (value ∷ []) ∙ ap (λ l. l ++ Ok value ∷ []) same
@@ -27,29 +35,38 @@ returns-in-Err g c =
     let from = c.next-first.ensures.first in
     let items = c.next-first.result.0 ∷ [] in (
       items,
-      (g.met.I.IntoNonEmptyIterator.same_lists c.args.iter false items).1 c.into_nonempty_iter.result c.into_nonempty_iter.ensures.into_nonempty_iter_gives
+      (g.met.I.IntoNonEmptyIterator.same_lists c.args.iter false items).1
+          c.into_nonempty_iter.result c.into_nonempty_iter.ensures.into_nonempty_iter_gives
           (Reads-first from.0 c.next-first.result.1 from.1 from.2),
-      ([], up_to_err [] c.next-first.result.0 c.in-Err.e [] c.in-Err.is refl),
+      (
+        [],
+        up_to_err [] c.next-first.result.0 c.in-Err.e [] c.in-Err.is refl,
+        first_err_at items [] c.in-Err.e
+            (up_to_err [] c.next-first.result.0 c.in-Err.e [] c.in-Err.is refl),
+      ),
     )
 
 pub loop-item-preserved : goal.loop-item-preserved
 loop-item-preserved g c =
-    one_more (map Ok c.in_ok-values-in-Ok.values) c.loop-item.yielded c.in-Some.item c.in-Ok-item.value c.loop-item.values c.push.new.self
+    one_more (map Ok c.in_ok-values-in-Ok.values) c.loop-item.yielded c.in-Some.item
+    c.in-Ok-item.value c.loop-item.values c.push.new.self
     c.in-Ok-item.is c.in_ok-push-in-Ok-item.ensures.added c.loop-item.invariant
 
 pub returns-in-Err-item : goal.returns-in-Err-item
 returns-in-Err-item g c =
     let from = c.next-first.ensures.first in
     let drawn = c.next-first.result.0 ∷ c.loop-item.yielded in
-    let items = drawn ++ c.in-Some.item ∷ [] in (
+    let items = drawn ++ c.in-Some.item ∷ [] in
+    let ends = up_to_err drawn c.in-Some.item c.in-Err-item.e c.loop-item.values c.in-Err-item.is
+    (are_values c.next-first.result.0 c.in-Ok.value c.in_ok-values-in-Ok.values c.loop-item.values
+    c.loop-item.yielded c.in-Ok.is c.in_ok-values-in-Ok.ensures c.loop-item.invariant) in (
       items,
-      (g.met.I.IntoNonEmptyIterator.same_lists c.args.iter false items).1 c.into_nonempty_iter.result c.into_nonempty_iter.ensures.into_nonempty_iter_gives
-          (Reads-left from.0 c.loop-item.yielded c.loop-item.item-iterator c.in-Some.item c.next.new.self from.1 from.2 c.into_iter-item-iterator.ensures.into_iter_gives c.loop-item.yielded_by c.in-Some.ensures.steps),
-      (
-        c.loop-item.values,
-        up_to_err drawn c.in-Some.item c.in-Err-item.e c.loop-item.values c.in-Err-item.is
-            (are_values c.next-first.result.0 c.in-Ok.value c.in_ok-values-in-Ok.values c.loop-item.values c.loop-item.yielded c.in-Ok.is c.in_ok-values-in-Ok.ensures c.loop-item.invariant),
-      ),
+      (g.met.I.IntoNonEmptyIterator.same_lists c.args.iter false items).1
+          c.into_nonempty_iter.result c.into_nonempty_iter.ensures.into_nonempty_iter_gives
+          (Reads-left from.0 c.loop-item.yielded c.loop-item.item-iterator c.in-Some.item
+          c.next.new.self from.1 from.2 c.into_iter-item-iterator.ensures.into_iter_gives
+          c.loop-item.yielded_by c.in-Some.ensures.steps),
+      (c.loop-item.values, ends, first_err_at items c.loop-item.values c.in-Err-item.e ends),
     )
 
 pub returns : goal.returns
@@ -58,13 +75,22 @@ returns g c =
     let items = c.next-first.result.0 ∷ c.loop-item.yielded in
     let made = c.in_ok-from_nonempty_iter.ensures in
     let walk = made.1 in
-    let rest = counted_front walk.it made.0 (walk.made.2 ∙ sym (ap length walk.made.1)) walk.given in (
+    let rest = counted_front walk.it made.0 (walk.made.2 ∙ sym (ap length walk.made.1)) walk.given
+    in
+    let values = c.loop-item.values in
+    let is = are_values c.next-first.result.0 c.in-Ok.value c.in_ok-values-in-Ok.values values
+    c.loop-item.yielded c.in-Ok.is c.in_ok-values-in-Ok.ensures c.loop-item.invariant in (
       items,
-      (g.met.I.IntoNonEmptyIterator.same_lists c.args.iter true items).1 c.into_nonempty_iter.result c.into_nonempty_iter.ensures.into_nonempty_iter_gives
-          (Reads-loop from.0 c.loop-item.item-iterator c.next.new.self from.1 from.2 c.into_iter-item-iterator.ensures.into_iter_gives c.loop-item.yielded_by c.in-None.ensures.steps),
+      (g.met.I.IntoNonEmptyIterator.same_lists c.args.iter true items).1 c.into_nonempty_iter.result
+          c.into_nonempty_iter.ensures.into_nonempty_iter_gives
+          (Reads-loop from.0 c.loop-item.item-iterator c.next.new.self from.1 from.2
+          c.into_iter-item-iterator.ensures.into_iter_gives c.loop-item.yielded_by
+          c.in-None.ensures.steps),
       (
-        c.loop-item.values,
-        are_values c.next-first.result.0 c.in-Ok.value c.in_ok-values-in-Ok.values c.loop-item.values c.loop-item.yielded c.in-Ok.is c.in_ok-values-in-Ok.ensures c.loop-item.invariant,
-        (made.0, rest.0, sym walk.made.1 ∙ rest.1, rest.2, made.2),
+        values,
+        is,
+        ap values_or_first_err is ∙ all_values values,
+        front_makes g.V.FromNonEmptyIterator.collected _ values made.0
+            g.V.FromNonEmptyIterator.is_complete (rest.0, sym walk.made.1 ∙ rest.1, rest.2) made.2,
       ),
     )

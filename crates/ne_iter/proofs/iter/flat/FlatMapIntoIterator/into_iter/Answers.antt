@@ -7,11 +7,14 @@ returns g c =
     let e = sym c.flat_map.ensures.source in
     record {
       into_iter_gives = (
-        subst (g.I.IntoIterator.into_iter_gives c.args.self.iter) e c.into_iter.ensures.into_iter_gives,
+        subst (g.I.IntoIterator.into_iter_gives c.args.self.iter) e
+            c.into_iter.ensures.into_iter_gives,
         c.flat_map.ensures.closure,
         c.flat_map.ensures.front,
         c.flat_map.ensures.back,
         c.flat_map.ensures.done,
-        subst (λ u. FlatMapsRuns g.I.IntoIter.Iterator.next_gives g.U.IntoIterator.into_iter_gives g.U.IntoIter.Iterator.next_gives g.F.FnMut c.args.self.f u c.flat_map.result) e c.flat_map.ensures.runs,
+        subst (λ u. FlatMapsRuns g.I.IntoIter.Iterator.next_gives g.U.IntoIterator.into_iter_gives
+            g.U.IntoIter.Iterator.next_gives g.F.FnMut c.args.self.f u c.flat_map.result) e
+            c.flat_map.ensures.runs,
       );
     }

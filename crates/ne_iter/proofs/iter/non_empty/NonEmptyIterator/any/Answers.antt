@@ -6,7 +6,9 @@ use Rattle.ne_iter.proofs.ReadLists.{lists_read}
 use Rattle.ne_iter.proofs.iter.non_empty.NonEmptyIterator.any.Goals as goal
 
 pub returns-clause-gives : goal.returns-clause-gives
-returns-clause-gives g c = TellsAny-from_run g.Self.IntoIterator.into_iter_gives g.Self.IntoIter.Iterator.next_gives c.args.self c.into_iter.result c.any.new.self c.into_iter.ensures.into_iter_gives g.F.FnMut c.args.f c.any.result c.any.ensures.ran
+returns-clause-gives g c = TellsAny-from_run g.Self.IntoIterator.into_iter_gives
+    g.Self.IntoIter.Iterator.next_gives c.args.self c.into_iter.result c.any.new.self
+    c.into_iter.ensures.into_iter_gives g.F.FnMut c.args.f c.any.result c.any.ensures.ran
 
 pub returns-clause-lists : goal.returns-clause-lists
 returns-clause-lists g c xs lists = (

@@ -6,7 +6,8 @@ use Rattle.ne_iter.proofs.iter.non_empty.NonEmptyIterator.chain.Goals as goal
 
 pub returns-clause-gives : goal.returns-clause-gives
 returns-clause-gives g c whole zs h =
-    let p = DrainsIf-chain g.Self.IntoIter.Iterator.next_gives g.U.IntoIter.Iterator.next_gives whole h.it zs h.made.2 h.made.3 h.given in (
+    let p = DrainsIf-chain g.Self.IntoIter.Iterator.next_gives g.U.IntoIter.Iterator.next_gives
+    whole h.it zs h.made.2 h.made.3 h.given in (
       p.0,
       p.1,
       record { it = chain_first h.it; made = h.made.0; given = p.2 },

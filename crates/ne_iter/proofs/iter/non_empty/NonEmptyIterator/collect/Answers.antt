@@ -1,19 +1,21 @@
 use Rattle.std.proofs.lemmas.Result.{IfOk-weaker}
 use Rattle.ne_iter.proofs.Traced.{run_of}
-use Rattle.std.proofs.Common.{subst}
-use Rattle.ne_iter.specs.Sources.{Reads}
 use Rattle.ne_vec.specs.FrontLaws.{marked}
-use Rattle.ne_iter.proofs.ReadLists.{of_read}
+use Rattle.ne_iter.proofs.FrontsMade.{front_makes}
+use Rattle.ne_iter.proofs.ReadLists.{lists_read}
 use Rattle.ne_iter.proofs.iter.non_empty.NonEmptyIterator.collect.Goals as goal
 
 pub returns-clause-runs : goal.returns-clause-runs
-returns-clause-runs g c = IfOk-weaker c.from_nonempty_iter.result _ _ (λ v h. run_of h.1 (λ l. g.B.FromNonEmptyIterator.collected l v) h.2) c.from_nonempty_iter.ensures
+returns-clause-runs g c = IfOk-weaker c.from_nonempty_iter.result _ _
+    (λ v h. run_of h.1 (λ l. g.B.FromNonEmptyIterator.collected l v) h.2)
+    c.from_nonempty_iter.ensures
 
 pub returns-clause-lists : goal.returns-clause-lists
 returns-clause-lists g c =
+    let collected = g.B.FromNonEmptyIterator.collected in
+    let complete = g.B.FromNonEmptyIterator.is_complete in
     IfOk-weaker c.from_nonempty_iter.result _ _ (λ v h xs lists. (
       marked c.args.self xs,
-      λ complete. of_read _ _ _ xs lists (λ l. g.B.FromNonEmptyIterator.collected l v) h.0
-          (subst (λ whole. Reads g.Self.IntoIterator.into_iter_gives
-          g.Self.IntoIter.Iterator.next_gives whole c.args.self h.0) complete h.1) h.2,
+      front_makes collected v xs h.0 complete
+          (lists_read _ _ c.args.self xs lists (complete v) h.0 h.1) h.2,
     )) c.from_nonempty_iter.ensures

@@ -7,8 +7,11 @@ use Rattle.ne_iter.proofs.iter.non_empty.NonEmptyIterator.count.Goals as goal
 
 pub returns-clause-runs : goal.returns-clause-runs
 returns-clause-runs g c =
-    let r = c.count.ensures.runs in
-    (c.into_iter.result, c.into_iter.ensures.into_iter_gives, (r.0, r.1, r.2, c.in-Some.ensures ∙ r.3))
+    let r = c.count.ensures.runs in (
+      c.into_iter.result,
+      c.into_iter.ensures.into_iter_gives,
+      (r.0, r.1, r.2, c.in-Some.ensures ∙ r.3),
+    )
 
 pub returns-clause-lists : goal.returns-clause-lists
 returns-clause-lists g c xs lists =

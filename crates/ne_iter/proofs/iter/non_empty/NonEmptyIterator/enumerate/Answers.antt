@@ -8,8 +8,11 @@ use Rattle.ne_iter.proofs.iter.non_empty.NonEmptyIterator.enumerate.Goals as goa
 
 pub returns-clause-gives : goal.returns-clause-gives
 returns-clause-gives g c whole ys h =
-    let p = DrainsIf-enumerate g.Self.IntoIter.Iterator.next_gives h.it ys h.given in
-    (p.0, record { it = enumerate_source h.it; made = h.made.0; given = p.1 }, subst (λ n. ys ≡ enumerate_from n p.0) h.made.1 p.2)
+    let p = DrainsIf-enumerate g.Self.IntoIter.Iterator.next_gives h.it ys h.given in (
+      p.0,
+      record { it = enumerate_source h.it; made = h.made.0; given = p.1 },
+      subst (λ n. ys ≡ enumerate_from n p.0) h.made.1 p.2,
+    )
 
 pub returns-clause-lists : goal.returns-clause-lists
 returns-clause-lists g c =

@@ -3,11 +3,31 @@ use Rattle.std.specs.Iterator.Adapters.{map_source, flatten_source}
 use Rattle.ne_iter.specs.Calls.{Calls}
 use Rattle.ne_iter.proofs.Runs.{DrainsIf-map}
 use Rattle.ne_iter.proofs.FlatRuns.{DrainsIf-flatten}
+use Rattle.ne_iter.proofs.AdapterLists.{flat_map_list}
+use Rattle.ne_iter.proofs.ClauseLists.{spreads_lists}
 use Rattle.std.specs.Iterator.Adapters.{map_steps}
 use Rattle.ne_iter.proofs.iter.non_empty.NonEmptyIterator.flat_map.Goals as goal
 
 pub returns-clause-gives : goal.returns-clause-gives
 returns-clause-gives g c whole zs h =
-    let p = DrainsIf-flatten (map_steps g.Self.IntoIter.Iterator.next_gives g.F.FnMut) g.U.IntoIterator.into_iter_gives g.U.IntoIter.Iterator.next_gives whole h.it zs h.made.2 h.made.3 h.made.4 h.given in
-    let q = DrainsIf-map g.Self.IntoIter.Iterator.next_gives g.F.FnMut (flatten_source h.it) p.0 p.2 in
-    (q.0, p.0, p.1, q.1, record { it = map_source (flatten_source h.it); made = h.made.0; given = q.2 }, subst (λ f. Calls g.F.FnMut f q.0 p.0 q.1) h.made.1 q.3, p.3, p.4)
+    let p = DrainsIf-flatten (map_steps g.Self.IntoIter.Iterator.next_gives g.F.FnMut)
+    g.U.IntoIterator.into_iter_gives g.U.IntoIter.Iterator.next_gives whole h.it zs h.made.2
+    h.made.3 h.made.4 h.given in
+    let q = DrainsIf-map g.Self.IntoIter.Iterator.next_gives g.F.FnMut (flatten_source h.it) p.0 p.2
+    in (
+      q.0,
+      p.0,
+      p.1,
+      q.1,
+      record {
+        it = map_source (flatten_source h.it);
+        made = h.made.0;
+        given = q.2;
+      },
+      subst (λ f. Calls g.F.FnMut f q.0 p.0 q.1) h.made.1 q.3,
+      p.3,
+      p.4,
+    )
+
+pub returns-clause-lists : goal.returns-clause-lists
+returns-clause-lists g c = spreads_lists (flat_map_list (returns-clause-gives g c))

@@ -1,5 +1,7 @@
 use Rattle.std.specs.Iterator.Adapters.{flatten_source}
 use Rattle.ne_iter.proofs.FlatRuns.{DrainsIf-flatten}
+use Rattle.ne_iter.proofs.AdapterLists.{flatten_list}
+use Rattle.ne_iter.proofs.ClauseLists.{flattens_lists}
 use Rattle.ne_iter.proofs.iter.non_empty.NonEmptyIterator.flatten.Goals as goal
 
 pub returns-clause-gives : goal.returns-clause-gives
@@ -8,3 +10,6 @@ returns-clause-gives g c whole zs h =
     g.Self.Item.IntoIterator.into_iter_gives g.Self.Item.IntoIter.Iterator.next_gives
     whole h.it zs h.made.1 h.made.2 h.made.3 h.given in
     (p.0, p.1, record { it = flatten_source h.it; made = h.made.0; given = p.2 }, p.3, p.4)
+
+pub returns-clause-lists : goal.returns-clause-lists
+returns-clause-lists g c = flattens_lists (flatten_list (returns-clause-gives g c))

@@ -3,10 +3,12 @@ use Rattle.std.specs.Prelude.{◌∷◌, ◌≡◌, true, ◌&&◌, is_ok}
 use Rattle.std.specs.Iterator.{DrainsIf}
 use Rattle.std.specs.List.{list_all}
 use Rattle.ne_iter.specs.Clones.{TriesClone}
+use Rattle.ne_iter.proofs.InterspersedItems.{joined_items, only_its_values}
 use Rattle.ne_iter.proofs.InterspersedRuns.{DrainsIf-interspersed}
 use Rattle.ne_iter.proofs.Traced.{begins}
 use Rattle.std.specs.Prelude.{map, Ok}
-use Rattle.ne_iter.specs.Separated.{separated}
+use Rattle.std.specs.declared.alloc.AllocError.{AllocError}
+use Rattle.ne_iter.specs.Interspersed.{interspersed}
 use Rattle.ne_vec.specs.FrontLaws.{marked}
 use Rattle.ne_iter.proofs.AdapterLists.{intersperse_list}
 use Rattle.ne_iter.proofs.ReadLists.{lists_read, read_lists}
@@ -16,24 +18,45 @@ pub returns-clause-gives : goal.returns-clause-gives
 returns-clause-gives g c whole zs h =
     let steps = g.Self.IntoIter.Iterator.next_gives in
     let drawn = c.next-first.ensures.first in
-    let p = DrainsIf-interspersed steps (TriesClone g.Self.Item.Clone.is_clone g.Self.Item.Clone.is_infallible) c.args.separator whole h.it c.next-first.result.0 zs (h.made.0, h.made.3, h.made.2) h.given in
-    let run = subst (λ q. DrainsIf steps ((whole && list_all is_ok zs) ≡ true) q p.0) h.made.1 p.2 in (
+    let p = DrainsIf-interspersed steps (TriesClone g.Self.Item.Clone.is_clone
+    g.Self.Item.Clone.is_infallible) c.args.separator whole h.it c.next-first.result.0 zs
+    (h.made.0, h.made.3, h.made.2) h.given in
+    let run = subst (λ q. DrainsIf steps ((whole && list_all is_ok zs) ≡ true) q p.0) h.made.1 p.2
+    in (
       c.next-first.result.0 ∷ p.0,
       p.1,
-      record { it = drawn.0; made = drawn.1; given = (run.0, (c.next-first.result.1, drawn.2, run.1), run.2) },
+      record {
+        it = drawn.0;
+        made = drawn.1;
+        given = (
+          run.0,
+          (c.next-first.result.1, drawn.2, run.1),
+          run.2,
+        );
+      },
       p.3,
       p.4,
     )
 
 pub returns-clause-runs : goal.returns-clause-runs
 returns-clause-runs g c =
-    let f = c.next-first.ensures.first in
-    (f.0, f.1, begins g.Self.IntoIter.Iterator.next_gives f.0 c.next-first.result.0 c.next-first.result.1 f.2)
+    let f = c.next-first.ensures.first in (
+      f.0,
+      f.1,
+      begins g.Self.IntoIter.Iterator.next_gives f.0 c.next-first.result.0
+          c.next-first.result.1 f.2,
+    )
 
 pub returns-clause-lists : goal.returns-clause-lists
 returns-clause-lists g c xs lists = (
   marked _ xs,
-  λ none same. read_lists _ _ _ (map Ok (separated c.args.separator xs))
+  λ none same. read_lists _ _ _ (map Ok (interspersed c.args.separator xs))
       (intersperse_list g.Self.Item.Clone.is_clone g.Self.Item.Clone.is_infallible
       (returns-clause-gives g c) xs none same (lists_read _ _ _ xs lists)),
+)
+
+pub returns-clause-joins : goal.returns-clause-joins
+returns-clause-joins g c xs lists = (
+  marked _ xs,
+  (λ f. joined_items f c.args.separator xs, only_its_values AllocError c.args.separator xs),
 )

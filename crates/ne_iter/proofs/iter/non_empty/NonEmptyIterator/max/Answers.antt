@@ -1,6 +1,6 @@
 use Rattle.std.proofs.Common.{◌∷◌, rules}
 use Rattle.std.proofs.lemmas.List.MinMax.{ranks_by}
-use Rattle.ne_iter.specs.Answers.{less_by}
+use Rattle.ne_iter.specs.Consumers.{less_by}
 use Rattle.ne_iter.proofs.Best.{IsFirstGreatest-kept, less_by-from_partial_lt}
 use Rattle.ne_iter.proofs.Traced.{best_run_of}
 use Rattle.std.specs.Prelude.{◌≡◌, false, All, Contains}
@@ -32,6 +32,7 @@ returns-clause-lists g c xs lists =
       marked _ xs,
       of_read _ _ _ xs lists (λ l. Contains l c.best.result
           × All (λ x. less_by g.Self.Item.Ord.cmp c.best.result x ≡ false) l) r.0 r.1
-          (best_is (λ x y. less_by g.Self.Item.Ord.cmp y x) (λ x y. less_by g.Self.Item.Ord.cmp x y ≡ false)
+          (best_is (λ x y. less_by g.Self.Item.Ord.cmp y x)
+          (λ x y. less_by g.Self.Item.Ord.cmp x y ≡ false)
           (λ x y h. h) r.0 r.2.0 c.best.result r.2.1 r.2.2),
     )

@@ -1,7 +1,7 @@
 use Rattle.std.proofs.Common.{◌∷◌, rules}
 use Rattle.std.specs.Ordering.{is_lt}
 use Rattle.ne_iter.proofs.Best.{AnswersAs-through, Contains-kept, IsFirstGreatest-kept}
-use Rattle.ne_iter.specs.Answers.{PicksGreatest}
+use Rattle.ne_iter.specs.Consumers.{PicksGreatest}
 use Rattle.ne_vec.specs.FrontLaws.{marked}
 use Rattle.ne_iter.proofs.ReadLists.{of_read}
 use Rattle.ne_iter.proofs.iter.non_empty.NonEmptyIterator.max_by.Goals as goal

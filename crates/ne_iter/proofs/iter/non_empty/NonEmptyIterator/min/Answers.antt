@@ -1,6 +1,6 @@
 use Rattle.std.proofs.Common.{◌∷◌, rules}
 use Rattle.std.proofs.lemmas.List.MinMax.{ranks_by}
-use Rattle.ne_iter.specs.Answers.{less_by}
+use Rattle.ne_iter.specs.Consumers.{less_by}
 use Rattle.ne_iter.proofs.Best.{IsFirstLeast-kept, less_by-from_partial_lt}
 use Rattle.ne_iter.proofs.Traced.{best_run_of}
 use Rattle.std.specs.Prelude.{◌≡◌, false, All, Contains}

@@ -1,7 +1,7 @@
 use Rattle.std.proofs.Common.{◌∷◌, rules}
 use Rattle.std.specs.Ordering.{is_gt}
 use Rattle.ne_iter.proofs.Best.{AnswersAs-through, Contains-kept, IsFirstLeast-kept}
-use Rattle.ne_iter.specs.Answers.{PicksLeast}
+use Rattle.ne_iter.specs.Consumers.{PicksLeast}
 use Rattle.ne_vec.specs.FrontLaws.{marked}
 use Rattle.ne_iter.proofs.ReadLists.{of_read}
 use Rattle.ne_iter.proofs.iter.non_empty.NonEmptyIterator.min_by.Goals as goal

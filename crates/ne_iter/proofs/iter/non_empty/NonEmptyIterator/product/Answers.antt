@@ -6,6 +6,7 @@ pub returns-clause-lists : goal.returns-clause-lists
 returns-clause-lists g c xs lists =
     let ran = c.product.ensures.ran in (
       marked _ xs,
-      λ complete. of_drained _ _ _ xs lists (λ l. g.P.Product.product_gives l c.product.result) c.into_iter.result
+      λ complete. of_drained _ _ _ xs lists (λ l. g.P.Product.product_gives l c.product.result)
+          c.into_iter.result
           ran.0 c.into_iter.ensures.into_iter_gives (ran.1 complete) ran.2,
     )

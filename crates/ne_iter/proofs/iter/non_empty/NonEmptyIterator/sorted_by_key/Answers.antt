@@ -2,6 +2,8 @@ use Rattle.std.proofs.Common.{subst, sym}
 use Rattle.std.specs.Prelude.{IsPermutation}
 use Rattle.std.specs.List.Sorted.{IsSortedByKeyClosure, IsStableByKeyClosure}
 use Rattle.std.proofs.Common.{refl}
+use Rattle.ne_iter.specs.KeyOrder.{SortsByKey}
+use Rattle.ne_iter.proofs.SortedKeys.{sorts_by_key}
 use Rattle.std.specs.Global.{Global}
 use Rattle.ne_vec.specs.FrontLaws.{marked}
 use Rattle.ne_vec.specs.WalkLaws.{walk_gives}
@@ -19,8 +21,14 @@ returns-clause-runs g c =
         it.0,
         it.1,
         it.2.0,
-        subst (λ ys. IsPermutation it.0.items ys × IsSortedByKeyClosure g.F.FnMut g.K.Ord.cmp c.args.f ys × IsStableByKeyClosure g.F.FnMut g.K.Ord.cmp c.args.f it.0.items ys) (sym c.from.ensures)
-            (subst (λ xs. IsPermutation xs c.sort_by_key.new.self × IsSortedByKeyClosure g.F.FnMut g.K.Ord.cmp c.args.f c.sort_by_key.new.self × IsStableByKeyClosure g.F.FnMut g.K.Ord.cmp c.args.f xs c.sort_by_key.new.self) it.2.1
+        subst (λ ys. IsPermutation it.0.items ys
+            × IsSortedByKeyClosure g.F.FnMut g.K.Ord.cmp c.args.f ys
+            × IsStableByKeyClosure g.F.FnMut g.K.Ord.cmp c.args.f it.0.items ys)
+            (sym c.from.ensures)
+            (subst (λ xs. IsPermutation xs c.sort_by_key.new.self
+            × IsSortedByKeyClosure g.F.FnMut g.K.Ord.cmp c.args.f c.sort_by_key.new.self
+            × IsStableByKeyClosure g.F.FnMut g.K.Ord.cmp c.args.f xs c.sort_by_key.new.self)
+            it.2.1
             (s.permutation, s.sorted, s.stable)),
       ),
     )
@@ -29,17 +37,14 @@ pub returns-clause-lists : goal.returns-clause-lists
 returns-clause-lists g c =
     let s = c.in_ok-sort_by_key.ensures in
     let items = c.in_ok-items.ensures.lists in
-    let calls = g.F.FnMut in
-    let cmp = g.K.Ord.cmp in
-    let f = c.args.f in (
+    let key = g.met.K.Ord in
+    let sorts = SortsByKey g.F.FnMut g.K.Ord.cmp g.K.PartialEq.eq c.args.f in
+    let ys = c.sort_by_key.new.self in (
       walk_gives _ _ refl Global,
       λ xs lists. (
         marked _ xs,
-        subst (λ ys. IsPermutation xs ys × IsSortedByKeyClosure calls cmp f ys
-            × IsStableByKeyClosure calls cmp f xs ys) (sym c.from.ensures)
-            (subst (λ l. IsPermutation l c.sort_by_key.new.self
-            × IsSortedByKeyClosure calls cmp f c.sort_by_key.new.self
-            × IsStableByKeyClosure calls cmp f l c.sort_by_key.new.self)
-            ((items xs lists).1 refl) (s.permutation, s.sorted, s.stable)),
+        subst (sorts xs) (sym c.from.ensures) (subst (λ l. sorts l ys) (items xs lists).1
+            (sorts_by_key g.F.FnMut c.args.f key.total key.matches_eq _ ys s.permutation s.sorted
+            s.stable)),
       ),
     )

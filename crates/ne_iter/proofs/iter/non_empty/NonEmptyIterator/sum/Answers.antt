@@ -6,6 +6,7 @@ pub returns-clause-lists : goal.returns-clause-lists
 returns-clause-lists g c xs lists =
     let ran = c.sum.ensures.ran in (
       marked _ xs,
-      λ complete. of_drained _ _ _ xs lists (λ l. g.S.Sum.sum_gives l c.sum.result) c.into_iter.result
+      λ complete. of_drained _ _ _ xs lists (λ l. g.S.Sum.sum_gives l c.sum.result)
+          c.into_iter.result
           ran.0 c.into_iter.ensures.into_iter_gives (ran.1 complete) ran.2,
     )

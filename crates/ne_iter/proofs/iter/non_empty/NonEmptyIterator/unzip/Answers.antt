@@ -9,16 +9,20 @@ use Rattle.ne_iter.proofs.iter.non_empty.NonEmptyIterator.unzip.Goals as goal
 
 pub loop-a-init : goal.loop-a-init
 loop-a-init g c = (
-  λ ps h. subst (λ l. g.FromA.Singleton.collected (map (λ p. p.0) l) c.in_ok-firsts.firsts) (sym (append-nil ps)) h,
-  λ ps h. subst (λ l. g.FromB.Singleton.collected (map (λ p. p.1) l) c.in_ok-seconds.seconds) (sym (append-nil ps)) h,
+  λ ps h. subst (λ l. g.FromA.Singleton.collected (map (λ p. p.0) l) c.in_ok-firsts.firsts)
+      (sym (append-nil ps)) h,
+  λ ps h. subst (λ l. g.FromB.Singleton.collected (map (λ p. p.1) l) c.in_ok-seconds.seconds)
+      (sym (append-nil ps)) h,
 )
 
 pub loop-a-preserved : goal.loop-a-preserved
 loop-a-preserved g c =
     let item : g.row.A.Denot × g.row.B.Denot = (c.in-Some.a, c.in-Some.b) in (
-      λ ps h. subst (λ l. g.FromA.Singleton.collected l c.extend_one.new.self) (map-one_more (λ p. p.0) ps c.loop-a.yielded item)
+      λ ps h. subst (λ l. g.FromA.Singleton.collected l c.extend_one.new.self)
+          (map-one_more (λ p. p.0) ps c.loop-a.yielded item)
           (c.in_ok-extend_one.ensures.added _ (c.loop-a.invariant.0 ps h)),
-      λ ps h. subst (λ l. g.FromB.Singleton.collected l c.extend_one-in-loop-a.new.self) (map-one_more (λ p. p.1) ps c.loop-a.yielded item)
+      λ ps h. subst (λ l. g.FromB.Singleton.collected l c.extend_one-in-loop-a.new.self)
+          (map-one_more (λ p. p.1) ps c.loop-a.yielded item)
           (c.in_ok-extend_one-2.ensures.added _ (c.loop-a.invariant.1 ps h)),
     )
 
@@ -27,7 +31,9 @@ returns-clause-gives g c =
     let from = c.next-a.ensures.first in
     let first = c.next-a.result.0 in (
       first ∷ c.loop-a.yielded,
-      Reads-loop from.0 c.loop-a.a-iterator c.next.new.self from.1 from.2 c.into_iter-a-iterator.ensures.into_iter_gives c.loop-a.yielded_by c.in-None.ensures.steps,
+      Reads-loop from.0 c.loop-a.a-iterator c.next.new.self from.1 from.2
+          c.into_iter-a-iterator.ensures.into_iter_gives c.loop-a.yielded_by
+          c.in-None.ensures.steps,
       c.loop-a.invariant.0 (first ∷ []) c.in_ok-firsts.ensures,
       c.loop-a.invariant.1 (first ∷ []) c.in_ok-seconds.ensures,
     )

@@ -6,7 +6,8 @@ use Rattle.ne_iter.proofs.iter.non_empty.NonEmptyIterator.zip.Goals as goal
 
 pub returns-clause-gives : goal.returns-clause-gives
 returns-clause-gives g c whole ps h =
-    let p = DrainsIf-zip g.Self.IntoIter.Iterator.next_gives g.U.IntoIter.Iterator.next_gives whole h.it ps h.given in (
+    let p = DrainsIf-zip g.Self.IntoIter.Iterator.next_gives g.U.IntoIter.Iterator.next_gives whole
+    h.it ps h.given in (
       p.0,
       p.1,
       p.2,

@@ -1,5 +1,6 @@
 use Rattle.std.proofs.Common.{sym, subst, ap, ◌∙◌}
-use Rattle.std.specs.Iterator.Adapters.{once_steps, once_item, chain_first, chain_second, ChainsRuns}
+use Rattle.std.specs.Iterator.Adapters.{once_steps, once_item, chain_first, chain_second}
+use Rattle.std.specs.Iterator.Adapters.{ChainsRuns}
 use Rattle.ne_iter.proofs.iter.peek.PeekableIntoIterator.into_iter.Goals as goal
 
 pub returns : goal.returns
@@ -12,7 +13,9 @@ returns g c =
         c.chain.ensures.first_done,
         c.chain.ensures.second_done,
         c.once.ensures.runs,
-        subst (λ r. ChainsRuns once_steps g.I.Iterator.next_gives (chain_first c.chain.result) r c.chain.result) c.chain.ensures.second
-            (subst (λ u. ChainsRuns once_steps g.I.Iterator.next_gives u (chain_second c.chain.result) c.chain.result) e c.chain.ensures.runs),
+        subst (λ r. ChainsRuns once_steps g.I.Iterator.next_gives (chain_first c.chain.result) r
+            c.chain.result) c.chain.ensures.second
+            (subst (λ u. ChainsRuns once_steps g.I.Iterator.next_gives u
+            (chain_second c.chain.result) c.chain.result) e c.chain.ensures.runs),
       );
     }

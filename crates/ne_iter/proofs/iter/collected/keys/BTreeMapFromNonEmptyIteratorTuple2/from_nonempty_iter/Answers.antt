@@ -4,5 +4,7 @@ use Rattle.ne_iter.proofs.iter.collected.keys.BTreeMapFromNonEmptyIteratorTuple2
 pub returns : goal.returns
 returns g c =
     collects g.met.I.IntoNonEmptyIterator.same_lists g.met.I.IntoNEIter.NonEmptyIterator.not_empty
-    c.args.iter c.into_nonempty_iter.result c.into_iter.result c.into_nonempty_iter.ensures.into_nonempty_iter_gives c.into_iter.ensures.into_iter_gives
-    _ _ (tree_map_made g.met.K.Ord.total g.met.K.Ord.matches_eq) c.collect.result c.collect.ensures.ran
+    c.args.iter c.into_nonempty_iter.result c.into_iter.result
+    c.into_nonempty_iter.ensures.into_nonempty_iter_gives c.into_iter.ensures.into_iter_gives
+    _ _ (tree_map_made g.met.K.Ord.total g.met.K.Ord.matches_eq) c.collect.result
+    c.collect.ensures.ran

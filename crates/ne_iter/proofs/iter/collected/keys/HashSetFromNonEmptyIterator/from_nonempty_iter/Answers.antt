@@ -4,5 +4,6 @@ use Rattle.ne_iter.proofs.iter.collected.keys.HashSetFromNonEmptyIterator.from_n
 pub returns : goal.returns
 returns g c =
     collects g.met.I.IntoNonEmptyIterator.same_lists g.met.I.IntoNEIter.NonEmptyIterator.not_empty
-    c.args.iter c.into_nonempty_iter.result c.into_iter.result c.into_nonempty_iter.ensures.into_nonempty_iter_gives c.into_iter.ensures.into_iter_gives
+    c.args.iter c.into_nonempty_iter.result c.into_iter.result
+    c.into_nonempty_iter.ensures.into_nonempty_iter_gives c.into_iter.ensures.into_iter_gives
     _ _ (hash_set_made g.met.T.Eq.laws) c.collect.result c.collect.ensures.ran

@@ -1,0 +1,111 @@
+//! Items with a separator between each two of them: texts made one text, and numbers.
+//!
+//! `join_by` is std's word for what `join` of a slice answers.
+ghost use Rattle.std.specs.Prelude.{◌≡◌, ◌++◌, take, map, nat_eq, cond, IfOk, string_bytes};
+ghost use Rattle.std.specs.Int.NonZero.{non_zero_usize_get};
+ghost use Rattle.std.specs.List.{join_by};
+ghost use Rattle.ne_iter.specs.Interspersed.{interspersed};
+
+use nonempty_collections::{IntoNonEmptyIterator, NEVec, NonEmptyIterator};
+use std::alloc::{AllocError, Global};
+use std::num::NonZeroUsize;
+
+/// The names of a vector that is lent, as one text.
+pub fn joined<'a>(
+    alloc: Global,
+    names: &NEVec<&'a str>,
+    separator: &'a str,
+) -> Result<String, AllocError>
+    ensures { IfOk result (λ text.
+        string_bytes text ≡ join_by (λ t. t.now) separator.now names.now) }
+{
+    names
+        .nonempty_iter()
+        .copied()
+        .intersperse(separator)
+        .collect::<Result<String, AllocError>>(alloc)?
+}
+
+/// The names of a vector that is handed over, as one text.
+pub fn joined_by_value<'a>(
+    alloc: Global,
+    names: NEVec<&'a str>,
+    separator: &'a str,
+) -> Result<String, AllocError>
+    ensures { IfOk result (λ text.
+        string_bytes text ≡ join_by (λ t. t.now) separator.now names.entry) }
+{
+    names
+        .into_nonempty_iter()
+        .intersperse(separator)
+        .collect::<Result<String, AllocError>>(alloc)?
+}
+
+/// The first `n` names, as one text.
+pub fn first_joined<'a>(
+    alloc: Global,
+    names: NEVec<&'a str>,
+    n: NonZeroUsize,
+    separator: &'a str,
+) -> Result<String, AllocError>
+    ensures { IfOk result (λ text. string_bytes text
+        ≡ join_by (λ t. t.now) separator.now (take (non_zero_usize_get n) names.entry)) }
+{
+    names
+        .into_nonempty_iter()
+        .take(n)
+        .intersperse(separator)
+        .collect::<Result<String, AllocError>>(alloc)?
+}
+
+/// The first `n` names, and then others, with the separator between each two.
+pub fn first_and_others<'a>(
+    alloc: Global,
+    names: NEVec<&'a str>,
+    others: Vec<&'a str>,
+    n: NonZeroUsize,
+    separator: &'a str,
+) -> Result<Result<NEVec<&'a str>, AllocError>, AllocError>
+    ensures { IfOk result (λ r. IfOk r (λ v. v ≡ interspersed separator.entry
+        (take (non_zero_usize_get n) names.entry ++ others.entry.items))) }
+{
+    names
+        .into_nonempty_iter()
+        .take(n)
+        .chain(others)
+        .intersperse(separator)
+        .collect(alloc)
+}
+
+/// For each number whether it is zero, in words, with the separator between each two.
+pub fn which_are_zero<'a>(
+    alloc: Global,
+    numbers: &NEVec<u64>,
+    zero: &'a str,
+    other: &'a str,
+    separator: &'a str,
+) -> Result<Result<NEVec<&'a str>, AllocError>, AllocError>
+    ensures { IfOk result (λ r. IfOk r (λ v. v ≡ interspersed separator.entry
+        (map (λ n. cond (nat_eq n 0) zero.entry other.entry) numbers.now))) }
+{
+    numbers
+        .nonempty_iter()
+        .copied()
+        .map(|n| if n == 0 { zero } else { other })
+        .intersperse(separator)
+        .collect(alloc)
+}
+
+/// The numbers with a zero between each two.
+pub fn with_zeros(
+    alloc: Global,
+    numbers: &NEVec<u64>,
+) -> Result<Result<NEVec<u64>, AllocError>, AllocError>
+    ensures { IfOk result (λ r. IfOk r (λ v. v ≡ interspersed 0 numbers.now)) }
+{
+    numbers
+        .nonempty_iter()
+        .copied()
+        .intersperse(0)
+        .collect(alloc)
+}

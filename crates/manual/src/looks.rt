@@ -1,0 +1,107 @@
+//! The first item of a source: whether there is one, and what comes after it.
+ghost use Rattle.std.specs.Prelude.{
+  ◌≡◌,
+  ◌/◌,
+  ◌<◌,
+  ◌∷◌,
+  ◌↔◌,
+  [],
+  drop,
+  filter,
+  length,
+  map,
+  slice_get,
+  true,
+  IfOk,
+  MatchOption,
+  Some,
+  ltb,
+};
+
+use nonempty_collections::{IntoIteratorExt, IntoNonEmptyIterator, NEVec, NonEmptyIterator};
+use std::alloc::{AllocError, Global};
+
+/// The items of a vector that may be empty.
+pub fn looked(alloc: Global, items: Vec<u32>) -> Result<Option<NEVec<u32>>, AllocError>
+    ensures { IfOk result (λ o. MatchOption o (items.items ≡ []) (λ v. v ≡ items.items)) }
+{
+    match items.try_into_nonempty_iter() {
+        Some(source) => Ok(Some(source.collect(alloc)?)),
+        None => Ok(None),
+    }
+}
+
+/// Half of each item.
+pub fn halves(alloc: Global, items: Vec<u32>) -> Result<Option<NEVec<u32>>, AllocError>
+    ensures { IfOk result (λ o.
+        MatchOption o (items.items ≡ []) (λ v. v ≡ map (λ x. x / 2) items.items)) }
+{
+    match items.try_into_nonempty_iter() {
+        Some(source) => Ok(Some(source.map(|x| x / 2).collect(alloc)?)),
+        None => Ok(None),
+    }
+}
+
+/// The small items, if there is one.
+pub fn small(alloc: Global, items: NEVec<u32>) -> Result<Option<NEVec<u32>>, AllocError>
+    ensures { IfOk result (λ o. MatchOption o (filter (λ x. ltb x 10) items ≡ [])
+        (λ v. v ≡ filter (λ x. ltb x 10) items)) }
+{
+    match items
+        .into_nonempty_iter()
+        .filter(|x| *x < 10)
+        .try_into_nonempty_iter()
+    {
+        Some(source) => Ok(Some(source.collect(alloc)?)),
+        None => Ok(None),
+    }
+}
+
+/// Whether there is an item.
+pub fn has_item(items: Vec<u32>) -> bool
+    ensures { (result ≡ true) ↔ (0 < length items.items) }
+{
+    items.try_into_nonempty_iter().is_some()
+}
+
+/// The first item.
+pub fn first_of(items: NEVec<u32>) -> u32
+    ensures { slice_get items 0 ≡ Some result }
+{
+    items.into_nonempty_iter().next().0
+}
+
+/// The first half.
+pub fn first_half(items: NEVec<u32>) -> u32
+    ensures { slice_get (map (λ x. x / 2) items) 0 ≡ Some result }
+{
+    items.into_nonempty_iter().map(|x| x / 2).next().0
+}
+
+/// The first item, and the others.
+pub fn first_and_rest(alloc: Global, items: NEVec<u32>) -> Result<(u32, Vec<u32>), AllocError>
+    ensures { IfOk result (λ r. items ≡ r.0 ∷ r.1.items) }
+{
+    let (first, rest) = items.into_nonempty_iter().next();
+    Ok((first, rest.collect(alloc)?))
+}
+
+/// The first half, and the others.
+pub fn first_half_and_rest(alloc: Global, items: NEVec<u32>) -> Result<(u32, Vec<u32>), AllocError>
+    ensures { IfOk result (λ r. map (λ x. x / 2) items ≡ r.0 ∷ r.1.items) }
+{
+    let (first, rest) = items.into_nonempty_iter().map(|x| x / 2).next();
+    Ok((first, rest.collect(alloc)?))
+}
+
+/// Half of each item but the first.
+pub fn other_halves(alloc: Global, items: NEVec<u32>) -> Result<Vec<u32>, AllocError>
+    ensures { IfOk result (λ v. v.items ≡ map (λ x. x / 2) (drop 1 items)) }
+{
+    items
+        .into_nonempty_iter()
+        .next()
+        .1
+        .map(|x| x / 2)
+        .collect(alloc)
+}

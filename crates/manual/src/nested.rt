@@ -1,0 +1,66 @@
+//! The items of several sources, one source after another.
+ghost use Rattle.std.specs.Prelude.{◌≡◌, ◌/◌, ◌∷◌, [], map, take, IfOk};
+ghost use Rattle.std.specs.List.{flat_map};
+ghost use Rattle.std.specs.Int.NonZero.{non_zero_usize_get};
+
+use nonempty_collections::{IntoNonEmptyIterator, NEVec, NonEmptyIterator, iter};
+use std::alloc::{AllocError, Global};
+use std::num::NonZeroUsize;
+
+/// The items of vectors.
+pub fn joined(alloc: Global, vectors: NEVec<NEVec<u32>>) -> Result<NEVec<u32>, AllocError>
+    ensures { IfOk result (λ v. v ≡ flat_map (λ items. items) vectors) }
+{
+    vectors.into_nonempty_iter().flatten().collect(alloc)
+}
+
+/// The first items of vectors.
+pub fn first_joined(
+    alloc: Global,
+    vectors: NEVec<NEVec<u32>>,
+    n: NonZeroUsize,
+) -> Result<NEVec<u32>, AllocError>
+    ensures { IfOk result (λ v.
+        v ≡ take (non_zero_usize_get n) (flat_map (λ items. items) vectors)) }
+{
+    vectors
+        .into_nonempty_iter()
+        .flatten()
+        .take(n)
+        .collect(alloc)
+}
+
+/// The amounts of orders, each of which has a number.
+pub fn amounts(alloc: Global, orders: NEVec<(u32, NEVec<u32>)>) -> Result<NEVec<u32>, AllocError>
+    ensures { IfOk result (λ v. v ≡ flat_map (λ order. order.1) orders) }
+{
+    orders
+        .into_nonempty_iter()
+        .flat_map(|order| order.1)
+        .collect(alloc)
+}
+
+/// Half of each amount.
+pub fn half_amounts(
+    alloc: Global,
+    orders: NEVec<(u32, NEVec<u32>)>,
+) -> Result<NEVec<u32>, AllocError>
+    ensures { IfOk result (λ v. v ≡ map (λ x. x / 2) (flat_map (λ order. order.1) orders)) }
+{
+    orders
+        .into_nonempty_iter()
+        .flat_map(|order| order.1)
+        .map(|x| x / 2)
+        .collect(alloc)
+}
+
+/// A source of one item for each half.
+pub fn spread_halves(alloc: Global, items: NEVec<u32>) -> Result<NEVec<u32>, AllocError>
+    ensures { IfOk result (λ v. v ≡ flat_map (λ x. x / 3 ∷ []) (map (λ x. x / 2) items)) }
+{
+    items
+        .into_nonempty_iter()
+        .map(|x| x / 2)
+        .flat_map(|x| iter::once(x / 3))
+        .collect(alloc)
+}

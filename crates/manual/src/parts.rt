@@ -1,0 +1,69 @@
+//! The chunks of a vector.
+ghost use Rattle.std.specs.Prelude.{◌≡◌, ◌<◌, ◌^◌, length, map, take, IfOk};
+ghost use Rattle.std.specs.List.{enumerate_from};
+ghost use Rattle.std.specs.Int.NonZero.{non_zero_usize_get};
+ghost use Rattle.ne_vec.specs.Chunks.{chunks};
+
+use nonempty_collections::{NESlice, NEVec, NonEmptyIterator};
+use std::alloc::{AllocError, Global};
+use std::num::NonZeroUsize;
+
+/// The chunks of `n` items.
+pub fn chunks_of<'a>(
+    alloc: Global,
+    items: &'a NEVec<u32>,
+    n: NonZeroUsize,
+) -> Result<NEVec<NESlice<'a, u32>>, AllocError>
+    ensures { IfOk result (λ v. v ≡ chunks (non_zero_usize_get n) items.now) }
+{
+    items.nonempty_chunks(n).collect(alloc)
+}
+
+/// How many items each chunk has.
+pub fn lengths(
+    alloc: Global,
+    items: &NEVec<u32>,
+    n: NonZeroUsize,
+) -> Result<NEVec<usize>, AllocError>
+    ensures { IfOk result (λ v.
+        v ≡ map (λ c. length c) (chunks (non_zero_usize_get n) items.now)) }
+{
+    items
+        .nonempty_chunks(n)
+        .map(|c| c.len().get())
+        .collect(alloc)
+}
+
+/// The first chunks.
+pub fn first_chunks<'a>(
+    alloc: Global,
+    items: &'a NEVec<u32>,
+    n: NonZeroUsize,
+    many: NonZeroUsize,
+) -> Result<NEVec<NESlice<'a, u32>>, AllocError>
+    ensures { IfOk result (λ v.
+        v ≡ take (non_zero_usize_get many) (chunks (non_zero_usize_get n) items.now)) }
+{
+    items.nonempty_chunks(n).take(many).collect(alloc)
+}
+
+/// How many chunks there are.
+pub fn how_many(items: &NEVec<u32>, n: NonZeroUsize) -> NonZeroUsize
+    requires { length (chunks (non_zero_usize_get n) items.now) < 2 ^ 64 }
+    ensures { non_zero_usize_get result ≡ length (chunks (non_zero_usize_get n) items.now) }
+{
+    items.nonempty_chunks(n).count()
+}
+
+/// The chunks with their places.
+pub fn numbered<'a>(
+    alloc: Global,
+    items: &'a NEVec<u32>,
+    n: NonZeroUsize,
+) -> Result<NEVec<(usize, NESlice<'a, u32>)>, AllocError>
+    requires { length (chunks (non_zero_usize_get n) items.now) < 2 ^ 64 }
+    ensures { IfOk result (λ v.
+        v ≡ enumerate_from 0 (chunks (non_zero_usize_get n) items.now)) }
+{
+    items.nonempty_chunks(n).enumerate().collect(alloc)
+}

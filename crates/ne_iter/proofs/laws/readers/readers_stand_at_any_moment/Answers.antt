@@ -1,9 +1,0 @@
-use Rattle.ne_iter.specs.ReaderLaws.{fresh_reader}
-use Rattle.ne_iter.proofs.Grouped.{answers_on}
-use Rattle.ne_iter.proofs.laws.readers.readers_stand_at_any_moment.Goals as goal
-
-pub returns-clause-fresh : goal.returns-clause-fresh
-returns-clause-fresh g c = fresh_reader g.I.Iterator.next_gives g.F.FnMut g.K.PartialEq.eq
-
-pub returns-clause-later : goal.returns-clause-later
-returns-clause-later g c s f done r h answers = answers_on g.I.Iterator.next_gives g.F.FnMut g.K.PartialEq.eq s f done answers r h

@@ -1,6 +1,0 @@
-use Rattle.ne_iter.specs.Keys.{IsDividedBy}
-use Rattle.ne_iter.proofs.laws.readers.runs_by_keys_are_the_division.Goals as goal
-
-pub returns : goal.returns
-unfolding IsDividedBy
-returns g c eq h xs rs divided = divided

@@ -1,0 +1,142 @@
+-- The answers of the methods that use a source up. Each is said of a list that the source may give,
+-- to its end or up to the item that decided.
+use Rattle.std.specs.Prelude.{◌≡◌, ℕ, ◌≤◌, Bool, true, false, cond, List, [], ◌∷◌, ◌++◌, length}
+use Rattle.std.specs.Prelude.{map, Option, Some, MatchOption, slice_get}
+use Rattle.std.specs.Bool.{MatchBool}
+use Rattle.std.specs.Borrow.{Bor}
+use Rattle.std.specs.Cmp.{IsStrictWeakOrder}
+use Rattle.std.specs.Fn.{Called, CalledAt, Mut, Shared, FnReturnsAtPair}
+use Rattle.std.specs.Iterator.{ActsAsAt, Yields}
+use Rattle.std.specs.List.{All, IsFirstBest, Contains}
+use Rattle.std.specs.Ordering.{is_gt, is_lt}
+use Rattle.std.specs.declared.cmp.Ordering.{Ordering}
+use Rattle.ne_iter.specs.Calls.{AnswersEach, AnswersEachAt, Folds, ShownEach}
+use Rattle.ne_iter.specs.Keys.{items_of}
+
+module _ {U A : Type 0} (reads : Bool → U → List A → Type 0) where
+  -- `all`: f answered true at the items xs. Then, at `true`, the source ended; at `false`, f
+  -- answered false at the next item.
+  abbrev pub TellsAll : {F : Type 0} → Mut F (A × Unit {0}) Bool → U → F → Bool → Type 0
+  TellsAll {F} calls source f result = (xs : List A) × (g : F) × AnswersEach calls true f xs g
+      × MatchBool result (reads true source xs)
+      ((x : A) × (h : F) × reads false source (xs ++ x ∷ []) × Called calls g (x, tt) false h)
+
+  -- `any`: f answered false at the items xs. Then, at `true`, f answered true at the next item; at
+  -- `false`, the source ended.
+  abbrev pub TellsAny : {F : Type 0} → Mut F (A × Unit {0}) Bool → U → F → Bool → Type 0
+  TellsAny {F} calls source f result = (xs : List A) × (g : F) × AnswersEach calls false f xs g
+      × MatchBool result ((x : A) × (h : F) × reads false source (xs ++ x ∷ [])
+      × Called calls g (x, tt) true h) (reads true source xs)
+
+  -- `find`: f answered false at the items xs. Then the source ended, or the result came, at which f
+  -- answered true.
+  abbrev pub FindsFirst : {F : Type 0} → Mut F (Bor A × Unit {0}) Bool → U → F → Option A → Type 0
+  FindsFirst {F} calls source f result = (xs : List A) × (g : F) × AnswersEachAt calls false f xs g
+      × MatchOption result (reads true source xs)
+      (λ x. (h : F) × reads false source (xs ++ x ∷ []) × CalledAt calls g x true h)
+
+  -- `nth`: the item behind n others, or `None` where the source ended with at most n.
+  abbrev pub GivesNth : U → ℕ → Option A → Type 0
+  GivesNth source n result = (xs : List A)
+      × MatchOption result (reads true source xs × (length xs ≤ n))
+      (λ x. reads false source (xs ++ x ∷ []) × (length xs ≡ n))
+
+  -- `fold`: f, called on the total so far and the next item, took the total from init to the
+  -- result.
+  abbrev pub FoldsAll : {B F : Type 0} → Mut F (B × (A × Unit {0})) B → U → F → B → B → Type 0
+  FoldsAll {F = F} calls source f init result = (xs : List A) × (g : F) × reads true source xs
+      × Folds calls f init xs result g
+
+  -- `reduce`: the same over the others, from the first item.
+  abbrev pub ReducesAll : {F : Type 0} → Mut F (A × (A × Unit {0})) A → U → F → A → Type 0
+  ReducesAll {F} calls source f result = (x : A) × (xs : List A) × (g : F)
+      × reads true source (x ∷ xs) × Folds calls f x xs result g
+
+-- x is less than y, by cmp.
+abbrev pub less_by : {A : Type 0} → (A → A → Ordering) → A → A → Bool
+less_by cmp x y = is_lt (cmp x y)
+
+module _ {A : Type 0} (less : A → A → Bool) where
+  -- m is the first greatest of xs: it stands at a place such that it is less than none, and each
+  -- item before it is less.
+  abbrev pub IsFirstGreatest : List A → A → Type 0
+  IsFirstGreatest xs m = (place : ℕ) × IsFirstBest (λ x y. less y x) xs (length xs) place
+      × (slice_get xs place ≡ Some m)
+
+  -- m is the first least of xs: no item is less, and it is less than each item before it.
+  abbrev pub IsFirstLeast : List A → A → Type 0
+  IsFirstLeast xs m = (place : ℕ) × IsFirstBest less xs (length xs) place
+      × (slice_get xs place ≡ Some m)
+
+module _ {A : Type 0} where
+  -- f may be called at any two items that the iterator may give.
+  abbrev pub CallableOnTwo : {S F R : Type 0} → (S → Option A → S → Type 0)
+      → Shared F (Bor A × (Bor A × Unit {0})) R → S → F → Type 0
+  CallableOnTwo {S} steps calls it f = (xs : List A) (t : S) (x y : Bor A) → Yields steps it xs t
+      → Contains xs x.now → Contains xs y.now → calls.pre f (x, (y, tt))
+
+  -- Of the item that is kept so far and the next one, x, the one that is kept then: x where f,
+  -- called on what view sees of the two, answers true.
+  abbrev pub KeepsBetter : {V F : Type 0} → (A → V) → Shared F (Bor V × (Bor V × Unit {0})) Bool
+      → F → A → A → A → Type 0
+  KeepsBetter view calls f kept x next = (better : Bool)
+      × FnReturnsAtPair calls f (view kept) (view x) better × (next ≡ cond better x kept)
+
+  -- f, called at two items x and y of xs, gives the answer that is meant, `Less` by `is_lt` or
+  -- `Greater` by `is_gt`, just where `test x y`.
+  abbrev pub AnswersJustWhere : {F : Type 0} → Shared F (Bor A × (Bor A × Unit {0})) Ordering → F
+      → List A → (Ordering → Bool) → (A → A → Bool) → Type 0
+  AnswersJustWhere calls f xs meant test = (x y : A) (r : Ordering) → Contains xs x → Contains xs y
+      → FnReturnsAtPair calls f x y r → meant r ≡ test x y
+
+  -- `max_by`: m is an item of xs; where f answers `Less` just as a total preorder does, the first
+  -- greatest.
+  abbrev pub PicksGreatest : {F : Type 0} → Shared F (Bor A × (Bor A × Unit {0})) Ordering → F
+      → List A → A → Type 0
+  PicksGreatest calls f xs m = Contains xs m × ((less : A → A → Bool) → IsStrictWeakOrder less
+      → AnswersJustWhere calls f xs is_lt less → IsFirstGreatest less xs m)
+
+  -- `min_by`: m is an item of xs; where f answers `Greater` just as a total preorder does, the
+  -- first least.
+  abbrev pub PicksLeast : {F : Type 0} → Shared F (Bor A × (Bor A × Unit {0})) Ordering → F → List A
+      → A → Type 0
+  PicksLeast calls f xs m = Contains xs m × ((less : A → A → Bool) → IsStrictWeakOrder less
+      → AnswersJustWhere calls f xs is_gt (λ x y. less y x) → IsFirstLeast less xs m)
+
+-- `max_by_key` and `min_by_key`: `best` says that the result, with its key, is the best of the
+-- items that the source gave to its end, each with the key that f, shown the items in order,
+-- answered.
+pub record PicksByKey {U A K F : Type 0} (reads : Bool → U → List A → Type 0)
+    (calls : Mut F (Bor A × Unit {0}) K) (source : U) (f : F) (result : A)
+    (best : List (A × K) → A × K → Type 0) : Type 0 where
+  pub keyed : List (A × K)
+  pub key : K
+  pub f_then : F
+  pub read : reads true source (items_of keyed)
+  pub shown : ShownEach calls f keyed f_then
+  pub is_best : best keyed (result, key)
+
+module _ {U A K F : Type 0} (reads : Bool → U → List A → Type 0)
+    (calls : Mut F (Bor A × Unit {0}) K) (cmp : K → K → Ordering) (source : U) (f : F) (result : A)
+  where
+    -- `max_by_key`: the first of the items of the greatest key
+    abbrev pub PicksGreatestKey : Type 0
+    PicksGreatestKey = PicksByKey reads calls source f result
+        (IsFirstGreatest (λ p q. less_by cmp p.1 q.1))
+
+    -- `min_by_key`: the first of the items of the least key
+    abbrev pub PicksLeastKey : Type 0
+    PicksLeastKey = PicksByKey reads calls source f result
+        (IsFirstLeast (λ p q. less_by cmp p.1 q.1))
+
+-- m is an item of xs; if f acts as a function h, none of the values of h on xs is greater than that
+-- at m, or less.
+module _ {A K F : Type 0} (calls : Mut F (Bor A × Unit {0}) K) (cmp : K → K → Ordering) (f : F)
+    (xs : List A) (m : A) where
+  abbrev pub HasGreatestKey : Type 0
+  HasGreatestKey = Contains xs m × ((h : A → K) → ActsAsAt calls f h → (map h xs ≡ map h xs)
+      × All (λ k. less_by cmp (h m) k ≡ false) (map h xs))
+
+  abbrev pub HasLeastKey : Type 0
+  HasLeastKey = Contains xs m × ((h : A → K) → ActsAsAt calls f h → (map h xs ≡ map h xs)
+      × All (λ k. less_by cmp k (h m) ≡ false) (map h xs))

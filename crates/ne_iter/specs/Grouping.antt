@@ -1,0 +1,14 @@
+-- What a contract sees of a grouping. No type of the crate is named here.
+
+-- What a grouping knows of the items behind the runs that it answered: none was drawn yet; one item
+-- is held, with its key; or no more will come.
+pub data Ahead (K A : Type 0) : Type 0 where
+  Unread : Ahead K A
+  Held : K → A → Ahead K A
+  Ended : Ahead K A
+
+-- The source of a grouping as it is now, its closure, and what is ahead.
+pub record Grouping (S K A F : Type 0) : Type 0 where
+  pub source : S
+  pub closure : F
+  pub ahead : Ahead K A

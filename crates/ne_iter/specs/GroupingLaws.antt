@@ -1,0 +1,48 @@
+-- Proofs on groupings, which the impls cite.
+use Rattle.std.proofs.Common.{subst, sym, ap, ◌∙◌}
+use Rattle.std.specs.Prelude.{◌≡◌, Bool, List, [], ◌∷◌, map, Option, None, refl}
+use Rattle.std.specs.Borrow.{Bor}
+use Rattle.std.specs.Fn.{Mut}
+use Rattle.std.specs.Iterator.{Yields}
+use Rattle.ne_vec.specs.Divisions.{joined}
+use Rattle.ne_iter.specs.Keys.{items_of}
+use Rattle.ne_iter.specs.GroupingRuns.{IsOver, StandsAt, HasRead, GivesRun}
+use Rattle.ne_iter.specs.Grouping.{Grouping, Unread, Ended}
+use Rattle.ne_iter.specs.Sources.{HasFirst}
+
+pub nil_mapped : {A B : Type 0} (f : A → B) (xs : List A) → [] ≡ map f xs → xs ≡ []
+nil_mapped f [] e = refl
+nil_mapped f (x ∷ xs) e = cc
+
+module _ {S K A F : Type 0} (steps : S → Option A → S → Type 0) (asks : Mut F (Bor A × Unit {0}) K)
+    (eq : K → K → Bool) where
+  -- a grouping that has drawn nothing
+  pub fresh_grouping : (g : Grouping S K A F) → g.ahead ≡ Unread
+      → HasRead steps asks eq g.source g.closure [] g
+  fresh_grouping g e = record {
+    drawn = [];
+    runs = [];
+    answered = refl;
+    asked = refl;
+    stands = subst (λ a. StandsAt steps asks eq a g.source [] g.source []) (sym e)
+        (refl, refl, refl);
+  }
+
+  -- one that is over and answered no run drew nothing but the end
+  pub over_at_once : (s : S) (f : F) (h : Grouping S K A F) → HasRead steps asks eq s f [] h
+      → IsOver h → (t : S) × steps s None t
+  over_at_once s f h read over =
+      let none : read.runs ≡ [] = nil_mapped items_of read.runs read.answered in
+      let ended : StandsAt steps asks eq Ended s read.drawn h.source read.runs = subst
+      (λ a. StandsAt steps asks eq a s read.drawn h.source read.runs) over read.stands in
+      let drawn : read.drawn ≡ [] = sym ended.1.whole ∙ ap joined none in
+      let begun : s ≡ ended.0.0 = subst (λ l. Yields steps s (items_of l) ended.0.0) drawn ended.0.1
+      in
+      (h.source, subst (λ q. steps q None h.source) (sym begun) ended.0.2)
+
+  pub HasFirst-grouped : (g : Grouping S K A F) → g.ahead ≡ Unread → HasFirst steps g.source
+      → HasFirst (GivesRun steps asks eq) g
+  HasFirst-grouped g unread has t step =
+      let end = over_at_once g.source g.closure t
+      (step.reads g.source g.closure [] (fresh_grouping g unread)) step.stops in
+      has end.0 end.1

@@ -1,0 +1,98 @@
+-- What a grouping has drawn and answered, at whatever moment it is stopped.
+use Rattle.std.specs.Prelude.{◌≡◌, ◌≢◌, ℕ, ◌+◌, Bool, true, List, [], ◌∷◌, ◌++◌, map, Option, Some}
+use Rattle.std.specs.Prelude.{None, Result, Ok, Err, MatchOption, OnErr, IfOk}
+use Rattle.std.specs.Fn.{Mut}
+use Rattle.std.specs.List.{AllByRecursion}
+use Rattle.std.specs.Borrow.{Bor}
+use Rattle.std.specs.Iterator.{ActsAsAt, Yields, YieldsThen, Count, IsFinite, at_most, size}
+use Rattle.std.specs.Iterator.Runs.{EachRunFrom, SomeRun}
+use Rattle.std.specs.declared.alloc.AllocError.{AllocError}
+use Rattle.ne_vec.specs.Divisions.{IsDivision, by_first}
+use Rattle.ne_iter.specs.Calls.{ShownEach}
+use Rattle.ne_iter.specs.Keys.{items_of, same_key, IsDividedBy}
+use Rattle.ne_iter.specs.Grouping.{Grouping, Ahead, Unread, Held, Ended}
+
+-- It answers `None` from now on.
+abbrev pub IsOver : {S K A F : Type 0} → Grouping S K A F → Type 0
+IsOver g = g.ahead ≡ Ended
+
+module _ {S K A F : Type 0} (steps : S → Option A → S → Type 0) (asks : Mut F (Bor A × Unit {0}) K)
+    (eq : K → K → Bool) where
+  -- The items drawn, each with its key, took the source from s to t. Nothing was drawn; or they are
+  -- divided into the runs and one more, of the item that is held; or the source has ended, and they
+  -- are divided into the runs.
+  abbrev pub StandsAt : Ahead K A → S → List (A × K) → S → List (List (A × K)) → Type 0
+  StandsAt Unread s drawn t runs = (drawn ≡ []) × (runs ≡ []) × (s ≡ t)
+  StandsAt (Held k x) s drawn t runs = (runs ≢ []) × Yields steps s (items_of drawn) t
+      × IsDivision (by_first (same_key eq)) drawn (runs ++ ((x, k) ∷ []) ∷ [])
+  StandsAt Ended s drawn t runs = YieldsThen steps s (items_of drawn) None t
+      × IsDivision (by_first (same_key eq)) drawn runs
+
+  -- A grouping that began with the source s and the closure f has answered the runs rs, and now is
+  -- g. The closure was shown the items drawn, each once and in order, and their keys are its
+  -- answers.
+  pub record HasRead (s : S) (f : F) (rs : List (List A)) (g : Grouping S K A F) : Type 0 where
+    pub drawn : List (A × K)
+    pub runs : List (List (A × K))
+    pub answered : rs ≡ map items_of runs
+    pub asked : ShownEach asks f drawn g.closure
+    pub stands : StandsAt g.ahead s drawn g.source runs
+
+  -- One call of `next` answers r, and takes the grouping from g to h.
+  pub record GivesRun (g : Grouping S K A F) (r : Option (Result (List A) AllocError))
+      (h : Grouping S K A F) : Type 0 where
+    -- a grouping that is over answers `None` and stays as it is
+    pub over : IsOver g → (r ≡ None) × (h ≡ g)
+    -- it is over after `None`, and after an `Err`
+    pub stops : MatchOption r (IsOver h) (λ x. OnErr x (IsOver h))
+    -- whatever it had read and answered: a run comes behind those that it answered, and after
+    -- `None` there are no more
+    pub reads : (s : S) (f : F) (rs : List (List A)) → HasRead s f rs g
+        → MatchOption r (HasRead s f rs h) (λ x. IfOk x (λ run. HasRead s f (rs ++ run ∷ []) h))
+
+  -- What a grouping that had answered the runs rs answered then, and how it stands now: nothing
+  -- yet; or that no more will come; or an `Err`, and it stood as k before. After `None` and after
+  -- an `Err` it answers `None` and nothing else.
+  abbrev pub AnswersThen : S → F → List (List A) → List (Option (Result (List A) AllocError))
+      → Grouping S K A F → Type 0
+  AnswersThen s f rs [] h = HasRead s f rs h
+  AnswersThen s f rs (None ∷ more) h = HasRead s f rs h × IsOver h
+      × AllByRecursion (λ a. a ≡ None) more
+  AnswersThen s f rs (Some (Ok run) ∷ more) h = ⊥
+  AnswersThen s f rs (Some (Err e) ∷ more) h = ((k : Grouping S K A F) × HasRead s f rs k)
+      × IsOver h × AllByRecursion (λ a. a ≡ None) more
+
+  -- A grouping that had answered the runs done answered so on, and now is h: it answered runs, and
+  -- then no more.
+  abbrev pub AnswersOn : S → F → List (List A) → List (Option (Result (List A) AllocError))
+      → Grouping S K A F → Type 0
+  AnswersOn s f done answers h = (rs : List (List A))
+      × (more : List (Option (Result (List A) AllocError)))
+      × (answers ≡ map (λ run. Some (Ok run)) rs ++ more) × AnswersThen s f (done ++ rs) more h
+
+-- A grouping that is not over needs a source that can be drawn and ends, and a closure that can be
+-- called at each item that may come of it.
+abbrev pub CanRead : {S K A F : Type 0} → (S → Type 0) → (S → Count) → (S → F → Type 0)
+    → Grouping S K A F → Type 0
+CanRead can left callable g =
+    (IsOver g → ⊥) → can g.source × IsFinite (left g.source) × callable g.source g.closure
+
+-- There are no more runs than items ahead: those that the source has left, and the one that is
+-- held.
+abbrev pub items_ahead : {K A : Type 0} → Ahead K A → ℕ → ℕ
+items_ahead Unread left = left
+items_ahead (Held k x) left = left + 1
+items_ahead Ended left = 0
+
+abbrev pub runs_left : {S K A F : Type 0} → (S → Count) → Grouping S K A F → Count
+runs_left left g = at_most (items_ahead g.ahead (size (left g.source)))
+
+-- Where g, which has read nothing, gives runs to its end, each in `Ok`, its source gives a list to
+-- its end. If the closure acts as a function h, these are the runs of that list by h.
+abbrev pub GroupsRuns : {S K A F : Type 0} → (S → Option A → S → Type 0)
+    → Mut F (Bor A × Unit {0}) K → (K → K → Bool) → Grouping S K A F → Type 0
+GroupsRuns {K = K} {A = A} steps asks eq g = EachRunFrom (GivesRun steps asks eq) g (λ p.
+    (rs : List (List A)) → p.items ≡ map Ok rs → p.whole ≡ true
+    → (map {B = Result (List A) AllocError} Ok rs ≡ map Ok rs)
+    × SomeRun steps g.source (λ q. (q.whole ≡ true)
+    × ((h : A → K) → ActsAsAt asks g.closure h → IsDividedBy h eq q.items rs)))

@@ -1,0 +1,84 @@
+//! What a grouping has read at any moment, and the runs of items with keys.
+ghost use Rattle.std.specs.Prelude.{◌≡◌, ◌≢◌, Bool, List, [], ◌++◌, Option, Result};
+ghost use Rattle.std.specs.Iterator.{ActsAsAt, Drains};
+ghost use Rattle.std.specs.List.{AllByRecursion, FoldsTo};
+ghost use Rattle.ne_vec.specs.Divisions.{IsDivision, by_first, joined};
+ghost use Rattle.ne_iter.specs.Calls.{ShownEach};
+ghost use Rattle.ne_iter.specs.Keys.{items_of, DividesByKey, IsDividedBy};
+ghost use Rattle.ne_iter.specs.GroupingRuns.{IsOver, HasRead, GivesRun, AnswersOn};
+ghost use Rattle.ne_iter.specs.Grouping.{Grouping, Unread};
+
+use ne_vec::laws;
+use std::alloc::AllocError;
+
+/// A grouping has read as its contract says, whatever calls of its `next` were made: it
+/// answered runs, and then it may have answered `None` or an `Err`, and nothing but `None` after
+/// it.
+///
+/// `HasRead s f rs g` says that it began with the source `s` and the closure `f`, answered the runs
+/// `rs`, and now is `g`.
+pub fn groupings_stand_at_any_moment<I: Iterator, K: PartialEq, F: FnMut(&I::Item) -> K>()
+    ensures fresh { (g : Grouping I K I.Item F) → g.ahead ≡ Unread
+        → HasRead I.next_gives F.FnMut K.eq g.source g.closure [] g }
+    ensures later { (s : I) (f : F) (done : List (List I.Item)) (g h : Grouping I K I.Item F)
+        (answers : List (Option (Result (List I.Item) AllocError)))
+        → HasRead I.next_gives F.FnMut K.eq s f done g
+        → FoldsTo (GivesRun I.next_gives F.FnMut K.eq) g answers h
+        → AnswersOn I.next_gives F.FnMut K.eq s f done answers h }
+{}
+
+/// A grouping that has nothing ahead has drawn all that its source gave, and answered the runs of
+/// that.
+pub fn whole_reading_gives_the_division<I: Iterator, K: PartialEq, F: FnMut(&I::Item) -> K>()
+    ensures { (s : I) (f : F) (rs : List (List I.Item)) (g : Grouping I K I.Item F)
+        → HasRead I.next_gives F.FnMut K.eq s f rs g → IsOver g
+        → (ps : List (I.Item × K)) × Drains I.next_gives s (items_of ps)
+        × ShownEach F.FnMut f ps g.closure × DividesByKey K.eq ps rs }
+{}
+
+/// A grouping may be stopped at any moment: whatever items come behind those that it has drawn, and
+/// whatever keys they get, the runs that it has answered are the first runs of them all.
+pub fn stopped_grouping_has_the_first_runs<I: Iterator, K: PartialEq, F: FnMut(&I::Item) -> K>()
+    ensures { (s : I) (f : F) (rs : List (List I.Item)) (g : Grouping I K I.Item F)
+        (read : HasRead I.next_gives F.FnMut K.eq s f rs g)
+        (more : List (I.Item × K)) (all : List (List I.Item)) → (IsOver g → more ≡ [])
+        → DividesByKey K.eq (read.drawn ++ more) all
+        → (rest : List (List I.Item)) × (all ≡ rs ++ rest) }
+{
+    laws::has_one_division::<(I::Item, K)>();
+    laws::longer_list_keeps_runs::<(I::Item, K)>();
+}
+
+/// Items with keys have exactly one division by them. One after another its runs are the items, and
+/// no run is empty.
+pub fn runs_make_the_whole<T, K>()
+    ensures exists { (eq : K → K → Bool) (ps : List (T × K))
+        → (rs : List (List T)) × DividesByKey eq ps rs }
+    ensures unique { (eq : K → K → Bool) (ps : List (T × K)) (rs others : List (List T))
+        → DividesByKey eq ps rs → DividesByKey eq ps others → rs ≡ others }
+    ensures whole { (eq : K → K → Bool) (ps : List (T × K)) (rs : List (List T))
+        → DividesByKey eq ps rs → joined rs ≡ items_of ps }
+    ensures some { (eq : K → K → Bool) (ps : List (T × K)) (rs : List (List T))
+        → DividesByKey eq ps rs → AllByRecursion (λ r. r ≢ []) rs }
+{
+    laws::has_one_division::<(T, K)>();
+}
+
+/// Where the closure acts as a function, the runs are those of the items by the function's values.
+pub fn runs_by_a_function<T, K, F: FnMut(&T) -> K>(f: &F)
+    ensures { (eq : K → K → Bool) (h : T → K) (ps : List (T × K)) (rs : List (List T)) (g : F)
+        → ActsAsAt F.FnMut f.now h → ShownEach F.FnMut f.now ps g → DividesByKey eq ps rs
+        → IsDivision (by_first (λ x y. eq (h x) (h y))) (items_of ps) rs }
+{
+    laws::has_one_division::<(T, K)>();
+    laws::has_one_division::<T>();
+    laws::mapped_list_has_the_mapped_runs::<T, (T, K)>();
+}
+
+/// Runs by the keys that a function gives are the division of the items by these keys, each
+/// compared with that of its run's first item. Callers of `group_by` that know the first of its
+/// runs, by `IsDividedBy`, call this law for what a division says of its parts.
+pub fn runs_by_keys_are_the_division<T, K>()
+    ensures { (eq : K → K → Bool) (h : T → K) (xs : List T) (rs : List (List T))
+        → IsDividedBy h eq xs rs → IsDivision (by_first (λ x y. eq (h x) (h y))) xs rs }
+{}

@@ -1,0 +1,65 @@
+-- The lists that the chunks and the runs of a slice give, as sources.
+use Rattle.std.proofs.Common.{refl, sym, ap, subst, ◌∙◌}
+use Rattle.std.specs.Prelude.{◌≡◌, ◌<◌, Bool, List, [], ◌∷◌, ◌++◌, length}
+use Rattle.std.specs.Borrow.{Bor}
+use Rattle.std.specs.Fn.{Shared}
+use Rattle.std.specs.Iterator.{Yields, YieldsFirst}
+use Rattle.ne_vec.specs.Chunks.{ChunksGive}
+use Rattle.ne_vec.specs.Divisions.{runs_of}
+use Rattle.ne_vec.specs.Fronts.{AreFirst, Lists}
+use Rattle.ne_vec.specs.FrontLaws.{first_front, marked}
+use Rattle.ne_vec.specs.SliceRuns.{Cutting, ActsAsAtPair, CutsRun, RunsGive}
+use Rattle.ne_vec.proofs.Divisions.{divide, divides, divide_only}
+use Rattle.ne_vec.proofs.FirstRuns.{runs_before}
+
+module _ {X : Type 0} (c parts : List (List X)) (same : c ≡ parts) where
+  chunk_lists : Lists (λ (c it : List (List X)). (0 < length c) × (it ≡ c))
+      (YieldsFirst (λ left. left)) c parts
+  unfolding Lists
+  chunk_lists it made whole ys given = subst (λ l. AreFirst whole l ys) (made.1 ∙ same)
+      (first_front (λ left. left) it ys given)
+
+  pub chunks_give : ChunksGive c parts
+  chunks_give = (marked c parts, chunk_lists)
+
+module _ {A F : Type 0} (calls : Shared F (Bor A × (Bor A × Unit {0})) Bool)
+    (place : (A → A → Bool) → List A → A → Bool) where
+  is_divide : (same : A → A → Bool) (xs : List A)
+      → divide (place same) xs ≡ runs_of place same xs
+  is_divide same [] = refl
+  is_divide same (x ∷ xs) = refl
+
+  -- the runs that came are the first, and those of what is left are the others
+  runs_came : (same : A → A → Bool) (s t : Cutting A F) (rs : List (List A))
+      → ActsAsAtPair calls s.closure same → Yields (CutsRun calls place) s rs t
+      → runs_of place same s.left ≡ rs ++ runs_of place same t.left
+  runs_came same s t rs acts yields =
+      let rest = divide (place same) t.left in
+      let whole = runs_before calls place same s t rs rest acts yields
+      (divides (place same) t.left) in
+      sym (is_divide same s.left) ∙ sym (divide_only (place same) s.left (rs ++ rest) whole)
+      ∙ ap (λ l. rs ++ l) (is_divide same t.left)
+
+  pub run_lists : (s : Cutting A F) (same : A → A → Bool) → ActsAsAtPair calls s.closure same
+      → Lists (λ (s it : Cutting A F). (0 < length s.left) × (it ≡ s)) (CutsRun calls place)
+      s (runs_of place same s.left)
+  unfolding Lists
+  run_lists s same acts it made whole ys given =
+      let t = given.0 in
+      let yields = subst (λ q. Yields (CutsRun calls place) q ys t) made.1 given.1 in (
+        runs_of place same t.left,
+        runs_came same s t ys acts yields,
+        λ w. ap (runs_of place same) (given.2 w).1.1.0,
+      )
+
+  pub runs_give : (f : F) (s : Cutting A F) (xs : List A) → s.closure ≡ f → s.left ≡ xs
+      → RunsGive calls place f s xs
+  runs_give f s xs same_closure same_items same acts = (
+    refl,
+    (
+      marked s (runs_of place same xs),
+      subst (λ l. Lists (λ (s it : Cutting A F). (0 < length s.left) × (it ≡ s))
+          (CutsRun calls place) s (runs_of place same l)) same_items
+          (run_lists s same (subst (λ g. ActsAsAtPair calls g same) (sym same_closure) acts)),
+    ),
+  )

@@ -1,0 +1,10 @@
+use Rattle.ne_vec.proofs.PartLists.{chunks_give}
+use Rattle.ne_vec.proofs.vector.NEVec.nonempty_chunks.Goals as goal
+
+pub returns-clause-lists : goal.returns-clause-lists
+returns-clause-lists g c =
+    let view = c.self.view_is in
+    let size = c.chunks.ensures.size in
+    let rest = c.chunks.ensures.rest in
+    let n = c.get.ensures in
+    chunks_give _ _ cc
