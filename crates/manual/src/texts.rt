@@ -138,21 +138,8 @@ pub fn paired<'a>(
         .collect(alloc)
 }
 
-/// The texts of groups, each of which has a number.
-pub fn spread<'a>(
-    alloc: Global,
-    groups: NEVec<(usize, NEVec<&'a str>)>,
-) -> Result<NEVec<&'a str>, AllocError>
-    ensures { IfOk result (λ v. v ≡ flat_map (λ group. group.1) groups.entry) }
-{
-    groups
-        .into_nonempty_iter()
-        .flat_map(|group| group.1)
-        .collect(alloc)
-}
-
 /// A source of its length for each text.
-pub fn spread_lengths(alloc: Global, texts: NEVec<&str>) -> Result<NEVec<usize>, AllocError>
+pub fn spread(alloc: Global, texts: NEVec<&str>) -> Result<NEVec<usize>, AllocError>
     ensures { IfOk result (λ v. v ≡ flat_map (λ t. length t.now ∷ []) texts.entry) }
 {
     texts
