@@ -3,6 +3,9 @@ ghost use Rattle.std.specs.Prelude.{◌≡◌, ◌+◌, ◌-◌, ◌/◌, ◌<�
 ghost use Rattle.std.specs.Prelude.{nat_lt, slice_set, slice_get, Some, IfOk, MatchResult};
 ghost use Rattle.std.specs.Prelude.{IsSorted};
 ghost use Rattle.std.specs.List.{filter};
+ghost use Rattle.std.specs.NonZero.{non_zero_usize_get};
+ghost use Rattle.ne_vec.specs.Chunks.{chunks};
+ghost use Rattle.ne_vec.specs.Kept.{KeepsFirsts};
 
 use ne_vec::{NESlice, NEVec, Singleton, nev};
 use std::alloc::{AllocError, Global};
@@ -220,4 +223,18 @@ pub(crate) fn first_adjacent_run<'a, T, F: Fn(&T, &T) -> bool + Drop>(
     ensures { (rest : List T) × (items.now ≡ result ++ rest) }
 {
     items.adjacent_runs(same).into_iter().next().unwrap()
+}
+
+// How many chunks there are at least.
+pub(crate) fn least_chunks(v: &NEVec<u32>, n: NonZeroUsize) -> usize
+    ensures { result ≤ length (chunks (non_zero_usize_get n) v.now) }
+{
+    v.nonempty_chunks(n).into_iter().size_hint().0
+}
+
+// Of neighbours that are equal, and may differ all the same, the first stays.
+pub(crate) fn drop_equal<T: PartialEq + Drop>(v: &mut NEVec<T>)
+    ensures { KeepsFirsts T.eq v.old v.new }
+{
+    v.dedup();
 }

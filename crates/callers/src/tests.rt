@@ -1,14 +1,19 @@
 //! Each call once with ample memory, worked rows, and printed texts.
 
 mod drawing;
+mod drops;
+mod large;
+mod macros;
 mod runs;
 mod slices;
 mod vectors;
 
 ghost use Rattle.std.specs.Prelude.{◌≡◌, IfOk, length};
+ghost use Rattle.std.specs.Iterator.{IsFiniteIterable};
 
 use ne_vec::{Error, NESlice, NEVec};
 use std::alloc::{AllocError, Global};
+use std::convert::AsSlice;
 use std::fmt::Debug;
 use std::num::NonZeroUsize;
 use std::test::Fail;
@@ -24,28 +29,41 @@ fn last_job(alloc: Global, first: u32, next: u32) -> Result<u32, AllocError>
 
 #[test]
 fn example_of_the_readme(rt: HostRuntime) -> Result<(), Fail> {
-    is(last_job(rt.alloc(), 3, 5)?, 5)?;
-    Ok(())
+    is(last_job(rt.alloc(), 3, 5)?, 5)
+}
+
+// Fails if the text is another.
+fn reads(text: Result<String, AllocError>, wanted: &str) -> Result<(), Fail> {
+    is(text?.as_str(), wanted)
 }
 
 #[test]
-fn printed_texts(rt: HostRuntime) -> Result<(), Fail> {
+fn printed_vectors(rt: HostRuntime) -> Result<(), Fail> {
     let alloc = rt.alloc();
-    let four = list(alloc, &[0, 1, 2, 3])?;
-    is(format!(in alloc; "{four:?}")?.as_str(), "[0, 1, 2, 3]")?;
-    let one = list(alloc, &[7])?;
-    is(format!(in alloc; "{one:#?}")?.as_str(), "[\n    7,\n]")?;
-    let slice = four.as_nonempty_slice();
-    is(
-        format!(in alloc; "{slice:?}")?.as_str(),
+    let four = numbers(alloc, &[0, 1, 2, 3])?;
+    reads(format!(in alloc; "{four:?}"), "[0, 1, 2, 3]")?;
+    let one = numbers(alloc, &[7])?;
+    reads(format!(in alloc; "{one:#?}"), "[\n    7,\n]")
+}
+
+#[test]
+fn printed_slice(rt: HostRuntime) -> Result<(), Fail> {
+    let alloc = rt.alloc();
+    let slice = part(&[0, 1, 2, 3])?;
+    reads(
+        format!(in alloc; "{slice:?}"),
         "NESlice { inner: [0, 1, 2, 3] }",
-    )?;
-    is(
-        format!(in alloc; "{}", Error::Empty)?.as_str(),
+    )
+}
+
+#[test]
+fn printed_error(rt: HostRuntime) -> Result<(), Fail> {
+    let alloc = rt.alloc();
+    reads(
+        format!(in alloc; "{}", Error::Empty),
         "Given collection was empty",
     )?;
-    is(format!(in alloc; "{:?}", Error::Empty)?.as_str(), "Empty")?;
-    Ok(())
+    reads(format!(in alloc; "{:?}", Error::Empty), "Empty")
 }
 
 // A size or a count, which is not 0.
@@ -67,6 +85,13 @@ pub(crate) fn list<T: Clone + Drop>(alloc: Global, items: &[T]) -> Result<NEVec<
     Ok(NEVec::try_from_slice(alloc, items)?.ok_or("no items")?)
 }
 
+// The same of plain numbers.
+pub(crate) fn numbers(alloc: Global, items: &[u32]) -> Result<NEVec<u32>, Fail>
+    ensures { IfOk result (λ v. length v ≡ length items.now) }
+{
+    list(alloc, items)
+}
+
 // Fails if the two values differ, and says what both are.
 pub(crate) fn is<T: PartialEq + Debug + Drop>(given: T, wanted: T) -> Result<(), Fail> {
     if given == wanted {
@@ -79,4 +104,30 @@ pub(crate) fn is<T: PartialEq + Debug + Drop>(given: T, wanted: T) -> Result<(),
 // The same of two lists.
 pub(crate) fn same<T: PartialEq + Debug>(given: &[T], wanted: &[T]) -> Result<(), Fail> {
     is(given, wanted)
+}
+
+// Fails if the vector's items are others.
+pub(crate) fn holds(vector: &NEVec<u32>, wanted: &[u32]) -> Result<(), Fail> {
+    same(vector.as_slice(), wanted)
+}
+
+// The same of a vector for which there must be memory.
+pub(crate) fn made(vector: Result<NEVec<u32>, AllocError>, wanted: &[u32]) -> Result<(), Fail> {
+    holds(&vector?, wanted)
+}
+
+// Fails if the parts of a slice are others than these: behind each part stands a 0.
+pub(crate) fn shows<'a, P: IntoIterator<Item = NESlice<'a, u32>>>(
+    alloc: Global,
+    parts: P,
+    wanted: &[u32],
+) -> Result<(), Fail>
+    requires { IsFiniteIterable P.into_iter_gives P.IntoIter.can_next P.IntoIter.remaining parts }
+{
+    let mut shown = Vec::new(alloc);
+    for part in parts {
+        shown.extend_from_slice(part.as_slice())?;
+        shown.push(0)?;
+    }
+    same(shown.as_slice(), wanted)
 }

@@ -18,7 +18,11 @@ ghost use Rattle.std.specs.Prelude.{
   true,
   false,
   codes,
+  from_bits,
+  length,
+  ltb,
   map,
+  nat_eq,
   filter,
   fold,
   Contains,
@@ -26,13 +30,21 @@ ghost use Rattle.std.specs.Prelude.{
   IsSorted,
   slice_get,
 };
+ghost use Rattle.std.specs.List.{scan};
+ghost use lib.Ieee as Ieee;
+ghost use lib.Ieee.{binary64};
+ghost use Rattle.std.specs.Int.NonZero.{non_zero_usize_get};
 ghost use Rattle.std.specs.Ordering.{nat_cmp};
+ghost use Rattle.ne_vec.specs.Chunks.{chunks as chunks_by};
+ghost use Rattle.ne_vec.specs.Divisions.{by_first, by_previous, runs_of};
+ghost use Rattle.ne_iter.specs.Collected.{IsMapOf, IsSetOf};
 
 use nonempty_collections::{
     IntoIteratorExt, IntoNonEmptyIterator, NESlice, NEVec, NonEmptyArrayExt, NonEmptyIterator,
     Singleton, nev,
 };
 use std::alloc::{AllocError, Global};
+use std::collections::{BTreeMap, HashMap, HashSet};
 use std::num::NonZeroUsize;
 
 // Making a vector.
@@ -282,6 +294,15 @@ pub fn dedup_by_key(alloc: Global) -> Result<NEVec<u32>, AllocError>
     Ok(items)
 }
 
+/// `dedup_by`: an item is dropped if it is below the last one kept.
+pub fn dedup_by(alloc: Global) -> Result<NEVec<u32>, AllocError>
+    ensures { IfOk result (λ v. v ≡ 4 ∷ 6 ∷ []) }
+{
+    let mut items = nev![alloc; 4, 6, 5, 3]?;
+    items.dedup_by(|later, kept| *later < *kept);
+    Ok(items)
+}
+
 // Searching a vector.
 
 /// The place of an item in a vector that is sorted, if it is there.
@@ -505,4 +526,111 @@ pub fn looked_at_none(alloc: Global) -> bool
 {
     let items: Vec<u8> = Vec::new(alloc);
     items.try_into_nonempty_iter().is_none()
+}
+
+// Slices.
+
+/// The items of a slice that is handed over.
+pub fn of_a_part(alloc: Global, items: NESlice<'_, u32>) -> Result<NEVec<u32>, AllocError>
+    ensures { IfOk result (λ v. v ≡ items.entry) }
+{
+    items.into_nonempty_iter().copied().collect(alloc)
+}
+
+/// The chunks of a slice.
+pub fn chunks_of_a_slice<'a>(
+    alloc: Global,
+    items: &'a NESlice<'a, u32>,
+    n: NonZeroUsize,
+) -> Result<NEVec<NESlice<'a, u32>>, AllocError>
+    ensures { IfOk result (λ v. v ≡ chunks_by (non_zero_usize_get n) items.now) }
+{
+    items.nonempty_chunks(n).collect(alloc)
+}
+
+/// The lengths of the runs in which each further item is above the run's first one.
+pub fn lengths_above_first(
+    alloc: Global,
+    items: NESlice<'_, u32>,
+) -> Result<NEVec<usize>, AllocError>
+    ensures { IfOk result (λ v. v ≡ map (λ run. length run)
+        (runs_of by_first (λ x y. ltb x y) items.entry)) }
+{
+    items
+        .runs_by(|x, y| *x < *y)
+        .map(|run| run.len().get())
+        .collect(alloc)
+}
+
+/// The lengths of the runs in which each further item is above the one before it.
+pub fn lengths_ascending(alloc: Global, items: NESlice<'_, u32>) -> Result<NEVec<usize>, AllocError>
+    ensures { IfOk result (λ v. v ≡ map (λ run. length run)
+        (runs_of by_previous (λ x y. ltb x y) items.entry)) }
+{
+    items
+        .adjacent_runs(|x, y| *x < *y)
+        .map(|run| run.len().get())
+        .collect(alloc)
+}
+
+// Maps and sets.
+
+/// A hash map of pairs: a key that several have gets the value of the last of them.
+pub fn hash_map(alloc: Global, pairs: NEVec<(u32, u32)>) -> Result<HashMap<u32, u32>, AllocError>
+    ensures { IfOk result (λ m. IsMapOf nat_eq pairs m.entries) }
+{
+    pairs.into_nonempty_iter().collect(alloc)
+}
+
+/// A map of pairs whose keys ascend: a key that several have gets the value of the last of them.
+pub fn tree_map(alloc: Global, pairs: NEVec<(u32, u32)>) -> Result<BTreeMap<u32, u32>, AllocError>
+    ensures { IfOk result (λ m. IsMapOf nat_eq pairs m.entries) }
+{
+    pairs.into_nonempty_iter().collect(alloc)
+}
+
+/// A hash set of items.
+pub fn hash_set(alloc: Global, items: NEVec<u32>) -> Result<HashSet<u32>, AllocError>
+    ensures { IfOk result (λ s. IsSetOf nat_eq items s.keys) }
+{
+    items.into_nonempty_iter().collect(alloc)
+}
+
+// Iterators of adapters, by std's calls.
+
+/// Whether `None` comes behind the first run, if there was no memory for that.
+pub fn ends_at_refusal(alloc: Global, items: NEVec<u32>) -> bool
+    ensures { result ≡ true }
+{
+    let mut runs = items
+        .into_nonempty_iter()
+        .group_by(alloc, |x| *x / 2)
+        .into_iter();
+    match runs.next() {
+        Some(Err(_)) => runs.next().is_none(),
+        _ => true,
+    }
+}
+
+/// The totals of the first item, of the first two, and so on, each modulo 2^32, by std's `collect`.
+pub fn totals_by_std(alloc: Global, items: NEVec<u32>) -> Result<Vec<u32>, AllocError>
+    ensures { IfOk result (λ v. v.items
+        ≡ scan (λ t x. (t + x) % 2 ^ 32) (λ t x. (t + x) % 2 ^ 32) 0 items) }
+{
+    items
+        .into_nonempty_iter()
+        .scan(0, |total: &mut u32, x| {
+            *total = total.wrapping_add(x);
+            *total
+        })
+        .into_iter()
+        .collect(alloc)
+}
+
+/// The product of floats, each partial one rounded.
+pub fn product_of_floats(numbers: NEVec<f64>) -> f64
+    ensures { result ≡ fold (λ a x. Ieee.mul binary64 a x)
+        (from_bits binary64 0x3ff0_0000_0000_0000) numbers }
+{
+    numbers.into_nonempty_iter().product()
 }

@@ -1,6 +1,6 @@
 //! The calls of `NESlice`, and chunks.
 
-use super::{is, list, of, part, same};
+use super::{is, list, of, part, same, shows};
 use ne_vec::NESlice;
 use ne_vec::slice::Iter;
 use std::alloc::Global;
@@ -19,15 +19,24 @@ fn calls(rt: HostRuntime) -> Result<(), Fail> {
     is((*three.first(), *three.last()), (1, 3))?;
     is((three.len().get(), three.is_empty()), (3, false))?;
     is(three[1], 2)?;
-    same(three.as_slice(), &items)?;
+    same(three.as_slice(), &items)
+}
+
+#[test]
+fn compared(_rt: HostRuntime) -> Result<(), Fail> {
+    let items = [1, 2, 3];
+    let three = part(&items)?;
     let again = three.clone()?;
     is(again == three, true)?;
     is(again.cmp(&three), Ordering::Equal)?;
-    is(three.partial_cmp(&part(&[1, 3])?), Some(Ordering::Less))?;
+    is(three.partial_cmp(&part(&[1, 3])?), Some(Ordering::Less))
+}
+
+#[test]
+fn hashed(rt: HostRuntime) -> Result<(), Fail> {
     let mut seen: HashSet<NESlice<'_, u8>> = HashSet::new(rt.alloc());
     is(seen.insert(part(&[1, 2])?)?, true)?;
-    is(seen.insert(part(&[1, 2])?)?, false)?;
-    Ok(())
+    is(seen.insert(part(&[1, 2])?)?, false)
 }
 
 // Fails if the items of the slice's iterator are others.
@@ -45,36 +54,25 @@ fn walks(rt: HostRuntime) -> Result<(), Fail> {
     gives(alloc, three.nonempty_iter().into_iter(), &[1, 2, 3])?;
     gives(alloc, (&three).into_iter(), &[1, 2, 3])?;
     gives(alloc, Iter::from(three.clone()?).into_iter(), &[1, 2, 3])?;
-    gives(alloc, three.into_iter(), &[1, 2, 3])?;
-    Ok(())
+    gives(alloc, three.into_iter(), &[1, 2, 3])
 }
 
-// The chunks of the numbers from 1 to 7, by their items, and how many they are.
-fn chunks_of_seven(alloc: Global, size: usize) -> Result<(Vec<u8>, usize), Fail> {
-    let items = [1, 2, 3, 4, 5, 6, 7];
-    let seven = part(&items)?;
-    let (mut shown, mut count) = (Vec::new(alloc), 0usize);
-    for chunk in seven.nonempty_chunks(of(size)?) {
-        shown.extend_from_slice(chunk.as_slice())?;
-        shown.push(0)?;
-        count = count.saturating_add(1);
-    }
-    Ok((shown, count))
+// The chunks of the numbers from 1 to 7 are these: behind each stands a 0.
+fn chunked(alloc: Global, size: usize, wanted: &[u32]) -> Result<(), Fail> {
+    shows(
+        alloc,
+        part(&[1, 2, 3, 4, 5, 6, 7])?.nonempty_chunks(of(size)?),
+        wanted,
+    )
 }
 
-// Behind each chunk stands a 0. The size is on both sides, so that a failure names it.
 #[test]
 fn chunks(rt: HostRuntime) -> Result<(), Fail> {
-    for (size, wanted, chunks) in [
-        (3, [1, 2, 3, 0, 4, 5, 6, 0, 7, 0].as_slice(), 3),
-        (6, [1, 2, 3, 4, 5, 6, 0, 7, 0].as_slice(), 2),
-        (7, [1, 2, 3, 4, 5, 6, 7, 0].as_slice(), 1),
-        (usize::MAX, [1, 2, 3, 4, 5, 6, 7, 0].as_slice(), 1),
-    ] {
-        let (shown, count) = chunks_of_seven(rt.alloc(), size)?;
-        is((size, shown.as_slice(), count), (size, wanted, chunks))?;
-    }
-    Ok(())
+    let alloc = rt.alloc();
+    chunked(alloc, 3, &[1, 2, 3, 0, 4, 5, 6, 0, 7, 0])?;
+    chunked(alloc, 6, &[1, 2, 3, 4, 5, 6, 0, 7, 0])?;
+    chunked(alloc, 7, &[1, 2, 3, 4, 5, 6, 7, 0])?;
+    chunked(alloc, usize::MAX, &[1, 2, 3, 4, 5, 6, 7, 0])
 }
 
 #[test]
@@ -83,10 +81,8 @@ fn chunks_of_a_vector(rt: HostRuntime) -> Result<(), Fail> {
     let mut chunks = five.nonempty_chunks(of(2)?).into_iter();
     is(chunks.size_hint(), (3, Some(3)))?;
     for wanted in [[1, 2].as_slice(), [3, 4].as_slice(), [5].as_slice()] {
-        let chunk = chunks.next().ok_or("no chunk left")?;
-        same(chunk.as_slice(), wanted)?;
+        same(chunks.next().ok_or("no chunk left")?.as_slice(), wanted)?;
     }
     is(chunks.next().is_none(), true)?;
-    is(chunks.size_hint(), (0, Some(0)))?;
-    Ok(())
+    is(chunks.size_hint(), (0, Some(0)))
 }
