@@ -21,8 +21,11 @@ mod runs;
 mod sources;
 mod totals;
 
-use nonempty_collections::NEVec;
+ghost use Rattle.std.specs.Iterator.{IsFiniteIterable};
+
+use nonempty_collections::{NEVec, NonEmptyIterator};
 use std::alloc::Global;
+use std::convert::AsSlice;
 use std::fmt::Debug;
 use std::num::NonZeroUsize;
 use std::test::Fail;
@@ -49,4 +52,28 @@ pub(crate) fn is<T: PartialEq + Debug + Drop>(given: T, wanted: T) -> Result<(),
 // The same of two lists.
 pub(crate) fn same<T: PartialEq + Debug>(given: &[T], wanted: &[T]) -> Result<(), Fail> {
     is(given, wanted)
+}
+
+// Fails if the source's items, collected, are others.
+pub(crate) fn gives<T: PartialEq + Debug + Drop, S: NonEmptyIterator<Item = T>>(
+    alloc: Global,
+    s: S,
+    wanted: &[T],
+) -> Result<(), Fail>
+    requires { IsFiniteIterable S.into_iter_gives S.IntoIter.can_next S.IntoIter.remaining s }
+{
+    let all: NEVec<T> = s.collect(alloc)?;
+    same(all.as_slice(), wanted)
+}
+
+// The same of what may be empty.
+pub(crate) fn yields<T: PartialEq + Debug + Drop, I: IntoIterator<Item = T>>(
+    alloc: Global,
+    items: I,
+    wanted: &[T],
+) -> Result<(), Fail>
+    requires { IsFiniteIterable I.into_iter_gives I.IntoIter.can_next I.IntoIter.remaining items }
+{
+    let all: Vec<T> = items.into_iter().collect(alloc)?;
+    same(all.as_slice(), wanted)
 }

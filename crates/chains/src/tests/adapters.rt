@@ -1,12 +1,12 @@
-//! The adapters.
+//! The adapters, each over any source: a helper adapts the source, and compares what comes out.
 ghost use Rattle.std.specs.Prelude.{◌^◌, ◌<◌};
 ghost use Rattle.std.specs.Iterator.{IsFiniteIterable, size};
 
-use super::{list, of, same};
+use super::{gives, list, of};
 use nonempty_collections::iter::once;
-use nonempty_collections::{IntoNonEmptyIterator, NEVec, NonEmptyIterator};
+use nonempty_collections::{IntoNonEmptyIterator, NonEmptyIterator};
 use std::alloc::{AllocError, Global};
-use std::convert::AsSlice;
+use std::fmt::Debug;
 use std::num::NonZeroUsize;
 use std::test::Fail;
 
@@ -14,106 +14,135 @@ fn doubled<S: NonEmptyIterator<Item = u32>>(
     alloc: Global,
     s: S,
     n: NonZeroUsize,
-) -> Result<NEVec<u32>, AllocError>
+    wanted: &[u32],
+) -> Result<(), Fail>
     requires { IsFiniteIterable S.into_iter_gives S.IntoIter.can_next S.IntoIter.remaining s }
 {
-    s.map(|x| x.wrapping_mul(2)).take(n).collect(alloc)
+    gives(alloc, s.map(|x| x.wrapping_mul(2)).take(n), wanted)
 }
 
-fn sums<S: NonEmptyIterator<Item = u32>, O: IntoNonEmptyIterator<Item = u32>>(
+pub(super) fn taken<S: NonEmptyIterator<Item = u32>>(
+    alloc: Global,
+    s: S,
+    n: NonZeroUsize,
+    wanted: &[u32],
+) -> Result<(), Fail>
+    requires { IsFiniteIterable S.into_iter_gives S.IntoIter.can_next S.IntoIter.remaining s }
+{
+    gives(alloc, s.take(n), wanted)
+}
+
+pub(super) fn turned<S: NonEmptyIterator<Item = u32>>(
+    alloc: Global,
+    s: S,
+    wanted: &[u32],
+) -> Result<(), Fail>
+    requires { IsFiniteIterable S.into_iter_gives S.IntoIter.can_next S.IntoIter.remaining s }
+{
+    gives(alloc, s.map(|x| 9 - x % 9), wanted)
+}
+
+pub(super) fn zipped<S: NonEmptyIterator<Item = u32>, O: IntoNonEmptyIterator<Item = u32>>(
     alloc: Global,
     s: S,
     other: O,
-) -> Result<NEVec<u32>, AllocError>
+    wanted: &[(u32, u32)],
+) -> Result<(), Fail>
     requires ends { IsFiniteIterable S.into_iter_gives S.IntoIter.can_next S.IntoIter.remaining s }
     requires other_ends { IsFiniteIterable O.into_iter_gives O.IntoIter.can_next
         O.IntoIter.remaining other }
 {
-    s.zip(other).map(|(a, b)| a.wrapping_add(b)).collect(alloc)
+    gives(alloc, s.zip(other), wanted)
 }
 
-fn chained<S: NonEmptyIterator<Item = u32>, O: IntoIterator<Item = u32>>(
+pub(super) fn chained<S: NonEmptyIterator<Item = u32>, O: IntoIterator<Item = u32>>(
     alloc: Global,
     s: S,
     other: O,
-) -> Result<NEVec<u32>, AllocError>
+    wanted: &[u32],
+) -> Result<(), Fail>
     requires ends { IsFiniteIterable S.into_iter_gives S.IntoIter.can_next S.IntoIter.remaining s }
     requires other_ends { IsFiniteIterable O.into_iter_gives O.IntoIter.can_next
         O.IntoIter.remaining other }
 {
-    s.chain(other).collect(alloc)
+    gives(alloc, s.chain(other), wanted)
 }
 
-fn each_twice<S: NonEmptyIterator<Item = u32>>(
+// Each item, and behind it its product with the factor.
+pub(super) fn multiplied<S: NonEmptyIterator<Item = u32>>(
     alloc: Global,
     s: S,
-) -> Result<NEVec<u32>, AllocError>
+    factor: u32,
+    wanted: &[u32],
+) -> Result<(), Fail>
     requires { IsFiniteIterable S.into_iter_gives S.IntoIter.can_next S.IntoIter.remaining s }
 {
-    s.flat_map(|x| [x, x]).collect(alloc)
+    gives(alloc, s.flat_map(|x| [x, x.wrapping_mul(factor)]), wanted)
 }
 
-fn placed<S: NonEmptyIterator<Item = char>>(
+pub(super) fn placed<T: PartialEq + Debug + Drop, S: NonEmptyIterator<Item = T>>(
     alloc: Global,
     s: S,
-) -> Result<NEVec<(usize, char)>, AllocError>
+    wanted: &[(usize, T)],
+) -> Result<(), Fail>
     requires ends { IsFiniteIterable S.into_iter_gives S.IntoIter.can_next S.IntoIter.remaining s }
     requires fits { (it : S.IntoIter) → S.into_iter_gives s it
         → size (S.IntoIter.remaining it) < 2 ^ 64 }
 {
-    s.enumerate().collect(alloc)
+    gives(alloc, s.enumerate(), wanted)
 }
 
 pub(super) fn cloned<'a, S: NonEmptyIterator<Item = &'a u32>>(
     alloc: Global,
     s: S,
-) -> Result<NEVec<Result<u32, AllocError>>, AllocError>
+    wanted: &[Result<u32, AllocError>],
+) -> Result<(), Fail>
     requires { IsFiniteIterable S.into_iter_gives S.IntoIter.can_next S.IntoIter.remaining s }
 {
-    s.cloned().collect(alloc)
+    gives(alloc, s.cloned(), wanted)
 }
 
-fn copied<'a, S: NonEmptyIterator<Item = &'a u32>>(
+pub(super) fn copied<'a, S: NonEmptyIterator<Item = &'a u32>>(
     alloc: Global,
     s: S,
-) -> Result<NEVec<u32>, AllocError>
+    wanted: &[u32],
+) -> Result<(), Fail>
     requires { IsFiniteIterable S.into_iter_gives S.IntoIter.can_next S.IntoIter.remaining s }
 {
-    s.copied().collect(alloc)
+    gives(alloc, s.copied(), wanted)
 }
 
 #[test]
 fn of_one_source(rt: HostRuntime) -> Result<(), Fail> {
     let alloc = rt.alloc();
-    let three = [1u32, 2, 3].into_nonempty_iter();
-    same(doubled(alloc, three, of(2)?)?.as_slice(), &[2, 4])?;
-    let three = [1u32, 2, 3].into_nonempty_iter();
-    same(each_twice(alloc, three)?.as_slice(), &[1, 1, 2, 2, 3, 3])?;
-    let two = ['a', 'b'].into_nonempty_iter();
-    same(placed(alloc, two)?.as_slice(), &[(0, 'a'), (1, 'b')])?;
-    Ok(())
+    let three = [1u32, 2, 3];
+    doubled(alloc, three.into_nonempty_iter(), of(2)?, &[2, 4])?;
+    multiplied(alloc, three.into_nonempty_iter(), 1, &[1, 1, 2, 2, 3, 3])?;
+    placed(
+        alloc,
+        ['a', 'b'].into_nonempty_iter(),
+        &[(0, 'a'), (1, 'b')],
+    )
 }
 
+// The sums of the pairs that are zipped are 5, 7 and 9.
 #[test]
 fn of_two_sources(rt: HostRuntime) -> Result<(), Fail> {
     let alloc = rt.alloc();
     let three = [1u32, 2, 3].into_nonempty_iter();
-    same(sums(alloc, three, [4u32, 5, 6, 7])?.as_slice(), &[5, 7, 9])?;
-    let none = Vec::new(alloc);
-    same(chained(alloc, once(5), none)?.as_slice(), &[5])?;
-    let rest = vec![in alloc; 6u32, 7]?;
-    same(chained(alloc, once(5), rest)?.as_slice(), &[5, 6, 7])?;
-    Ok(())
+    zipped(alloc, three, [4u32, 5, 6, 7], &[(1, 4), (2, 5), (3, 6)])?;
+    chained(alloc, once(5), Vec::new(alloc), &[5])?;
+    chained(
+        alloc,
+        once(5),
+        Vec::from(list(alloc, &[6u32, 7])?),
+        &[5, 6, 7],
+    )
 }
 
 #[test]
 fn over_references(rt: HostRuntime) -> Result<(), Fail> {
-    let alloc = rt.alloc();
-    let two = list(alloc, &[1u32, 2])?;
-    same(
-        cloned(alloc, two.nonempty_iter())?.as_slice(),
-        &[Ok(1), Ok(2)],
-    )?;
-    same(copied(alloc, two.nonempty_iter())?.as_slice(), &[1, 2])?;
-    Ok(())
+    let two = list(rt.alloc(), &[1u32, 2])?;
+    cloned(rt.alloc(), two.nonempty_iter(), &[Ok(1), Ok(2)])?;
+    copied(rt.alloc(), two.nonempty_iter(), &[1, 2])
 }

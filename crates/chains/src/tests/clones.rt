@@ -1,10 +1,9 @@
 //! A clone that is refused.
 
-use super::{is, same};
-use nonempty_collections::{IntoNonEmptyIterator, NEVec, NonEmptyIterator};
+use super::{is, yields};
+use nonempty_collections::{IntoNonEmptyIterator, NonEmptyIterator};
 use std::alloc::AllocError;
 use std::cell::Cell;
-use std::convert::AsSlice;
 use std::test::Fail;
 
 // A number that counts its clones, of which the second is refused.
@@ -40,12 +39,8 @@ fn second_refused(rt: HostRuntime) -> Result<(), Fail> {
         numbered(2, &clones),
         numbered(3, &clones),
     ];
-    let values: NEVec<Result<u32, AllocError>> = (&three)
-        .into_nonempty_iter()
-        .cloned()
-        .map(|clone| clone.map(|it| it.value))
-        .collect(rt.alloc())?;
-    same(values.as_slice(), &[Ok(1), Err(AllocError), Ok(3)])?;
-    is(clones.get(), 3)?;
-    Ok(())
+    let answers = (&three).into_nonempty_iter().cloned().into_iter();
+    let values = answers.map(|clone| clone.map(|it| it.value));
+    yields(rt.alloc(), values, &[Ok(1), Err(AllocError), Ok(3)])?;
+    is(clones.get(), 3)
 }

@@ -21,8 +21,7 @@ fn nothing_of_each_item(rt: HostRuntime) -> Result<(), Fail> {
         calls = calls.wrapping_add(1);
     });
     let () = drawn.collect(rt.alloc())?;
-    is(calls, 2)?;
-    Ok(())
+    is(calls, 2)
 }
 
 #[test]
@@ -33,20 +32,27 @@ fn lists_and_sets(rt: HostRuntime) -> Result<(), Fail> {
     let hashed: HashSet<u32> = items.into_nonempty_iter().collect(rt.alloc())?;
     is(hashed.len(), 2)?;
     let tree: BTreeSet<u32> = items.into_nonempty_iter().collect(rt.alloc())?;
-    is(tree.len(), 2)?;
-    Ok(())
+    is(tree.len(), 2)
+}
+
+const PAIRS: [(char, u32); 3] = [('a', 1), ('b', 2), ('a', 4)];
+
+#[test]
+fn hash_map(rt: HostRuntime) -> Result<(), Fail> {
+    let map: HashMap<char, u32> = PAIRS.into_nonempty_iter().collect(rt.alloc())?;
+    is(
+        (map.get(&'a'), map.get(&'b'), map.len()),
+        (Some(&4), Some(&2), 2),
+    )
 }
 
 #[test]
-fn maps(rt: HostRuntime) -> Result<(), Fail> {
-    let pairs = [('a', 1u32), ('b', 2), ('a', 4)];
-    let hashed: HashMap<char, u32> = pairs.into_nonempty_iter().collect(rt.alloc())?;
-    is((hashed.get(&'a'), hashed.get(&'b')), (Some(&4), Some(&2)))?;
-    is(hashed.len(), 2)?;
-    let tree: BTreeMap<char, u32> = pairs.into_nonempty_iter().collect(rt.alloc())?;
-    is((tree.get(&'a'), tree.get(&'b')), (Some(&4), Some(&2)))?;
-    is(tree.len(), 2)?;
-    Ok(())
+fn tree_map(rt: HostRuntime) -> Result<(), Fail> {
+    let map: BTreeMap<char, u32> = PAIRS.into_nonempty_iter().collect(rt.alloc())?;
+    is(
+        (map.get(&'a'), map.get(&'b'), map.len()),
+        (Some(&4), Some(&2), 2),
+    )
 }
 
 #[test]
@@ -60,8 +66,7 @@ fn texts(rt: HostRuntime) -> Result<(), Fail> {
     is(joined.as_str(), "ababc")?;
     let either = [CowStr::Borrowed("ab"), CowStr::Owned(joined)];
     let joined: String = either.into_nonempty_iter().collect(alloc)?;
-    is(joined.as_str(), "abababc")?;
-    Ok(())
+    is(joined.as_str(), "abababc")
 }
 
 #[test]
@@ -70,15 +75,13 @@ fn characters(rt: HostRuntime) -> Result<(), Fail> {
     let text: String = letters.into_nonempty_iter().collect(rt.alloc())?;
     is(text.as_str(), "xy")?;
     let text: String = (&letters).into_nonempty_iter().collect(rt.alloc())?;
-    is(text.as_str(), "xy")?;
-    Ok(())
+    is(text.as_str(), "xy")
 }
 
 #[test]
 fn paths(rt: HostRuntime) -> Result<(), Fail> {
     let path: PathBuf = ["a", "b"].into_nonempty_iter().collect(rt.alloc())?;
-    is(path.into_string().as_str(), "a/b")?;
-    Ok(())
+    is(path.into_string().as_str(), "a/b")
 }
 
 #[test]
@@ -87,8 +90,7 @@ fn values(rt: HostRuntime) -> Result<(), Fail> {
         .into_nonempty_iter()
         .map(even)
         .collect(rt.alloc())?;
-    same(all?.as_slice(), &[2, 4, 8])?;
-    Ok(())
+    same(all?.as_slice(), &[2, 4, 8])
 }
 
 // Stopped by the second of three.
@@ -102,8 +104,7 @@ fn first_error(rt: HostRuntime) -> Result<(), Fail> {
             even(n)
         })
         .collect(rt.alloc())?;
-    is((all.err(), calls), (Some(ODD), 2))?;
-    Ok(())
+    is((all.err(), calls), (Some(ODD), 2))
 }
 
 // The outer one is made of all items, and the inner one stops at the second value.
@@ -114,6 +115,5 @@ fn result_of_results(rt: HostRuntime) -> Result<(), Fail> {
         .into_nonempty_iter()
         .collect(rt.alloc())?;
     let inner = made.ok().ok_or("an error of the outer result")?;
-    is(inner.err(), Some(ODD))?;
-    Ok(())
+    is(inner.err(), Some(ODD))
 }

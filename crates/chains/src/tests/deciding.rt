@@ -41,8 +41,7 @@ fn items(rt: HostRuntime) -> Result<(), Fail> {
     is(above_one([1u32, 2, 3].into_nonempty_iter()), Some(2))?;
     is(above_one([1u32].into_nonempty_iter()), None)?;
     is(at([0u32, 1, 2].into_nonempty_iter(), 2), Some(2))?;
-    is(at([0u32, 1, 2].into_nonempty_iter(), 3), None)?;
-    Ok(())
+    is(at([0u32, 1, 2].into_nonempty_iter(), 3), None)
 }
 
 #[test]
@@ -50,6 +49,5 @@ fn answers(rt: HostRuntime) -> Result<(), Fail> {
     is(are_small([1u32, 2].into_nonempty_iter()), true)?;
     is(are_small([1u32, 2, 3].into_nonempty_iter()), false)?;
     is(has_two([1u32, 2, 3].into_nonempty_iter()), true)?;
-    is(has_two([1u32, 3].into_nonempty_iter()), false)?;
-    Ok(())
+    is(has_two([1u32, 3].into_nonempty_iter()), false)
 }

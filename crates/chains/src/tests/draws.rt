@@ -3,10 +3,9 @@ ghost use Rattle.std.specs.Prelude.{◌≡◌, ◌<◌, IfNone};
 ghost use Rattle.std.specs.Iterator.{at_most};
 ghost use Rattle.std.proofs.Common.{arith};
 
-use super::{is, of, same};
-use nonempty_collections::{IntoIteratorExt, NEVec, NonEmptyIterator};
+use super::{adapters, is, of};
+use nonempty_collections::{IntoIteratorExt, NonEmptyIterator};
 use std::cell::Cell;
-use std::convert::AsSlice;
 use std::test::Fail;
 
 // The numbers from `first` down to 1, of which each draw is counted.
@@ -79,25 +78,21 @@ fn deciding(rt: HostRuntime) -> Result<(), Fail> {
     let draws = Cell::new(0u32);
     is((three(&draws).all(|x| x > 2), draws.take()), (false, 2))?;
     is((three(&draws).any(|x| x == 2), draws.take()), (true, 2))?;
-    is((three(&draws).find(|x| *x < 3), draws.take()), (Some(2), 2))?;
-    Ok(())
+    is((three(&draws).find(|x| *x < 3), draws.take()), (Some(2), 2))
 }
 
 #[test]
 fn at_a_place(rt: HostRuntime) -> Result<(), Fail> {
     let draws = Cell::new(0u32);
     is((three(&draws).nth(1), draws.take()), (Some(2), 2))?;
-    is((three(&draws).next().0, draws.take()), (3, 1))?;
-    Ok(())
+    is((three(&draws).next().0, draws.take()), (3, 1))
 }
 
 #[test]
 fn taken(rt: HostRuntime) -> Result<(), Fail> {
     let draws = Cell::new(0u32);
-    let two: NEVec<u32> = three(&draws).take(of(2)?).collect(rt.alloc())?;
-    same(two.as_slice(), &[3, 2])?;
-    is(draws.get(), 2)?;
-    Ok(())
+    adapters::taken(rt.alloc(), three(&draws), of(2)?, &[3, 2])?;
+    is(draws.get(), 2)
 }
 
 // What looks ahead draws one item, and gives it.
@@ -108,8 +103,7 @@ fn looked_at(rt: HostRuntime) -> Result<(), Fail> {
     is((source.next().0, draws.take()), (3, 1))?;
     let source = three(&draws).try_into_nonempty_iter();
     let source = source.ok_or("nothing there")?;
-    is((source.next().0, draws.take()), (3, 1))?;
-    Ok(())
+    is((source.next().0, draws.take()), (3, 1))
 }
 
 // An adapter draws nothing before it is asked, and then no more than it has to.
@@ -118,6 +112,5 @@ fn adapted(rt: HostRuntime) -> Result<(), Fail> {
     let draws = Cell::new(0u32);
     let tower = three(&draws).map(|x| x / 2).enumerate().chain([(9, 9)]);
     is(draws.get(), 0)?;
-    is((tower.next().0, draws.get()), ((0, 1), 1))?;
-    Ok(())
+    is((tower.next().0, draws.get()), ((0, 1), 1))
 }

@@ -76,17 +76,28 @@ fn of_numbers(rt: HostRuntime) -> Result<(), Fail> {
     is(greatest([1i32, -2, 33, 4].into_nonempty_iter()), 33)?;
     is(least([1i32, -2, 33, 4].into_nonempty_iter()), -2)?;
     is(greatest_by([1i32, -2, 33, 4].into_nonempty_iter()), 33)?;
-    is(least_by([1i32, -2, 33, 4].into_nonempty_iter()), -2)?;
-    Ok(())
+    is(least_by([1i32, -2, 33, 4].into_nonempty_iter()), -2)
+}
+
+// Of two that are equal each answers the first.
+#[test]
+fn max_of_equal_ones(_rt: HostRuntime) -> Result<(), Fail> {
+    is(greatest(twins().into_nonempty_iter()).mark, 'a')
 }
 
 #[test]
-fn first_of_equal_ones(rt: HostRuntime) -> Result<(), Fail> {
-    is(greatest(twins().into_nonempty_iter()).mark, 'a')?;
-    is(least(twins().into_nonempty_iter()).mark, 'a')?;
-    is(greatest_by(twins().into_nonempty_iter()).mark, 'a')?;
-    is(least_by(twins().into_nonempty_iter()).mark, 'a')?;
-    Ok(())
+fn min_of_equal_ones(_rt: HostRuntime) -> Result<(), Fail> {
+    is(least(twins().into_nonempty_iter()).mark, 'a')
+}
+
+#[test]
+fn max_by_of_equal_ones(_rt: HostRuntime) -> Result<(), Fail> {
+    is(greatest_by(twins().into_nonempty_iter()).mark, 'a')
+}
+
+#[test]
+fn min_by_of_equal_ones(_rt: HostRuntime) -> Result<(), Fail> {
+    is(least_by(twins().into_nonempty_iter()).mark, 'a')
 }
 
 #[test]
@@ -94,8 +105,7 @@ fn of_words(rt: HostRuntime) -> Result<(), Fail> {
     let words = ["hi", "hey", "rust", "yolo"];
     is(longest(words.into_nonempty_iter()), "rust")?;
     let words = ["hi", "hello", "greetings", "hy"];
-    is(shortest(words.into_nonempty_iter()), "hi")?;
-    Ok(())
+    is(shortest(words.into_nonempty_iter()), "hi")
 }
 
 // A comparison that is no order still answers an item.
@@ -103,8 +113,7 @@ fn of_words(rt: HostRuntime) -> Result<(), Fail> {
 fn always_less(rt: HostRuntime) -> Result<(), Fail> {
     let three = [1u32, 2, 3].into_nonempty_iter();
     let some = three.max_by(|_, _| Ordering::Less);
-    is(1 <= some && some <= 3, true)?;
-    Ok(())
+    is(1 <= some && some <= 3, true)
 }
 
 // The comparison is called with the best item so far and the next one, in this order: `asked` holds
@@ -119,8 +128,7 @@ fn best_so_far_in_front(rt: HostRuntime) -> Result<(), Fail> {
     let greatest = [4u32, 7, 5].into_nonempty_iter().max_by(compare);
     is((greatest, asked.get()), (7, (7, 5)))?;
     let least = [5u32, 2, 4].into_nonempty_iter().min_by(compare);
-    is((least, asked.get()), (2, (2, 4)))?;
-    Ok(())
+    is((least, asked.get()), (2, (2, 4)))
 }
 
 #[test]
@@ -129,6 +137,5 @@ fn sorted(rt: HostRuntime) -> Result<(), Fail> {
     same(
         oldest_first(rt.alloc(), people.into_nonempty_iter())?.as_slice(),
         &[("Jill", 30), ("Jack", 30), ("Jane", 20), ("John", 18)],
-    )?;
-    Ok(())
+    )
 }

@@ -4,46 +4,39 @@ ghost use Rattle.std.specs.Iterator.{IsFiniteIterable};
 
 use super::clones::numbered;
 use super::draws::down_from;
-use super::{is, same};
+use super::{gives, is};
 use ne_iter::laws::interspersed_lists_have_their_places;
-use nonempty_collections::{IntoNonEmptyIterator, NEVec, NonEmptyIterator};
+use nonempty_collections::{IntoNonEmptyIterator, NonEmptyIterator};
 use std::alloc::{AllocError, Global};
 use std::cell::Cell;
-use std::convert::AsSlice;
 use std::test::Fail;
 
 fn separated<S: NonEmptyIterator<Item = u32>>(
     alloc: Global,
     s: S,
-) -> Result<NEVec<Result<u32, AllocError>>, AllocError>
+    wanted: &[Result<u32, AllocError>],
+) -> Result<(), Fail>
     requires { IsFiniteIterable S.into_iter_gives S.IntoIter.can_next S.IntoIter.remaining s }
 {
-    s.intersperse(0).collect(alloc)
+    gives(alloc, s.intersperse(0), wanted)
 }
 
 #[test]
 fn rows(rt: HostRuntime) -> Result<(), Fail> {
     let alloc = rt.alloc();
     interspersed_lists_have_their_places::<u32>();
-    same(
-        separated(alloc, [1u32].into_nonempty_iter())?.as_slice(),
-        &[Ok(1)],
-    )?;
-    same(
-        separated(alloc, [1u32, 2, 3].into_nonempty_iter())?.as_slice(),
+    separated(alloc, [1u32].into_nonempty_iter(), &[Ok(1)])?;
+    separated(
+        alloc,
+        [1u32, 2, 3].into_nonempty_iter(),
         &[Ok(1), Ok(0), Ok(2), Ok(0), Ok(3)],
-    )?;
-    Ok(())
+    )
 }
 
 #[test]
 fn of_answers(rt: HostRuntime) -> Result<(), Fail> {
     let halves = [4u32, 6].into_nonempty_iter().map(|x| x / 2);
-    same(
-        separated(rt.alloc(), halves)?.as_slice(),
-        &[Ok(2), Ok(0), Ok(3)],
-    )?;
-    Ok(())
+    separated(rt.alloc(), halves, &[Ok(2), Ok(0), Ok(3)])
 }
 
 // The first clone is made, the second refused. Each separator is one clone, and none is made behind
@@ -66,8 +59,7 @@ fn second_refused(rt: HostRuntime) -> Result<(), Fail> {
     is((items.next(), clones.get()), (Some(Ok(2)), 1))?;
     is(items.next(), Some(Err(AllocError)))?;
     is(items.next(), None)?;
-    is((items.next(), clones.get()), (None, 2))?;
-    Ok(())
+    is((items.next(), clones.get()), (None, 2))
 }
 
 // An item is drawn ahead of its separator. After the end the source is asked at each call.
@@ -81,6 +73,5 @@ fn drawn(rt: HostRuntime) -> Result<(), Fail> {
     is((items.next(), draws.get()), (Some(Ok(1)), 2))?;
     is((items.next(), draws.get()), (None, 3))?;
     is((items.next(), draws.get()), (None, 4))?;
-    is((items.next(), draws.get()), (None, 5))?;
-    Ok(())
+    is((items.next(), draws.get()), (None, 5))
 }

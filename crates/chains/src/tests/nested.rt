@@ -1,14 +1,15 @@
 //! `flatten` and `scan`: worked rows, and how often a closure is called.
 
-use super::{is, list, of, same};
-use nonempty_collections::{IntoNonEmptyIterator, NEVec, NonEmptyIterator, nev};
+use super::{gives, is, list, of, same};
+use nonempty_collections::{IntoNonEmptyIterator, NEVec, NonEmptyIterator};
 use std::alloc::{AllocError, Global};
 use std::cell::Cell;
 use std::convert::AsSlice;
 use std::test::Fail;
 
-fn flat(alloc: Global, lists: NEVec<NEVec<u32>>) -> Result<NEVec<u32>, AllocError> {
-    lists.into_nonempty_iter().flatten().collect(alloc)
+// The lists one behind another are the items wanted.
+fn flattened(alloc: Global, lists: NEVec<NEVec<u32>>, wanted: &[u32]) -> Result<(), Fail> {
+    gives(alloc, lists.into_nonempty_iter().flatten(), wanted)
 }
 
 fn runs(alloc: Global, items: NEVec<u32>) -> Result<NEVec<NEVec<u32>>, AllocError> {
@@ -27,28 +28,36 @@ fn sums(alloc: Global, items: NEVec<u32>) -> Result<NEVec<u32>, AllocError> {
 }
 
 #[test]
-fn flattened(rt: HostRuntime) -> Result<(), Fail> {
+fn lists_flattened(rt: HostRuntime) -> Result<(), Fail> {
     let alloc = rt.alloc();
-    let lists = nev![alloc; nev![alloc; 1u32, 2]?, nev![alloc; 3]?]?;
-    same(flat(alloc, lists)?.as_slice(), &[1, 2, 3])?;
-    let one: NEVec<u32> = [[7u32]].into_nonempty_iter().flatten().collect(alloc)?;
-    same(one.as_slice(), &[7])?;
+    let mut lists = NEVec::new(alloc, list(alloc, &[1u32, 2])?)?;
+    lists.push(list(alloc, &[3])?)?;
+    flattened(alloc, lists, &[1, 2, 3])?;
     let lists = runs(alloc, list(alloc, &[1, 1, 2, 3, 3])?)?;
-    same(flat(alloc, lists)?.as_slice(), &[1, 1, 2, 3, 3])?;
-    let ones = NEVec::from_elem(alloc, 1u32, of(10_000)?)?.into_nonempty_iter();
-    let many: NEVec<u32> = ones.map(|x| [x, 2]).flatten().collect(alloc)?;
-    is((many.len().get(), *many.last()), (20_000, 2))
+    flattened(alloc, lists, &[1, 1, 2, 3, 3])
+}
+
+#[test]
+fn arrays_flattened(rt: HostRuntime) -> Result<(), Fail> {
+    gives(rt.alloc(), [[7u32]].into_nonempty_iter().flatten(), &[7])
+}
+
+#[test]
+fn many_flattened(rt: HostRuntime) -> Result<(), Fail> {
+    let ones = NEVec::from_elem(rt.alloc(), 1u32, of(10_000)?)?.into_nonempty_iter();
+    let all = ones.map(|x| [x, 2]).flatten().into_iter();
+    is(
+        all.fold((0u32, 0u32), |told, x| (told.0.wrapping_add(1), x)),
+        (20_000, 2),
+    )
 }
 
 #[test]
 fn scanned(rt: HostRuntime) -> Result<(), Fail> {
-    let alloc = rt.alloc();
-    same(
-        sums(alloc, list(alloc, &[1, 2, 3])?)?.as_slice(),
-        &[1, 3, 6],
-    )?;
-    let ones = NEVec::from_elem(alloc, 1u32, of(10_000)?)?;
-    let totals = sums(alloc, ones)?;
+    let totals = sums(rt.alloc(), list(rt.alloc(), &[1, 2, 3])?)?;
+    same(totals.as_slice(), &[1, 3, 6])?;
+    let ones = NEVec::from_elem(rt.alloc(), 1u32, of(10_000)?)?;
+    let totals = sums(rt.alloc(), ones)?;
     is(
         (totals.len().get(), *totals.first(), *totals.last()),
         (10_000, 1, 10_000),

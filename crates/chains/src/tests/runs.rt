@@ -58,8 +58,7 @@ fn of_any_key(rt: HostRuntime) -> Result<(), Fail> {
     let ones = [1u32, 1, 1].into_nonempty_iter();
     is(told(&runs(alloc, ones, |_| Never)?), 101_010)?;
     let three = Countdown::new(NonZeroU32::new(3).ok_or("0 is no start")?);
-    is(told(&runs(alloc, three, |x| *x / 2)?), 32010)?;
-    Ok(())
+    is(told(&runs(alloc, three, |x| *x / 2)?), 32010)
 }
 
 // The key is half the number of the calls before it.
@@ -72,8 +71,7 @@ fn key_with_state(rt: HostRuntime) -> Result<(), Fail> {
         calls = calls.wrapping_add(1);
         key
     })?;
-    is((told(&runs), calls), (99_099_090, 5))?;
-    Ok(())
+    is((told(&runs), calls), (99_099_090, 5))
 }
 
 // 4 and 3 are a run, and then 2 and 1. Each item is drawn and asked for its key once, and one is
@@ -93,6 +91,5 @@ fn draws_and_keys(rt: HostRuntime) -> Result<(), Fail> {
     let second = reader.next().ok_or("no run")??;
     is((*second.first(), draws.get(), keys.get()), (2, 5, 4))?;
     is(reader.next().is_none(), true)?;
-    is((draws.get(), keys.get()), (5, 4))?;
-    Ok(())
+    is((draws.get(), keys.get()), (5, 4))
 }

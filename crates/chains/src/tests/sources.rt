@@ -1,9 +1,9 @@
 //! Each source once, into a vector.
 ghost use Rattle.std.specs.Iterator.{IsFiniteIterable};
 
-use super::{is, list, of, same};
+use super::{gives, is, list, of, same};
 use nonempty_collections::{
-    IntoNonEmptyIterator, NESlice, NEVec, NonEmptyArrayExt, NonEmptyIterator, nev, slice, vector,
+    IntoNonEmptyIterator, NESlice, NEVec, NonEmptyArrayExt, NonEmptyIterator, slice, vector,
 };
 use std::alloc::Global;
 use std::convert::AsSlice;
@@ -15,19 +15,7 @@ const ALL: [u8; 32] = [
     26, 27, 28, 29, 30, 31,
 ];
 
-// Fails if the source's items, collected, are others.
-fn gives<T: PartialEq + Debug + Drop, S: NonEmptyIterator<Item = T>>(
-    alloc: Global,
-    s: S,
-    wanted: &[T],
-) -> Result<(), Fail>
-    requires { IsFiniteIterable S.into_iter_gives S.IntoIter.can_next S.IntoIter.remaining s }
-{
-    let all: NEVec<T> = s.collect(alloc)?;
-    same(all.as_slice(), wanted)
-}
-
-// The same of copies of a source's items.
+// Fails if the source refers to other items.
 fn refers_to<'a, T: Copy + PartialEq + Debug + 'a, S: NonEmptyIterator<Item = &'a T>>(
     alloc: Global,
     s: S,
@@ -35,17 +23,14 @@ fn refers_to<'a, T: Copy + PartialEq + Debug + 'a, S: NonEmptyIterator<Item = &'
 ) -> Result<(), Fail>
     requires { IsFiniteIterable S.into_iter_gives S.IntoIter.can_next S.IntoIter.remaining s }
 {
-    let all: NEVec<T> = s.copied().collect(alloc)?;
-    same(all.as_slice(), wanted)
+    gives(alloc, s.copied(), wanted)
 }
 
 #[test]
 fn vector_by_value(rt: HostRuntime) -> Result<(), Fail> {
-    let three = nev![rt.alloc(); 1u32, 2, 3]?;
-    let walk = vector::IntoIter::from(three);
-    let again: NEVec<u32> = walk.collect(rt.alloc())?;
-    gives(rt.alloc(), again.into_nonempty_iter(), &[1, 2, 3])?;
-    Ok(())
+    let three = list(rt.alloc(), &[1u32, 2, 3])?;
+    let again: NEVec<u32> = vector::IntoIter::from(three).collect(rt.alloc())?;
+    gives(rt.alloc(), again.into_nonempty_iter(), &[1, 2, 3])
 }
 
 #[test]
@@ -53,23 +38,18 @@ fn vector_by_reference(rt: HostRuntime) -> Result<(), Fail> {
     let three = list(rt.alloc(), &[1u32, 2, 3])?;
     refers_to(rt.alloc(), (&three).into_nonempty_iter(), &[1, 2, 3])?;
     let walk: vector::Iter<'_, u32> = three.nonempty_iter();
-    refers_to(rt.alloc(), walk, &[1, 2, 3])?;
-    Ok(())
+    refers_to(rt.alloc(), walk, &[1, 2, 3])
 }
 
 #[test]
 fn vector_written(rt: HostRuntime) -> Result<(), Fail> {
     let mut three = list(rt.alloc(), &[1u32, 2, 3])?;
-    let written: NEVec<u32> = three
-        .nonempty_iter_mut()
-        .map(|x| {
-            *x = x.wrapping_add(1);
-            *x
-        })
-        .collect(rt.alloc())?;
-    same(written.as_slice(), &[2, 3, 4])?;
-    same(three.as_slice(), &[2, 3, 4])?;
-    Ok(())
+    let written = three.nonempty_iter_mut().map(|x| {
+        *x = x.wrapping_add(1);
+        *x
+    });
+    gives(rt.alloc(), written, &[2, 3, 4])?;
+    same(three.as_slice(), &[2, 3, 4])
 }
 
 #[test]
@@ -78,8 +58,7 @@ fn slice_by_value(rt: HostRuntime) -> Result<(), Fail> {
     let three = items.as_nonempty_slice();
     let walk = slice::Iter::from(three.clone()?);
     refers_to(rt.alloc(), walk, &[1, 2, 3])?;
-    refers_to(rt.alloc(), three.into_nonempty_iter(), &[1, 2, 3])?;
-    Ok(())
+    refers_to(rt.alloc(), three.into_nonempty_iter(), &[1, 2, 3])
 }
 
 #[test]
@@ -87,19 +66,14 @@ fn slice_by_reference(rt: HostRuntime) -> Result<(), Fail> {
     let items = [1u32, 2, 3];
     let three = NESlice::try_from_slice(&items).ok_or("no items")?;
     refers_to(rt.alloc(), (&three).into_nonempty_iter(), &[1, 2, 3])?;
-    refers_to(rt.alloc(), three.nonempty_iter(), &[1, 2, 3])?;
-    Ok(())
+    refers_to(rt.alloc(), three.nonempty_iter(), &[1, 2, 3])
 }
 
 #[test]
 fn chunks(rt: HostRuntime) -> Result<(), Fail> {
     let five = list(rt.alloc(), &[1u32, 2, 3, 4, 5])?;
-    let lengths: NEVec<usize> = five
-        .nonempty_chunks(of(2)?)
-        .map(|chunk| chunk.len().get())
-        .collect(rt.alloc())?;
-    same(lengths.as_slice(), &[2, 2, 1])?;
-    Ok(())
+    let lengths = five.nonempty_chunks(of(2)?).map(|chunk| chunk.len().get());
+    gives(rt.alloc(), lengths, &[2, 2, 1])
 }
 
 #[test]
@@ -107,8 +81,7 @@ fn arrays_by_value(rt: HostRuntime) -> Result<(), Fail> {
     let alloc = rt.alloc();
     gives(alloc, [1u8].into_nonempty_iter(), &[1])?;
     gives(alloc, [1u8, 2].into_nonempty_iter(), &[1, 2])?;
-    gives(alloc, ALL.into_nonempty_iter(), &ALL)?;
-    Ok(())
+    gives(alloc, ALL.into_nonempty_iter(), &ALL)
 }
 
 #[test]
@@ -116,8 +89,7 @@ fn arrays_by_reference(rt: HostRuntime) -> Result<(), Fail> {
     let alloc = rt.alloc();
     refers_to(alloc, (&[1u8]).into_nonempty_iter(), &[1])?;
     refers_to(alloc, (&[1u8, 2]).into_nonempty_iter(), &[1, 2])?;
-    refers_to(alloc, (&ALL).into_nonempty_iter(), &ALL)?;
-    Ok(())
+    refers_to(alloc, (&ALL).into_nonempty_iter(), &ALL)
 }
 
 #[test]
@@ -125,6 +97,5 @@ fn arrays_as_others(rt: HostRuntime) -> Result<(), Fail> {
     same(ALL.as_nonempty_slice().as_slice(), &ALL)?;
     is(ALL.nonzero_len().get(), 32)?;
     is([4u8].nonzero_len().get(), 1)?;
-    same([4u8].into_nonempty_vec(rt.alloc())?.as_slice(), &[4])?;
-    Ok(())
+    same([4u8].into_nonempty_vec(rt.alloc())?.as_slice(), &[4])
 }

@@ -47,21 +47,18 @@ fn product<X, T: Product<X>, S: NonEmptyIterator<Item = X>>(s: S) -> T
 
 #[test]
 fn counted(rt: HostRuntime) -> Result<(), Fail> {
-    is(count([1u32, 2, 3].into_nonempty_iter()), 3)?;
-    Ok(())
+    is(count([1u32, 2, 3].into_nonempty_iter()), 3)
 }
 
 #[test]
 fn folded(rt: HostRuntime) -> Result<(), Fail> {
     is(digits([1u32, 2, 3].into_nonempty_iter(), 7), 7123)?;
-    is(reduced([1u32, 2, 3].into_nonempty_iter()), 123)?;
-    Ok(())
+    is(reduced([1u32, 2, 3].into_nonempty_iter()), 123)
 }
 
 #[test]
 fn summed(rt: HostRuntime) -> Result<(), Fail> {
-    is(sum::<u32, _>([1u32, 2, 3, 4].into_nonempty_iter()), 10)?;
-    Ok(())
+    is(sum::<u32, _>([1u32, 2, 3, 4].into_nonempty_iter()), 10)
 }
 
 // Of plain numbers it would have to be proved here that no product is out of range.
@@ -69,6 +66,5 @@ fn summed(rt: HostRuntime) -> Result<(), Fail> {
 fn multiplied(rt: HostRuntime) -> Result<(), Fail> {
     let four = [Wrapping(1u32), Wrapping(2), Wrapping(3), Wrapping(4)];
     let product: Wrapping<u32> = product(four.into_nonempty_iter());
-    is(product.0, 24)?;
-    Ok(())
+    is(product.0, 24)
 }
