@@ -6,10 +6,12 @@
 mod changes;
 mod clones;
 mod collected;
+mod drops;
 mod makes;
 mod runs;
 mod sorts;
 mod sources;
+mod untouched;
 
 ghost use Rattle.std.specs.Prelude.{◌+◌, ◌^◌};
 ghost use Rattle.std.specs.Iterator.{at_most};

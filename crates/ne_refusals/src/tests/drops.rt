@@ -1,0 +1,110 @@
+//! Items that count their owners: an item that is refused a place is dropped once, as are those
+//! that came before it.
+
+use super::tell;
+use nonempty_collections::{NEVec, Singleton, nev};
+use std::alloc::{AllocError, Global};
+use std::rc::Rc;
+use std::test::Fail;
+
+// A token, a vector of two of its owners that has no room for a third, and one more owner.
+fn prepared(alloc: Global) -> Result<(Rc<u32>, NEVec<Rc<u32>>, Rc<u32>), AllocError> {
+    let token = Rc::new(alloc, 7)?;
+    let mut tail = Vec::with_capacity(alloc, 2)?;
+    tail.push(token.clone()?)?;
+    let items = NEVec::from_parts(token.clone()?, tail)?;
+    let next = token.clone()?;
+    Ok((token, items, next))
+}
+
+// Fails unless the owners of the token are these items and the one that is asked.
+fn owned(
+    rt: &impl Print,
+    call: &str,
+    answer: Result<(), AllocError>,
+    token: &Rc<u32>,
+    items: &NEVec<Rc<u32>>,
+) -> Result<(), Fail> {
+    if Rc::strong_count(token) - 1 != items.len().get() {
+        return Err(Fail::new(format_args!("{call}: an item is lost, or dropped twice")));
+    }
+    tell(rt, if answer.is_ok() { "made" } else { "refused" }, call)
+}
+
+#[test]
+fn push(rt: HostRuntime) -> Result<(), Fail> {
+    let call = "NEVec::push of an owner";
+    let Ok((token, mut items, next)) = prepared(rt.alloc()) else {
+        return tell(&rt, "not reached", call);
+    };
+    let answer = items.push(next);
+    owned(&rt, call, answer, &token, &items)
+}
+
+#[test]
+fn insert(rt: HostRuntime) -> Result<(), Fail> {
+    let call = "NEVec::insert of an owner";
+    let Ok((token, mut items, next)) = prepared(rt.alloc()) else {
+        return tell(&rt, "not reached", call);
+    };
+    let answer = items.insert(0, next);
+    owned(&rt, call, answer, &token, &items)
+}
+
+#[test]
+fn extend_one(rt: HostRuntime) -> Result<(), Fail> {
+    let call = "Singleton::extend_one of an owner";
+    let Ok((token, mut items, next)) = prepared(rt.alloc()) else {
+        return tell(&rt, "not reached", call);
+    };
+    let answer = items.extend_one(next);
+    owned(&rt, call, answer, &token, &items)
+}
+
+// Fails unless the token has so many owners beside itself where the vector was made, and else none.
+fn held(
+    rt: &impl Print,
+    call: &str,
+    answer: Result<NEVec<Rc<u32>>, AllocError>,
+    token: &Rc<u32>,
+    count: usize,
+) -> Result<(), Fail> {
+    let outcome = if answer.is_ok() { "made" } else { "refused" };
+    let wanted = if answer.is_ok() { count } else { 0 };
+    if Rc::strong_count(token) - 1 != wanted {
+        return Err(Fail::new(format_args!("{call}: an item is lost, or dropped twice")));
+    }
+    tell(rt, outcome, call)
+}
+
+#[test]
+fn new(rt: HostRuntime) -> Result<(), Fail> {
+    let call = "NEVec::new of an owner";
+    let Ok((token, items, next)) = prepared(rt.alloc()) else {
+        return tell(&rt, "not reached", call);
+    };
+    drop(items);
+    let answer = NEVec::new(rt.alloc(), next);
+    held(&rt, call, answer, &token, 1)
+}
+
+#[test]
+fn from_parts(rt: HostRuntime) -> Result<(), Fail> {
+    let call = "NEVec::from_parts of owners";
+    let Ok((token, items, next)) = prepared(rt.alloc()) else {
+        return tell(&rt, "not reached", call);
+    };
+    let answer = NEVec::from_parts(next, Vec::from(items));
+    held(&rt, call, answer, &token, 3)
+}
+
+#[test]
+fn from_elem(rt: HostRuntime) -> Result<(), Fail> {
+    let call = "nev of a repeated owner";
+    let Ok((token, items, next)) = prepared(rt.alloc()) else {
+        return tell(&rt, "not reached", call);
+    };
+    drop(items);
+    let answer = nev![rt.alloc(); next; 5];
+    held(&rt, call, answer, &token, 5)
+}

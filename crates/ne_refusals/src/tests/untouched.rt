@@ -1,0 +1,78 @@
+//! The calls that take no memory: whichever request is refused, they answer as ever.
+
+use super::{pair, tell};
+use nonempty_collections::{NESlice, NEVec};
+use std::alloc::{AllocError, Global};
+use std::convert::AsSlice;
+use std::num::NonZeroUsize;
+use std::test::Fail;
+
+// The numbers from 1 to 6, and the last once more.
+fn seven(alloc: Global) -> Result<NEVec<u32>, AllocError> {
+    let mut items = pair(alloc)?;
+    items.extend([3, 4, 5, 6, 6])?;
+    Ok(items)
+}
+
+// Fails, and names the call, unless the items are these.
+fn are(call: &str, items: &[u32], wanted: &[u32]) -> Result<(), Fail> {
+    if items == wanted {
+        return Ok(());
+    }
+    Err(Fail::new(format_args!("{call}: expected {wanted:?}, found {items:?}")))
+}
+
+#[test]
+fn removals(rt: HostRuntime) -> Result<(), Fail> {
+    let call = "removals";
+    let Ok(mut items) = seven(rt.alloc()) else {
+        return tell(&rt, "not reached", call);
+    };
+    items.dedup();
+    are("dedup", items.as_slice(), &[1, 2, 3, 4, 5, 6])?;
+    items.pop();
+    items.remove(0);
+    items.swap_remove(0);
+    are("swap_remove", items.as_slice(), &[5, 3, 4])?;
+    items.reverse();
+    items.truncate(NonZeroUsize::new(2).unwrap());
+    are("truncate", items.as_slice(), &[4, 3])?;
+    let kept = items.retain(|it| *it == 3).ok().ok_or("none kept")?;
+    are("retain", kept.as_slice(), &[3])?;
+    let kept = kept.retain_mut(|_| false).err().ok_or("one kept")?;
+    are("retain_mut", kept.as_slice(), &[])?;
+    tell(&rt, "made", call)
+}
+
+#[test]
+fn looks(rt: HostRuntime) -> Result<(), Fail> {
+    let call = "looks";
+    let Ok(items) = seven(rt.alloc()) else {
+        return tell(&rt, "not reached", call);
+    };
+    let slice = NESlice::try_from_slice(items.as_slice()).ok_or("no item")?;
+    let mut chunks = slice
+        .nonempty_chunks(NonZeroUsize::new(4).unwrap())
+        .into_iter();
+    let (first, rest) = (chunks.next(), chunks.next());
+    are(
+        "first chunk",
+        first.ok_or("no chunk")?.as_slice(),
+        &[1, 2, 3, 4],
+    )?;
+    are(
+        "second chunk",
+        rest.ok_or("no chunk")?.as_slice(),
+        &[5, 6, 6],
+    )?;
+    let found = items.binary_search(&4).is_ok() && items.partition_point(|it| *it < 3) == 2;
+    if !found || !items.contains(&6) || items.get(7).is_some() {
+        return Err(Fail::new(format_args!("a search answers otherwise")));
+    }
+    are(
+        "Vec::from",
+        Vec::from(items).as_slice(),
+        &[1, 2, 3, 4, 5, 6, 6],
+    )?;
+    tell(&rt, "made", call)
+}
