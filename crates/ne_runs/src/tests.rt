@@ -8,12 +8,20 @@ use crate::fault::Fault;
 use crate::report::{one_word, run};
 use fakes::{Broken, Clogged, Closed, Endless, empty_tape, reader_of};
 use std::alloc::{AllocError, Global};
-use std::process::Abort;
+use std::fmt::Debug;
 use std::test::Fail;
 
-// Runs of each mode over an input, whose reader and writer move 1 byte a call, or 2, or all.
+// Fails if the two values differ, and says what both are.
+fn is<T: PartialEq + Debug + Drop>(given: T, wanted: T) -> Result<(), Fail> {
+    if given == wanted {
+        Ok(())
+    } else {
+        Err(Fail::new(format_args!("expected {wanted:?}, found {given:?}")))
+    }
+}
+
+// Runs of a mode over each input, whose reader and writer move 1 byte a call, or 2, or all.
 fn check_rows(
-    rt: &impl Abort,
     alloc: Global,
     mode: &str,
     rows: &[(&[u8], Result<(), Fault>, &[u8])],
@@ -23,9 +31,8 @@ fn check_rows(
             let mut reader = reader_of(input, step);
             let mut writer = empty_tape(alloc, step);
             let answered = run(alloc, mode, &mut reader, &mut writer);
-            assert_eq!(rt; answered, *answer, "{mode}: {input:?}");
-            assert_eq!(rt; writer.text.as_slice(), *text, "{mode}: {input:?}");
-            assert_eq!(rt; writer.flushed, true);
+            is((*input, answered), (*input, *answer))?;
+            is((writer.text.as_slice(), writer.flushed), (*text, true))?;
         }
     }
     Ok(())
@@ -51,7 +58,7 @@ fn rows_of_ends(rt: HostRuntime) -> Result<(), Fail> {
         (b"1\n\n", Err(Fault::BadLine(2)), b""),
         (b"1\n2\n\n4\nx\n", Err(Fault::BadLine(3)), b""),
     ];
-    check_rows(&rt, rt.alloc(), "ends", &rows)
+    check_rows(rt.alloc(), "ends", &rows)
 }
 
 #[test]
@@ -70,11 +77,11 @@ fn rows_of_stats(rt: HostRuntime) -> Result<(), Fail> {
         (b"1\n\n", Err(Fault::BadLine(2)), b""),
         (b"", Err(Fault::Empty), b""),
     ];
-    check_rows(&rt, rt.alloc(), "stats", &rows)
+    check_rows(rt.alloc(), "stats", &rows)
 }
 
 #[test]
-fn rows_of_runs(rt: HostRuntime) -> Result<(), Fail> {
+fn rows_of_equal_runs(rt: HostRuntime) -> Result<(), Fail> {
     let rows: [(&[u8], Result<(), Fault>, &[u8]); 7] = [
         (b"1\n1\n2\n3\n3\n", Ok(()), b"1 1\n2\n3 3\n"),
         (b"7", Ok(()), b"7\n"),
@@ -84,7 +91,11 @@ fn rows_of_runs(rt: HostRuntime) -> Result<(), Fail> {
         (b"1\n1\nx\n", Err(Fault::BadLine(3)), b""),
         (b"", Err(Fault::Empty), b""),
     ];
-    check_rows(&rt, rt.alloc(), "equal", &rows)?;
+    check_rows(rt.alloc(), "equal", &rows)
+}
+
+#[test]
+fn rows_of_parity_runs(rt: HostRuntime) -> Result<(), Fail> {
     let rows: [(&[u8], Result<(), Fault>, &[u8]); 3] = [
         (
             b"2\n4\n6\n7\n9\n1\n2\n4\n6\n3\n",
@@ -94,7 +105,7 @@ fn rows_of_runs(rt: HostRuntime) -> Result<(), Fail> {
         (b"1\n1\n", Ok(()), b"1 1\n"),
         (b"0\n1234567890\n", Err(Fault::BadLine(2)), b""),
     ];
-    check_rows(&rt, rt.alloc(), "parity", &rows)
+    check_rows(rt.alloc(), "parity", &rows)
 }
 
 #[test]
@@ -109,7 +120,11 @@ fn rows_of_near_runs(rt: HostRuntime) -> Result<(), Fail> {
         (b"1\n2\nx\n", Err(Fault::BadLine(3)), b""),
         (b"", Err(Fault::Empty), b""),
     ];
-    check_rows(&rt, rt.alloc(), "near", &rows)?;
+    check_rows(rt.alloc(), "near", &rows)
+}
+
+#[test]
+fn rows_of_chain_runs(rt: HostRuntime) -> Result<(), Fail> {
     let rows: [(&[u8], Result<(), Fault>, &[u8]); 8] = [
         (b"1\n2\n3\n", Ok(()), b"1 2 3\n"),
         (b"1\n2\n3\n4\n5\n", Ok(()), b"1 2 3 4 5\n"),
@@ -120,7 +135,7 @@ fn rows_of_near_runs(rt: HostRuntime) -> Result<(), Fail> {
         (b"1\n2\nx\n", Err(Fault::BadLine(3)), b""),
         (b"", Err(Fault::Empty), b""),
     ];
-    check_rows(&rt, rt.alloc(), "chain", &rows)
+    check_rows(rt.alloc(), "chain", &rows)
 }
 
 #[test]
@@ -132,8 +147,8 @@ fn words_that_name_no_mode(rt: HostRuntime) -> Result<(), Fail> {
         let mut reader = reader_of(b"1\n", 1);
         let mut writer = empty_tape(rt.alloc(), 1);
         let answered = run(rt.alloc(), word, &mut reader, &mut writer);
-        assert_eq!(rt; answered, Err(Fault::Usage), "{word}");
-        assert_eq!(rt; (reader.turns, writer.calls), (0, 0), "{word}");
+        is((word, answered), (word, Err(Fault::Usage)))?;
+        is((word, reader.turns, writer.calls), (word, 0, 0))?;
     }
     Ok(())
 }
@@ -154,17 +169,15 @@ fn longest_input(rt: HostRuntime) -> Result<(), Fail> {
         let mut reader = reader_of(input.as_slice(), step);
         let mut writer = empty_tape(rt.alloc(), usize::MAX);
         let answered = run(rt.alloc(), "ends", &mut reader, &mut writer);
-        assert_eq!(rt; answered, Ok(()));
-        assert_eq!(rt; writer.text.as_slice(), b"524288 1 1\n".as_slice());
-        assert_eq!(rt; reader.turns, turns);
+        is((answered, reader.turns), (Ok(()), turns))?;
+        is(writer.text.as_slice(), b"524288 1 1\n".as_slice())?;
     }
     input.push(b'1')?;
     for step in [usize::MAX, 1] {
         let mut reader = reader_of(input.as_slice(), step);
         let mut writer = empty_tape(rt.alloc(), usize::MAX);
         let answered = run(rt.alloc(), "ends", &mut reader, &mut writer);
-        assert_eq!(rt; answered, Err(Fault::TooLong));
-        assert_eq!(rt; writer.calls, 0);
+        is((answered, writer.calls), (Err(Fault::TooLong), 0))?;
     }
     Ok(())
 }
@@ -184,8 +197,7 @@ fn greatest_sums(rt: HostRuntime) -> Result<(), Fail> {
         let mut reader = reader_of(input.as_slice(), usize::MAX);
         let mut writer = empty_tape(rt.alloc(), usize::MAX);
         let answered = run(rt.alloc(), "stats", &mut reader, &mut writer);
-        assert_eq!(rt; answered, Ok(()));
-        assert_eq!(rt; writer.text.as_slice(), text);
+        is((answered, writer.text.as_slice()), (Ok(()), text))?;
     }
     Ok(())
 }
@@ -195,9 +207,8 @@ fn endless_input(rt: HostRuntime) -> Result<(), Fail> {
     let mut reader = Endless { turns: 0 };
     let mut writer = empty_tape(rt.alloc(), usize::MAX);
     let answered = run(rt.alloc(), "ends", &mut reader, &mut writer);
-    assert_eq!(rt; answered, Err(Fault::TooLong));
-    assert_eq!(rt; (reader.turns, writer.calls), (1_048_577, 0));
-    Ok(())
+    is((answered, reader.turns), (Err(Fault::TooLong), 1_048_577))?;
+    is(writer.calls, 0)
 }
 
 #[test]
@@ -208,8 +219,8 @@ fn each_read_failed(rt: HostRuntime) -> Result<(), Fail> {
             reader.fails_at = turn;
             let mut writer = empty_tape(rt.alloc(), usize::MAX);
             let answered = run(rt.alloc(), "equal", &mut reader, &mut writer);
-            assert_eq!(rt; answered, Err(Fault::Read), "turn {turn} of {input:?}");
-            assert_eq!(rt; writer.calls, 0);
+            is((input, turn, answered), (input, turn, Err(Fault::Read)))?;
+            is(writer.calls, 0)?;
         }
     }
     Ok(())
@@ -221,9 +232,8 @@ fn read_failed_after_a_line(rt: HostRuntime) -> Result<(), Fail> {
     reader.fails_at = 1;
     let mut writer = empty_tape(rt.alloc(), usize::MAX);
     let answered = run(rt.alloc(), "equal", &mut reader, &mut writer);
-    assert_eq!(rt; answered, Err(Fault::Read));
-    assert_eq!(rt; (reader.turns, writer.calls), (2, 0));
-    Ok(())
+    is((answered, reader.turns), (Err(Fault::Read), 2))?;
+    is(writer.calls, 0)
 }
 
 #[test]
@@ -233,52 +243,65 @@ fn each_write_failed(rt: HostRuntime) -> Result<(), Fail> {
         let mut writer = empty_tape(rt.alloc(), 1);
         writer.fails_at = call;
         let answered = run(rt.alloc(), "ends", &mut reader_of(b"1\n", 1), &mut writer);
-        assert_eq!(rt; answered, Err(Fault::Write), "call {call}");
-        assert_eq!(rt; writer.text.as_slice(), &b"1 1 1\n"[..call]);
+        is((call, answered), (call, Err(Fault::Write)))?;
+        is(writer.text.as_slice(), &b"1 1 1\n"[..call])?;
     }
     let mut writer = empty_tape(rt.alloc(), 1);
     writer.flush_fails = true;
     let answered = run(rt.alloc(), "ends", &mut reader_of(b"1\n", 1), &mut writer);
-    assert_eq!(rt; answered, Err(Fault::Write));
-    Ok(())
+    is(answered, Err(Fault::Write))
 }
 
 #[test]
-fn std_readers_and_writers(rt: HostRuntime) -> Result<(), Fail> {
+fn read_by_std(rt: HostRuntime) -> Result<(), Fail> {
     let mut reader = StdIo::new(b"4\n5".as_slice());
-    let mut writer = StdIo::new(Vec::new(rt.alloc()));
+    let mut writer = empty_tape(rt.alloc(), usize::MAX);
     let answered = run(rt.alloc(), "ends", &mut reader, &mut writer);
-    assert_eq!(rt; answered, Ok(()));
-    assert_eq!(rt; writer.into_inner().as_slice(), b"2 4 5\n".as_slice());
+    is(answered, Ok(()))?;
+    is(writer.text.as_slice(), b"2 4 5\n".as_slice())
+}
+
+#[test]
+fn written_by_std(rt: HostRuntime) -> Result<(), Fail> {
+    let mut writer = StdIo::new(Vec::new(rt.alloc()));
+    let answered = run(rt.alloc(), "ends", &mut reader_of(b"4\n5", 1), &mut writer);
+    is(answered, Ok(()))?;
+    is(writer.into_inner().as_slice(), b"2 4 5\n".as_slice())
+}
+
+#[test]
+fn std_writes_failed(rt: HostRuntime) -> Result<(), Fail> {
     let mut closed = StdIo::new(Closed);
     let answered = run(rt.alloc(), "ends", &mut reader_of(b"4\n", 1), &mut closed);
-    assert_eq!(rt; answered, Err(Fault::Write));
+    is(answered, Err(Fault::Write))?;
     for (write_fails, flushes) in [(true, 0), (false, 1)] {
         let mut clogged = StdIo::new(Clogged {
             write_fails,
             flushes: 0,
         });
         let answered = run(rt.alloc(), "ends", &mut reader_of(b"4\n", 1), &mut clogged);
-        assert_eq!(rt; answered, Err(Fault::Write));
-        assert_eq!(rt; clogged.into_inner().flushes, flushes);
+        is(answered, Err(Fault::Write))?;
+        is(clogged.into_inner().flushes, flushes)?;
     }
+    Ok(())
+}
+
+#[test]
+fn std_reads_failed(rt: HostRuntime) -> Result<(), Fail> {
     let mut broken = StdIo::new(Broken { line: b"4\n" });
     let mut writer = empty_tape(rt.alloc(), usize::MAX);
     let answered = run(rt.alloc(), "ends", &mut broken, &mut writer);
-    assert_eq!(rt; answered, Err(Fault::Read));
-    assert_eq!(rt; writer.calls, 0);
-    Ok(())
+    is((answered, writer.calls), (Err(Fault::Read), 0))
 }
 
 #[test]
 fn words(rt: HostRuntime) -> Result<(), Fail> {
     let mut words = Vec::new(rt.alloc());
-    assert_eq!(rt; one_word(words.as_slice()).err(), Some(Fault::Usage));
+    is(one_word(words.as_slice()), Err(Fault::Usage))?;
     words.push(String::from_str(rt.alloc(), "ends")?)?;
-    assert_eq!(rt; one_word(words.as_slice()).unwrap_or(""), "ends");
+    is(one_word(words.as_slice()), Ok("ends"))?;
     words.push(String::from_str(rt.alloc(), "ends")?)?;
-    assert_eq!(rt; one_word(words.as_slice()).err(), Some(Fault::Usage));
-    Ok(())
+    is(one_word(words.as_slice()), Err(Fault::Usage))
 }
 
 #[test]
@@ -292,8 +315,8 @@ fn texts_and_statuses(rt: HostRuntime) -> Result<(), Fail> {
         (Fault::Write, "write failed", 3),
         (Fault::Memory, "out of memory", 4),
     ] {
-        assert_eq!(rt; fault.to_string(rt.alloc())?.as_str(), text);
-        assert_eq!(rt; fault.status(), status, "{text}");
+        let told = fault.to_string(rt.alloc())?;
+        is((told.as_str(), fault.status()), (text, status))?;
     }
     Ok(())
 }
