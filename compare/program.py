@@ -2,6 +2,7 @@
 alone."""
 
 import os
+import re
 import shutil
 import subprocess
 import sys
@@ -9,6 +10,13 @@ import sys
 sys.dont_write_bytecode = True
 HERE = os.path.dirname(os.path.abspath(__file__))
 LIMIT = 1_048_576
+
+
+def numbers_of(words, usage):
+    """The numbers that the words write, each at least 1; else the program ends and tells its usage."""
+    if not all(re.fullmatch(r"[1-9]\d*", word, re.ASCII) for word in words):
+        sys.exit(f"usage: {usage}")
+    return [int(word) for word in words]
 
 
 def build(name="ne_runs", status=2):
@@ -25,6 +33,8 @@ def build(name="ne_runs", status=2):
 
 def built_twin(folder, name):
     """Builds a program's twin beside the Rust crate in this folder, and returns the path of what was built."""
+    if not os.path.exists(os.path.join(folder, "Cargo.toml")):
+        sys.exit(f"{folder} has no Cargo.toml: compare/README.md says how it is made")
     programs = os.path.join(folder, "src", "bin")
     os.makedirs(programs, exist_ok=True)
     shutil.copy(os.path.join(HERE, f"{name}.rs"), os.path.join(programs, f"{name}.rs"))
