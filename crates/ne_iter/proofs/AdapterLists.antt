@@ -19,7 +19,7 @@ use Rattle.ne_iter.specs.Gives.{GivesList, ViewsList, ShowsList, FailsFirst, Map
 use Rattle.ne_iter.specs.Gives.{EnumerateGives, TakeGives, ChainGives, ZipGives, FlatMapGives}
 use Rattle.ne_iter.specs.Gives.{FlattenGives, ScanGives, CopiedGives, ClonedGives, IntersperseGives}
 use Rattle.ne_iter.specs.Gives.{FilterGives, FilterMapGives, SkipGives, SkipWhileGives}
-use Rattle.ne_iter.specs.Gives.{TakeWhileGives}
+use Rattle.ne_iter.specs.Gives.{TakeWhileGives, FailsAtItem}
 use Rattle.ne_iter.specs.Keys.{items_of}
 use Rattle.ne_iter.specs.Interspersed.{interspersed}
 use Rattle.ne_iter.specs.SourceLists.{AnswersLists}
@@ -38,15 +38,15 @@ stopped : {U A F : Type 0} (reads : Bool → U → List A → Type 0)
     (calls : Mut F (Bor A × Unit {0}) Bool) (f q : F) (test : A → Bool) (u : U) (xs us : List A)
     (whole : Bool) → ActsAsAt calls f test → q ≡ f → GivesList reads u xs
     → AllByRecursion (λ x. test x ≡ true) us
-    → reads whole u us ⊎ ((x : A) × (h : F) × reads false u (us ++ x ∷ [])
-    × CalledAt calls q x false h)
+    → reads whole u us ⊎ FailsAtItem reads calls u us q
     → AreFirst whole (take_while test xs) us
 stopped reads calls f q test u xs us whole acts same list passed (inl read) =
     take_passed_front test whole xs us passed (list whole us read)
-stopped reads calls f q test u xs us whole acts same list passed (inr (x, h, read, call)) =
-    let from_f = subst (λ q. CalledAt calls q x false h) same call in
-    take_passed_stopped test whole xs us x passed (sym (acts x false h from_f).1)
-    (list false (us ++ x ∷ []) read)
+stopped reads calls f q test u xs us whole acts same list passed (inr last) =
+    let x = last.item in
+    let from_f = subst (λ q. CalledAt calls q x false last.f_then) same last.called in
+    take_passed_stopped test whole xs us x passed (sym (acts x false last.f_then from_f).1)
+    (list false (us ++ x ∷ []) last.read)
 
 module _ {U V A S T : Type 0} {becomes : U → S → Type 0} {steps : S → Option A → S → Type 0}
     {made : V → T → Type 0} {u : U} {v : V} where
@@ -58,19 +58,21 @@ module _ {U V A S T : Type 0} {becomes : U → S → Type 0} {steps : S → Opti
         → GivesList (Reads made next) v (map h xs)
     map_list h xs acts list whole ys read =
         let behind = gives whole ys read in
-        let values = function_values calls f h behind.0 ys behind.1 acts behind.3 in
+        let us = behind.items in
+        let values = function_values calls f h us ys behind.f_then acts behind.called in
         subst (AreFirst whole (map h xs)) (sym values.0)
-        (map_front h whole xs behind.0 (list whole behind.0 behind.2))
+        (map_front h whole xs us (list whole us behind.read))
 
     pub map_view : {C : Type 0} (view : A → C) (h : C → B) (xs : List C)
         → ActsAs calls f (λ x. h (view x)) → ViewsList (Reads becomes steps) view u xs
         → GivesList (Reads made next) v (map h xs)
     map_view view h xs acts list whole ys read =
         let behind = gives whole ys read in
-        let us = behind.0 in
-        let values = function_values calls f (λ x. h (view x)) us ys behind.1 acts behind.3 in
+        let us = behind.items in
+        let values = function_values calls f (λ x. h (view x)) us ys behind.f_then acts
+        behind.called in
         subst (AreFirst whole (map h xs)) (map-map h view us ∙ sym values.0)
-        (map_front h whole xs (map view us) (list whole us behind.2))
+        (map_front h whole xs (map view us) (list whole us behind.read))
 
   module _ {next : T → Option (ℕ × A) → T → Type 0}
       (gives : EnumerateGives (Reads becomes steps) (Reads made next) u v) where
@@ -116,12 +118,12 @@ module _ {U V A S T : Type 0} {becomes : U → S → Type 0} {steps : S → Opti
           → GivesList (Reads made next) v (filter test xs)
       filter_list gives test xs acts list whole ys read =
           let parts = gives whole ys read in
-          let us = items_of parts.0 in
-          let values = shown_values calls f test parts.0 parts.1 acts parts.3 in
-          let all = parts.4 ∙ ap (λ ps. items_of (filter (λ p. p.1) ps)) values.0
+          let us = items_of parts.answered in
+          let values = shown_values calls f test parts.answered parts.f_then acts parts.shown in
+          let all = parts.is ∙ ap (λ ps. items_of (filter (λ p. p.1) ps)) values.0
           ∙ filter_answered test us in
           subst (AreFirst whole (filter test xs)) (sym all)
-          (filter_front test whole xs us (list whole us parts.2))
+          (filter_front test whole xs us (list whole us parts.read))
 
       pub skip_while_list : SkipWhileGives (Reads becomes steps) (Reads made next) calls u f v
           → (test : A → Bool) (xs : List A) → ActsAsAt calls f test
@@ -129,10 +131,11 @@ module _ {U V A S T : Type 0} {becomes : U → S → Type 0} {steps : S → Opti
           → GivesList (Reads made next) v (drop (prefix_len test xs) xs)
       skip_while_list gives test xs acts list whole ys read =
           let parts = gives whole ys read in
-          let passed = same_answers_at calls f test _ parts.0 parts.1 acts parts.3 in
+          let passed = same_answers_at calls f test _ parts.skipped parts.f_then acts parts.shown
+          in
           let fails = fails_test calls f test ys acts
-          (subst (λ q. FailsFirst calls q ys) passed.1 parts.4) in
-          drop_passed_front test whole xs parts.0 ys passed.0 fails (list whole _ parts.2)
+          (subst (λ q. FailsFirst calls q ys) passed.1 parts.fails) in
+          drop_passed_front test whole xs parts.skipped ys passed.0 fails (list whole _ parts.read)
 
       pub take_while_list : TakeWhileGives (Reads becomes steps) (Reads made next) calls u f v
           → (test : A → Bool) (xs : List A) → ActsAsAt calls f test
@@ -151,10 +154,11 @@ module _ {U V A S T : Type 0} {becomes : U → S → Type 0} {steps : S → Opti
         → GivesList (Reads made next) v (filter_map h xs)
     filter_map_list {calls} gives h xs acts list whole ys read =
         let parts = gives whole ys read in
-        let values = function_values calls f h parts.0 parts.1 parts.2 acts parts.4 in
-        let all = parts.5 ∙ ap (filter_map (λ o. o)) values.0 ∙ filter_map_answered h parts.0 in
+        let us = parts.items in
+        let values = function_values calls f h us parts.answers parts.f_then acts parts.called in
+        let all = parts.is ∙ ap (filter_map (λ o. o)) values.0 ∙ filter_map_answered h us in
         subst (AreFirst whole (filter_map h xs)) (sym all)
-        (filter_map_front h whole xs parts.0 (list whole parts.0 parts.3))
+        (filter_map_front h whole xs us (list whole us parts.read))
 
     pub scan_list : {R : Type 0} {calls : Mut F (MutBor R × (A × Unit {0}))
         (B × (MutBor R × Unit {0}))}
@@ -164,11 +168,13 @@ module _ {U V A S T : Type 0} {becomes : U → S → Type 0} {steps : S → Opti
         → GivesList (Reads made next) v (scan step out init xs)
     scan_list {calls = calls} {init} gives step out xs acts list whole ys read =
         let parts = gives whole ys read in
-        let front = list whole parts.0 parts.3 in
-        let values = scanned_values calls f step out init parts.2 parts.0 ys parts.1 acts parts.4 in
+        let us = parts.items in
+        let front = list whole us parts.read in
+        let values = scanned_values calls f step out init parts.state_then us ys parts.f_then acts
+        parts.called in
         subst (AreFirst whole (scan step out init xs)) (sym values.0)
-        (subst (λ l. AreFirst whole (scan step out init l) (scan step out init parts.0))
-        (sym front.1) (scan_front step out init whole parts.0 front.0 front.2))
+        (subst (λ l. AreFirst whole (scan step out init l) (scan step out init us))
+        (sym front.1) (scan_front step out init whole us front.0 front.2))
 
   pub intersperse_list : {E : Type 0} {next : T → Option (Result A E) → T → Type 0} {s : A}
       (clones : A → A → Type 0) (infallible : A → Type 0)
@@ -181,7 +187,8 @@ module _ {U V A S T : Type 0} {becomes : U → S → Type 0} {steps : S → Opti
       let parts = gives whole zs read in
       spaced_front (TriesClone clones infallible s) s
       (only_ok clones infallible s none same)
-      whole xs parts.0 parts.1 zs parts.3 parts.4 (list _ parts.0 parts.2)
+      whole xs parts.items parts.later zs parts.spaced parts.over
+      (list _ parts.items parts.read)
 
 module _ {U V X S T : Type 0} {becomes : U → S → Type 0} {steps : S → Option (Bor X) → S → Type 0}
     {made : V → T → Type 0} {u : U} {v : V} where
@@ -212,23 +219,24 @@ module _ {U W V S R T A : Type 0} {becomes : U → S → Type 0} {steps : S → 
         → GivesList (Reads meets other) w ys → GivesList (Reads made next) v (xs ++ ys)
     chain_list xs ys first second whole zs read =
         let parts = gives whole zs read in
-        subst (AreFirst whole (xs ++ ys)) (sym parts.4)
-        (append_front whole xs ys parts.0 parts.1 (first _ parts.0 parts.2)
-        (second whole parts.1 parts.3))
+        let us = parts.items in
+        let vs = parts.other_items in
+        subst (AreFirst whole (xs ++ ys)) (sym parts.is)
+        (append_front whole xs ys us vs (first _ us parts.read) (second whole vs parts.read_other))
 
     pub chain_view : {B : Type 0} (view : A → B) (xs ys : List B)
         → ViewsList (Reads becomes steps) view u xs → ViewsList (Reads meets other) view w ys
         → ViewsList (Reads made next) view v (xs ++ ys)
     chain_view view xs ys first second whole zs read =
         let parts = gives whole zs read in
-        let us = map view parts.0 in
-        let vs = map view parts.1 in
-        let long = sym (length-map parts.1 view) in
+        let us = parts.items in
+        let vs = parts.other_items in
+        let long = sym (length-map vs view) in
         subst (AreFirst whole (xs ++ ys))
-        (sym (map-append view parts.0 parts.1) ∙ sym (ap (map view) parts.4))
-        (append_front whole xs ys us vs
-        (subst (λ len. AreFirst (whole || ltb 0 len) xs us) long (first _ parts.0 parts.2))
-        (second whole parts.1 parts.3))
+        (sym (map-append view us vs) ∙ sym (ap (map view) parts.is))
+        (append_front whole xs ys (map view us) (map view vs)
+        (subst (λ len. AreFirst (whole || ltb 0 len) xs (map view us)) long
+        (first _ us parts.read)) (second whole vs parts.read_other))
 
   pub zip_list : {B : Type 0} {other : R → Option B → R → Type 0}
       {next : T → Option (A × B) → T → Type 0}
@@ -237,9 +245,10 @@ module _ {U W V S R T A : Type 0} {becomes : U → S → Type 0} {steps : S → 
       → GivesList (Reads meets other) w ys → GivesList (Reads made next) v (zip xs ys)
   zip_list gives xs ys first second whole ps read =
       let parts = gives whole ps read in
-      subst (AreFirst whole (zip xs ys)) (sym parts.6)
-      (zip_front whole parts.2 parts.3 xs ys parts.0 parts.1 parts.7 parts.8
-      (first parts.2 parts.0 parts.4) (second parts.3 parts.1 parts.5))
+      subst (AreFirst whole (zip xs ys)) (sym parts.is)
+      (zip_front whole parts.ended parts.other_ended xs ys parts.items parts.other_items
+      parts.as_many parts.one_ended (first parts.ended parts.items parts.read)
+      (second parts.other_ended parts.other_items parts.read_other))
 
 -- what the answers give, one after another, is what stands beside the items
 answers_given : {A W B F : Type 0} (reads : Bool → W → List B → Type 0)
@@ -262,11 +271,11 @@ module _ {U W V S T A B : Type 0} {becomes : U → S → Type 0} {steps : S → 
       → GivesList (Reads becomes steps) u xs → GivesList (Reads made next) v (flat_map inner xs)
   flat_map_list {calls} {f} gives inner xs answers list whole zs read =
       let parts = gives whole zs read in
-      let beside = answers_given reads calls f inner answers parts.0 parts.1 f parts.3 refl parts.5
-      in
-      subst (AreFirst whole (flat_map inner xs)) (sym parts.7)
-      (joined_fronts reads inner whole xs parts.0 parts.1 parts.2 (list whole parts.0 parts.4)
-      beside parts.6)
+      let beside = answers_given reads calls f inner answers parts.items parts.sources f
+      parts.f_then refl parts.called in
+      subst (AreFirst whole (flat_map inner xs)) (sym parts.is)
+      (joined_fronts reads inner whole xs parts.items parts.sources parts.lists
+      (list whole parts.items parts.read) beside parts.read_each)
 
 pub flatten_list : {U W V S T B : Type 0} {becomes : U → S → Type 0}
     {steps : S → Option W → S → Type 0} {reads : Bool → W → List B → Type 0}
@@ -276,6 +285,7 @@ pub flatten_list : {U W V S T B : Type 0} {becomes : U → S → Type 0}
     → GivesList (Reads becomes steps) u us → GivesList (Reads made next) v (flat_map inner us)
 flatten_list {reads = reads} gives inner us each list whole zs read =
     let parts = gives whole zs read in
-    subst (AreFirst whole (flat_map inner us)) (sym parts.4)
-    (joined_fronts reads inner whole us parts.0 parts.0 parts.1 (list whole parts.0 parts.2)
-    (each_gives reads inner each parts.0) parts.3)
+    subst (AreFirst whole (flat_map inner us)) (sym parts.is)
+    (joined_fronts reads inner whole us parts.sources parts.sources parts.lists
+    (list whole parts.sources parts.read) (each_gives reads inner each parts.sources)
+    parts.read_each)

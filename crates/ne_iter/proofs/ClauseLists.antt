@@ -1,10 +1,12 @@
 -- What each adapter's clause `gives` makes of the list that its source gives, for the clause
 -- `lists`.
-use Rattle.std.proofs.Common.{refl}
-use Rattle.std.specs.Prelude.{ℕ, List, Option, map, ◌++◌, ◌≡◌}
+use Rattle.std.proofs.Common.{refl, subst, ap, ◌∙◌}
+use Rattle.std.proofs.lemmas.List.FromFn.{length-enumerate_from}
+use Rattle.std.specs.Prelude.{ℕ, List, Option, map, ◌++◌, ◌≡◌, ◌≤◌, length, true}
 use Rattle.std.specs.Fn.{Mut}
 use Rattle.std.specs.Iterator.{ActsAs}
-use Rattle.std.specs.List.{flat_map, zip}
+use Rattle.std.specs.Iterator.Runs.{EachRunFrom}
+use Rattle.std.specs.List.{enumerate_from, flat_map, zip}
 use Rattle.ne_vec.specs.Fronts.{Lists, Shows, GivesItems, GivesShown, GivesFronts, view_mark}
 use Rattle.ne_vec.specs.FrontLaws.{marked, view_marked}
 use Rattle.ne_iter.specs.Gives.{GivesList, ViewsList}
@@ -163,6 +165,15 @@ module _ {U W V S R T B : Type 0} {becomes : U → S → Type 0} {meets : W → 
           (λ each. gives (λ w. meets_read meets other w (inner w) (each w))),
         ),
   )
+
+-- what numbers the items of xs gives as many
+pub counts_as : {T A : Type 0} {next : T → Option (ℕ × A) → T → Type 0} (xs : List A) (it : T)
+    → GivesFronts next (enumerate_from 0 xs) it
+    → EachRunFrom next it (λ p. (p.len ≤ length xs) × (p.whole ≡ true → p.len ≡ length xs))
+counts_as xs it fronts p seen from =
+    let f = fronts p seen from in
+    let as_many = length-enumerate_from 0 xs in
+    (subst (λ n. p.len ≤ n) as_many f.0, λ w. p.long ∙ ap length (f.1 w) ∙ as_many)
 
 -- an iterator of std, which becomes itself: what its runs give
 pub gives_fronts : {T B : Type 0} {next : T → Option B → T → Type 0} (v : T) (ys : List B)

@@ -1,14 +1,13 @@
 -- What std's collecting into maps and sets makes, of a source that has an item.
 use mathlib.Core.Path.{fun_ext}
-use Rattle.std.proofs.Common.{◌≡◌, ◌<◌, ◌||◌, Bool, true, false, List, [], ◌∷◌, length, cond}
-use Rattle.std.proofs.Common.{reverse, arith, is_some, refl, sym, ap, subst, ◌∙◌, true≢false}
-use Rattle.std.proofs.Common.{Option, None, Some}
-use Rattle.std.proofs.lemmas.List.{reverse-append}
+use Rattle.std.proofs.Common.{◌≡◌, ◌<◌, ◌||◌, Bool, true, List, [], ◌∷◌, length}
+use Rattle.std.proofs.Common.{arith, is_some, sym, ap, subst, ◌∙◌}
+use Rattle.std.proofs.Common.{Option, None}
 use Rattle.std.proofs.lemmas.Map.Entries.{length-keys_of}
 use Rattle.std.proofs.lemmas.Map.Keys.{IsDistinct-from_sorted}
 use Rattle.std.proofs.lemmas.Map.Made.{is_some-lookup, is_some-update_all}
 use Rattle.std.proofs.lemmas.Result.{IfOk-weaker}
-use Rattle.std.specs.Prelude.{◌++◌, ⊤, Result, IfOk}
+use Rattle.std.specs.Prelude.{⊤, Result, IfOk}
 use Rattle.std.specs.BTreeMap.{BTreeMap, IsOrdered, btree_map_len}
 use Rattle.std.specs.BTreeMap as tree
 use Rattle.std.specs.BTreeSet.{BTreeSet, IsOrdered as AreOrdered, btree_set_len}
@@ -20,12 +19,12 @@ use Rattle.std.specs.HashSet as hash_set
 use Rattle.std.specs.Cmp.{IsEquivalence, IsTotalOrder, eq_by_cmp_equiv}
 use Rattle.std.specs.Iterator.{DrainsIf}
 use Rattle.std.specs.List.{IsDistinct}
-use Rattle.std.specs.Map.{keys_of, lookup, update, update_all}
-use Rattle.std.specs.Option.{option_or}
+use Rattle.std.specs.Map.{keys_of, lookup, update_all}
 use Rattle.std.specs.Ordering.{eq_by_cmp}
 use Rattle.std.specs.Set.{is_member}
 use Rattle.std.specs.declared.cmp.Ordering.{Ordering}
 use Rattle.ne_iter.specs.Collected.{last_value, IsMapOf, IsSetOf}
+use Rattle.ne_iter.specs.CollectedLaws.{option_or-none, some_member, update_all-last_value}
 use Rattle.ne_iter.specs.SourceLaws.{some_item}
 use Rattle.ne_iter.specs.Sources.{IsNonEmpty, Reads, SameLists}
 
@@ -49,59 +48,20 @@ module _ {U S V T A : Type 0} {becomes : U → S → Type 0} {steps : S → Opti
       )) ran
 
 module _ {K : Type 0} {eq : K → K → Bool} (laws : IsEquivalence eq) where
-  some_member : (ks : List K) (q : K) → is_member eq ks q ≡ true → 0 < length ks
-  some_member [] q h = absurd (true≢false (sym h))
-  some_member (k ∷ ks) q h = omega arith
-
   -- keys that are those of a list with an item
   some_key : (xs ks : List K) → ((q : K) → is_member eq ks q ≡ is_member eq xs q) → 0 < length xs
       → 0 < length ks
   some_key [] ks same some = absurd (omega (arith, some))
-  some_key (x ∷ xs) ks same some = some_member ks x
+  some_key (x ∷ xs) ks same some = some_member eq ks x
       (same x ∙ ap (λ b. b || is_member eq xs x) (laws.refl x))
 
   module _ {X : Type 0} where
-    lookup-append : (test : K → Bool) (es fs : List (K × X))
-        → lookup test (es ++ fs) ≡ option_or (lookup test es) (lookup test fs)
-    lookup-append test [] fs = refl
-    lookup-append test (e ∷ es) fs = by (test e.0) (lookup-append test es fs)
-      where
-        by : (b : Bool) → lookup test (es ++ fs) ≡ option_or (lookup test es) (lookup test fs)
-            → cond b (Some e.1) (lookup test (es ++ fs))
-            ≡ option_or (cond b (Some e.1) (lookup test es)) (lookup test fs)
-        by true h = refl
-        by false h = h
-
-    option_or-none : (o : Option X) → option_or o None ≡ o
-    option_or-none None = refl
-    option_or-none (Some x) = refl
-
-    -- the value of the last pair is what the inserts leave
-    update_all-last_value : (f : K → Option X) (ps : List (K × X)) (q : K)
-        → update_all eq f ps q ≡ option_or (last_value eq ps q) (f q)
-    update_all-last_value f [] q = refl
-    update_all-last_value f (p ∷ ps) q =
-        update_all-last_value (update eq f p.0 (Some p.1)) ps q
-        ∙ step (last_value eq ps q)
-        ∙ ap (λ o. option_or o (f q)) (sym (lookup-append (eq q) (reverse ps) (p ∷ []))
-        ∙ ap (lookup (eq q)) (sym (reverse-append (p ∷ []) ps)))
-      where
-        flip : (b : Bool) → cond b (Some p.1) (f q) ≡ option_or (cond b (Some p.1) None) (f q)
-        flip true = refl
-        flip false = refl
-
-        step : (o : Option X) → option_or o (update eq f p.0 (Some p.1) q)
-            ≡ option_or (option_or o (cond (eq q p.0) (Some p.1) None)) (f q)
-        step None = flip (eq p.0 q) ∙ ap (λ b. option_or (cond b (Some p.1) None) (f q))
-            (sym (laws.symm q p.0))
-        step (Some x) = refl
-
     module _ (ps es : List (K × X)) (made : (q : K)
         → lookup (eq q) es ≡ update_all eq (λ _. None) ps q) where
       map_of-inserts : IsDistinct eq (keys_of es) → IsMapOf eq ps es
       map_of-inserts d = (
         d,
-        λ q. made q ∙ update_all-last_value (λ _. None) ps q
+        λ q. made q ∙ update_all-last_value laws (λ _. None) ps q
             ∙ option_or-none (last_value eq ps q),
       )
 

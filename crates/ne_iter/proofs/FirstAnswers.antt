@@ -59,38 +59,52 @@ module _ {U A : Type 0} (reads : Bool → U → List A → Type 0) (u : U) (xs :
   module _ {F : Type 0} (test : A → Bool) (f : F) where
     module _ (calls : Mut F (A × Unit {0}) Bool) (acts : ActsAs calls f test) where
       pub tells_all : (r : Bool) → TellsAll reads calls u f r → r ≡ list_all test xs
-      tells_all true (us, g, each, read) =
-          let passed = same_answers calls f test true us g acts each in
-          sym (ap (list_all test) (sym (whole_front xs us (list true us read)))
+      tells_all true told =
+          let us = told.items in
+          let passed = same_answers calls f test true us told.f_then acts told.passed in
+          sym (ap (list_all test) (sym (whole_front xs us (list true us told.decided)))
           ∙ all_pass test us passed.0)
-      tells_all false (us, g, each, (x, h, read, call)) =
-          let passed = same_answers calls f test true us g acts each in
-          let last = acts x false h (subst (λ q. Called calls q (x, tt) false h) passed.1 call) in
-          let f = list false _ read in
-          sym (ap (list_all test) f.1 ∙ one_fails test us f.0 x passed.0 (sym last.1))
+      tells_all false told =
+          let us = told.items in
+          let stop = told.decided in
+          let passed = same_answers calls f test true us told.f_then acts told.passed in
+          let last = acts stop.item false stop.f_then
+          (subst (λ q. Called calls q (stop.item, tt) false stop.f_then) passed.1 stop.called) in
+          let front = list false _ stop.read in
+          sym (ap (list_all test) front.1
+          ∙ one_fails test us front.0 stop.item passed.0 (sym last.1))
 
       pub tells_any : (r : Bool) → TellsAny reads calls u f r → r ≡ list_any test xs
-      tells_any true (us, g, each, (x, h, read, call)) =
-          let passed = same_answers calls f test false us g acts each in
-          let last = acts x true h (subst (λ q. Called calls q (x, tt) true h) passed.1 call) in
-          let f = list false _ read in
-          sym (ap (list_any test) f.1 ∙ (one_passes test us f.0 x passed.0 (sym last.1)).0)
-      tells_any false (us, g, each, read) =
-          let passed = same_answers calls f test false us g acts each in
-          sym (ap (list_any test) (sym (whole_front xs us (list true us read)))
-          ∙ (none_passes test us passed.0).0)
+      tells_any true told =
+          let us = told.items in
+          let stop = told.decided in
+          let failed = same_answers calls f test false us told.f_then acts told.failed in
+          let last = acts stop.item true stop.f_then
+          (subst (λ q. Called calls q (stop.item, tt) true stop.f_then) failed.1 stop.called) in
+          let front = list false _ stop.read in
+          sym (ap (list_any test) front.1
+          ∙ (one_passes test us front.0 stop.item failed.0 (sym last.1)).0)
+      tells_any false told =
+          let us = told.items in
+          let failed = same_answers calls f test false us told.f_then acts told.failed in
+          sym (ap (list_any test) (sym (whole_front xs us (list true us told.decided)))
+          ∙ (none_passes test us failed.0).0)
 
     pub finds_first : (calls : Mut F (Bor A × Unit {0}) Bool) → ActsAsAt calls f test
         → (r : Option A) → FindsFirst reads calls u f r → r ≡ find test xs
-    finds_first calls acts None (us, g, each, read) =
-        let passed = same_answers_at calls f test false us g acts each in
-        sym (ap (find test) (sym (whole_front xs us (list true us read)))
-        ∙ (none_passes test us passed.0).1)
-    finds_first calls acts (Some x) (us, g, each, (h, read, call)) =
-        let passed = same_answers_at calls f test false us g acts each in
-        let last = acts x true h (subst (λ q. CalledAt calls q x true h) passed.1 call) in
-        let f = list false _ read in
-        sym (ap (find test) f.1 ∙ (one_passes test us f.0 x passed.0 (sym last.1)).1)
+    finds_first calls acts None told =
+        let us = told.items in
+        let failed = same_answers_at calls f test false us told.f_then acts told.failed in
+        sym (ap (find test) (sym (whole_front xs us (list true us told.decided)))
+        ∙ (none_passes test us failed.0).1)
+    finds_first calls acts (Some x) told =
+        let us = told.items in
+        let call = told.decided in
+        let failed = same_answers_at calls f test false us told.f_then acts told.failed in
+        let last = acts x true call.0
+        (subst (λ q. CalledAt calls q x true call.0) failed.1 call.2) in
+        let front = list false _ call.1 in
+        sym (ap (find test) front.1 ∙ (one_passes test us front.0 x failed.0 (sym last.1)).1)
 
   pub gives_nth : (n : ℕ) (r : Option A) → GivesNth reads u n r → r ≡ slice_get xs n
   gives_nth n None (us, (read, short)) =

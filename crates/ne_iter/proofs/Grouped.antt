@@ -36,26 +36,26 @@ module _ {S K A F : Type 0} (steps : S → Option A → S → Type 0) (asks : Mu
       (answers : List (Option (Result (List A) AllocError))) (g h : Grouping S K A F)
       → HasRead steps asks eq s f done g
       → FoldsTo (GivesRun steps asks eq) g answers h → AnswersOn steps asks eq s f done answers h
-  answers_on s f done [] g h read calls = (
-    [],
-    [],
-    refl,
-    subst (λ l. HasRead steps asks eq s f l h) (sym (append-nil done))
-        (subst (HasRead steps asks eq s f done) calls read),
-  )
+  answers_on s f done [] g h read calls = record {
+    runs = [];
+    later = [];
+    are_all = refl;
+    ended = subst (λ l. HasRead steps asks eq s f l h) (sym (append-nil done))
+        (subst (HasRead steps asks eq s f done) calls read);
+  }
   answers_on s f done (None ∷ answers) g h read calls =
       let first = calls.1 in
-      let more = none_ever_after calls.0 h answers first.stops calls.2 in (
-        [],
-        None ∷ answers,
-        refl,
-        (
+      let more = none_ever_after calls.0 h answers first.stops calls.2 in record {
+        runs = [];
+        later = None ∷ answers;
+        are_all = refl;
+        ended = (
           subst (λ l. HasRead steps asks eq s f l h) (sym (append-nil done))
               (stays calls.0 h answers first.stops (first.reads s f done read) calls.2),
           more.0,
           more.1,
-        ),
-      )
+        );
+      }
     where
       stays : (g h : Grouping S K A F) (answers : List (Option (Result (List A) AllocError)))
           → IsOver g → HasRead steps asks eq s f done g
@@ -67,27 +67,27 @@ module _ {S K A F : Type 0} (steps : S → Option A → S → Type 0) (asks : Mu
           (subst (HasRead steps asks eq s f done) same read) calls.2
   answers_on s f done (Some (Ok run) ∷ answers) g h read calls =
       let more = answers_on s f (done ++ run ∷ []) answers calls.0 h (calls.1.reads s f done read)
-      calls.2 in (
-        run ∷ more.0,
-        more.1,
-        ap (λ l. Some (Ok run) ∷ l) more.2,
-        subst (λ l. AnswersThen steps asks eq s f l more.1 h)
-            (append_assoc done (run ∷ []) more.0) more.3,
-      )
+      calls.2 in record {
+        runs = run ∷ more.runs;
+        later = more.later;
+        are_all = ap (λ l. Some (Ok run) ∷ l) more.are_all;
+        ended = subst (λ l. AnswersThen steps asks eq s f l more.later h)
+            (append_assoc done (run ∷ []) more.runs) more.ended;
+      }
   answers_on s f done (Some (Err e) ∷ answers) g h read calls =
-      let more = none_ever_after calls.0 h answers calls.1.stops calls.2 in (
-        [],
-        Some (Err e) ∷ answers,
-        refl,
-        (
+      let more = none_ever_after calls.0 h answers calls.1.stops calls.2 in record {
+        runs = [];
+        later = Some (Err e) ∷ answers;
+        are_all = refl;
+        ended = (
           (
             g,
             subst (λ l. HasRead steps asks eq s f l g) (sym (append-nil done)) read,
           ),
           more.0,
           more.1,
-        ),
-      )
+        );
+      }
 
   -- the runs that came
   pub read_on : (s : S) (f : F) (done rs : List (List A)) (g h : Grouping S K A F)

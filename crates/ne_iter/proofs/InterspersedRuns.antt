@@ -30,7 +30,7 @@ module _ {S A E : Type 0} (steps : S → Option A → S → Type 0) (tries : A �
   gave : (s t : RawIntersperse S A) (x : A) (r : Option (Result A E)) → Stands s (Some x)
       → Next s r t → (r ≡ Some (Ok x)) × (drawn_from t ≡ drawn_from s) × Stands t None
   gave s t x r at st = let h = MatchOption-at_some _ _ x at.0 (MatchBool-at_false _ _ at.1 st.1) in
-      (h.0, h.1, (h.2, h.3, st.0 ∙ at.2))
+      (h.answer, h.draws_none, (h.in_hand_then, h.is_on, st.0 ∙ at.2))
 
   -- nothing was in hand
   drew : (s t : RawIntersperse S A) (r : Option (Result A E)) → Stands s None → Next s r t

@@ -24,7 +24,7 @@ use Rattle.std.proofs.lemmas.Bool.{MatchBool-at_true, MatchBool-at_false}
 use Rattle.ne_iter.specs.Sources.{Reads}
 use Rattle.ne_iter.specs.Calls.{Calls, ShownEach, AnswersEach, AnswersEachAt}
 use Rattle.ne_iter.specs.Gives.{FailsFirst, FilterGives, FilterMapGives, SkipGives, SkipWhileGives}
-use Rattle.ne_iter.specs.Gives.{TakeWhileGives}
+use Rattle.ne_iter.specs.Gives.{TakeWhileGives, FailsAtItem}
 use Rattle.ne_iter.proofs.JoinedRuns.{Yields-append}
 
 -- each of xs with the answer b beside it
@@ -98,13 +98,14 @@ module _ {S A F : Type 0} (steps : S → Option A → S → Type 0)
       source f result
   FilterGives-from_steps becomes source f result made callee whole xs h =
       let p = DrainsIf-filter whole result xs
-      (subst (λ q. DrainsIf (filter_steps steps calls) (whole ≡ true) q xs) h.made h.given) in (
-        p.0,
-        p.1,
-        record { it = filter_source result; made = made; given = p.2 },
-        subst (λ q. ShownEach calls q p.0 p.1) callee p.3,
-        p.4,
-      )
+      (subst (λ q. DrainsIf (filter_steps steps calls) (whole ≡ true) q xs) h.made h.given) in
+      record {
+        answered = p.0;
+        f_then = p.1;
+        read = record { it = filter_source result; made = made; given = p.2 };
+        shown = subst (λ q. ShownEach calls q p.0 p.1) callee p.3;
+        is = p.4;
+      }
 
 module _ {S A B F : Type 0} (steps : S → Option A → S → Type 0)
     (calls : Mut F (A × Unit {0}) (Option B)) where
@@ -189,14 +190,14 @@ module _ {S A B F : Type 0} (steps : S → Option A → S → Type 0)
   FilterMapGives-from_steps becomes source f result made callee whole ys h =
       let p = DrainsIf-filter_map whole result ys
       (subst (λ q. DrainsIf (filter_map_steps steps calls) (whole ≡ true) q ys) h.made h.given)
-      in (
-        p.0,
-        p.1,
-        p.2,
-        record { it = filter_map_source result; made = made; given = p.3 },
-        subst (λ q. Calls calls q p.0 p.1 p.2) callee p.4,
-        p.5,
-      )
+      in record {
+        items = p.0;
+        answers = p.1;
+        f_then = p.2;
+        read = record { it = filter_map_source result; made = made; given = p.3 };
+        called = subst (λ q. Calls calls q p.0 p.1 p.2) callee p.4;
+        is = p.5;
+      }
 
 module _ {S A : Type 0} (steps : S → Option A → S → Type 0) where
   none_passed : (xs : List A) (s u : S) (r : Option A) → length xs ≤ 0 → YieldsThen steps s xs r u
@@ -341,13 +342,13 @@ module _ {S A F : Type 0} (steps : S → Option A → S → Type 0)
   SkipWhileGives-from_steps becomes source f result made callee fresh whole ys h =
       let p = DrainsIf-skip_while whole result ys fresh
       (subst (λ q. DrainsIf (skip_while_steps steps calls) (whole ≡ true) q ys) h.made h.given)
-      in (
-        p.0,
-        p.1,
-        record { it = skip_while_source result; made = made; given = p.2 },
-        subst (λ q. AnswersEachAt calls true q p.0 p.1) callee p.3,
-        p.4,
-      )
+      in record {
+        skipped = p.0;
+        f_then = p.1;
+        read = record { it = skip_while_source result; made = made; given = p.2 };
+        shown = subst (λ q. AnswersEachAt calls true q p.0 p.1) callee p.3;
+        fails = p.4;
+      }
 
   -- what a call says that drew o
   abbrev Tested : TakeWhile S F → Option A → TakeWhile S F → Option A → Type 0
@@ -430,16 +431,20 @@ module _ {S A F : Type 0} (steps : S → Option A → S → Type 0)
   taken_reads : {U : Type 0} (becomes : U → S → Type 0) (source : U) (it : S) (f : F) (whole : Bool)
       (xs : List A) → becomes source it → Taken whole it f xs
       → (g : F) × AnswersEachAt calls true f xs g
-      × (Reads becomes steps whole source xs ⊎
-      ((x : A) × (h : F) × Reads becomes steps false source (xs ++ x ∷ [])
-      × CalledAt calls g x false h))
+      × (Reads becomes steps whole source xs
+      ⊎ FailsAtItem (Reads becomes steps) calls source xs g)
   taken_reads becomes source it f whole xs made
       (g, a, inl k) = (g, a, inl record { it = it; made = made; given = k })
   taken_reads becomes source it f whole xs made
       (g, a, inr (x, h, k, stopped)) = (
         g,
         a,
-        inr (x, h, record { it = it; made = made; given = k }, stopped),
+        inr record {
+          item = x;
+          f_then = h;
+          read = record { it = it; made = made; given = k };
+          called = stopped;
+        },
       )
 
   pub TakeWhileGives-from_steps : {U : Type 0} (becomes : U → S → Type 0) (source : U) (f : F)

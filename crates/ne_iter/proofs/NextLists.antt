@@ -1,6 +1,6 @@
 -- What `next` takes off the list that its source gives, and what looking for an item finds of it.
 use Rattle.std.proofs.Common.{arith, refl, sym, ap, subst, ◌∙◌}
-use Rattle.std.specs.Prelude.{◌≡◌, Bool, true, false, List, [], ◌∷◌, ◌++◌, drop, length, Option}
+use Rattle.std.specs.Prelude.{◌≡◌, Bool, true, false, List, [], ◌∷◌, drop, length, Option}
 use Rattle.std.specs.Prelude.{None, Some}
 use Rattle.std.specs.Iterator.{DrainsIf}
 use Rattle.ne_vec.specs.Fronts.{AreFirst, GivesFronts, GivesItems, Lists}

@@ -14,26 +14,43 @@ use Rattle.ne_iter.specs.Calls.{AnswersEach, AnswersEachAt, Folds, ShownEach}
 use Rattle.ne_iter.specs.Keys.{items_of}
 
 module _ {U A : Type 0} (reads : Bool → U → List A → Type 0) where
-  -- `all`: f answered true at the items xs. Then, at `true`, the source ended; at `false`, f
+  -- An item came behind the items xs, and f answered y at it.
+  pub record StopsAtItem {F : Type 0} (calls : Mut F (A × Unit {0}) Bool) (y : Bool) (source : U)
+      (xs : List A) (f : F) : Type 0 where
+    pub item : A
+    pub f_then : F
+    pub read : reads false source (xs ++ item ∷ [])
+    pub called : Called calls f (item, tt) y f_then
+
+  -- `all`: f answered true at the items, and then, at `true`, the source ended; at `false`, f
   -- answered false at the next item.
-  abbrev pub TellsAll : {F : Type 0} → Mut F (A × Unit {0}) Bool → U → F → Bool → Type 0
-  TellsAll {F} calls source f result = (xs : List A) × (g : F) × AnswersEach calls true f xs g
-      × MatchBool result (reads true source xs)
-      ((x : A) × (h : F) × reads false source (xs ++ x ∷ []) × Called calls g (x, tt) false h)
+  pub record TellsAll {F : Type 0} (calls : Mut F (A × Unit {0}) Bool) (source : U) (f : F)
+      (result : Bool) : Type 0 where
+    pub items : List A
+    pub f_then : F
+    pub passed : AnswersEach calls true f items f_then
+    pub decided : MatchBool result (reads true source items)
+        (StopsAtItem calls false source items f_then)
 
-  -- `any`: f answered false at the items xs. Then, at `true`, f answered true at the next item; at
+  -- `any`: f answered false at the items, and then, at `true`, f answered true at the next item; at
   -- `false`, the source ended.
-  abbrev pub TellsAny : {F : Type 0} → Mut F (A × Unit {0}) Bool → U → F → Bool → Type 0
-  TellsAny {F} calls source f result = (xs : List A) × (g : F) × AnswersEach calls false f xs g
-      × MatchBool result ((x : A) × (h : F) × reads false source (xs ++ x ∷ [])
-      × Called calls g (x, tt) true h) (reads true source xs)
+  pub record TellsAny {F : Type 0} (calls : Mut F (A × Unit {0}) Bool) (source : U) (f : F)
+      (result : Bool) : Type 0 where
+    pub items : List A
+    pub f_then : F
+    pub failed : AnswersEach calls false f items f_then
+    pub decided : MatchBool result (StopsAtItem calls true source items f_then)
+        (reads true source items)
 
-  -- `find`: f answered false at the items xs. Then the source ended, or the result came, at which f
-  -- answered true.
-  abbrev pub FindsFirst : {F : Type 0} → Mut F (Bor A × Unit {0}) Bool → U → F → Option A → Type 0
-  FindsFirst {F} calls source f result = (xs : List A) × (g : F) × AnswersEachAt calls false f xs g
-      × MatchOption result (reads true source xs)
-      (λ x. (h : F) × reads false source (xs ++ x ∷ []) × CalledAt calls g x true h)
+  -- `find`: f answered false at the items, and then the source ended, or the result came, at which
+  -- f answered true.
+  pub record FindsFirst {F : Type 0} (calls : Mut F (Bor A × Unit {0}) Bool) (source : U) (f : F)
+      (result : Option A) : Type 0 where
+    pub items : List A
+    pub f_then : F
+    pub failed : AnswersEachAt calls false f items f_then
+    pub decided : MatchOption result (reads true source items)
+        (λ x. (g : F) × reads false source (items ++ x ∷ []) × CalledAt calls f_then x true g)
 
   -- `nth`: the item behind n others, or `None` where the source ended with at most n.
   abbrev pub GivesNth : U → ℕ → Option A → Type 0
@@ -43,14 +60,21 @@ module _ {U A : Type 0} (reads : Bool → U → List A → Type 0) where
 
   -- `fold`: f, called on the total so far and the next item, took the total from init to the
   -- result.
-  abbrev pub FoldsAll : {B F : Type 0} → Mut F (B × (A × Unit {0})) B → U → F → B → B → Type 0
-  FoldsAll {F = F} calls source f init result = (xs : List A) × (g : F) × reads true source xs
-      × Folds calls f init xs result g
+  pub record FoldsAll {B F : Type 0} (calls : Mut F (B × (A × Unit {0})) B) (source : U) (f : F)
+      (init result : B) : Type 0 where
+    pub items : List A
+    pub f_then : F
+    pub read : reads true source items
+    pub folded : Folds calls f init items result f_then
 
   -- `reduce`: the same over the others, from the first item.
-  abbrev pub ReducesAll : {F : Type 0} → Mut F (A × (A × Unit {0})) A → U → F → A → Type 0
-  ReducesAll {F} calls source f result = (x : A) × (xs : List A) × (g : F)
-      × reads true source (x ∷ xs) × Folds calls f x xs result g
+  pub record ReducesAll {F : Type 0} (calls : Mut F (A × (A × Unit {0})) A) (source : U) (f : F)
+      (result : A) : Type 0 where
+    pub first : A
+    pub others : List A
+    pub f_then : F
+    pub read : reads true source (first ∷ others)
+    pub folded : Folds calls f first others result f_then
 
 -- x is less than y, by cmp.
 abbrev pub less_by : {A : Type 0} → (A → A → Ordering) → A → A → Bool

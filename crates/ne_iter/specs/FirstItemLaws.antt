@@ -60,5 +60,5 @@ module _ {S A E : Type 0} (steps : S → Option A → S → Type 0) (tries : A �
     pub HasFirst-interspersed : (s : RawIntersperse S A) (x : A) → in_hand s ≡ Some x
         → is_over s ≡ false → HasFirst (InterspersesNext steps tries) s
     HasFirst-interspersed s x hand fresh t ended =
-        let e = (MatchOption-at_some _ _ x hand (MatchBool-at_false _ _ fresh ended.1)).0 in
+        let e = (MatchOption-at_some _ _ x hand (MatchBool-at_false _ _ fresh ended.1)).answer in
         search rules

@@ -46,13 +46,129 @@ ViewsList {A = A} reads view u xs =
 abbrev pub ShowsList : {U A : Type 0} → (Bool → U → List (Bor A) → Type 0) → U → List A → Type 0
 ShowsList reads u xs = ViewsList reads (λ y. y.now) u xs
 
+module _ {U A : Type 0} (reads : Bool → U → List A → Type 0) where
+  -- ys are the answers of f, called on the source's items in order.
+  pub record IsMapped {B F : Type 0} (calls : Mut F (A × Unit {0}) B) (source : U) (f : F)
+      (whole : Bool) (ys : List B) : Type 0 where
+    pub items : List A
+    pub f_then : F
+    pub read : reads whole source items
+    pub called : Calls calls f items ys f_then
+
+  -- zs are the items of the one, to its end, and then those of the other.
+  pub record IsChained {W : Type 0} (others : Bool → W → List A → Type 0) (source : U) (other : W)
+      (whole : Bool) (zs : List A) : Type 0 where
+    pub items : List A
+    pub other_items : List A
+    pub read : reads (whole || ltb 0 (length other_items)) source items
+    pub read_other : others whole other other_items
+    pub is : zs ≡ items ++ other_items
+
+  -- ps are pairs of an item of each side. Where no more come, one of the sides has ended.
+  pub record IsZipped {W B : Type 0} (others : Bool → W → List B → Type 0) (source : U) (other : W)
+      (whole : Bool) (ps : List (A × B)) : Type 0 where
+    pub items : List A
+    pub other_items : List B
+    pub ended : Bool
+    pub other_ended : Bool
+    pub read : reads ended source items
+    pub read_other : others other_ended other other_items
+    pub is : ps ≡ zip items other_items
+    pub as_many : length items ≡ length other_items
+    pub one_ended : whole ≡ true → IsTrue (ended || other_ended)
+
+  -- xs are the source's items at which f answers true.
+  pub record IsFiltered {F : Type 0} (calls : Mut F (Bor A × Unit {0}) Bool) (source : U) (f : F)
+      (whole : Bool) (xs : List A) : Type 0 where
+    -- each item with the answer of f
+    pub answered : List (A × Bool)
+    pub f_then : F
+    pub read : reads whole source (items_of answered)
+    pub shown : ShownEach calls f answered f_then
+    pub is : xs ≡ items_of (filter (λ p. p.1) answered)
+
+  -- ys are the values among the answers of f, called on the source's items in order.
+  pub record IsFilterMapped {B F : Type 0} (calls : Mut F (A × Unit {0}) (Option B)) (source : U)
+      (f : F) (whole : Bool) (ys : List B) : Type 0 where
+    pub items : List A
+    pub answers : List (Option B)
+    pub f_then : F
+    pub read : reads whole source items
+    pub called : Calls calls f items answers f_then
+    pub is : ys ≡ filter_map (λ o. o) answers
+
+  -- ys are the source's items from the first one on at which f answers false; f is not called after
+  -- it.
+  pub record IsSkippedWhile {F : Type 0} (calls : Mut F (Bor A × Unit {0}) Bool) (source : U)
+      (f : F) (whole : Bool) (ys : List A) : Type 0 where
+    -- the items before that one
+    pub skipped : List A
+    pub f_then : F
+    pub read : reads whole source (skipped ++ ys)
+    pub shown : AnswersEachAt calls true f skipped f_then
+    pub fails : FailsFirst calls f_then ys
+
+  -- An item came behind the items xs, and f, shown it, answered false.
+  pub record FailsAtItem {F : Type 0} (calls : Mut F (Bor A × Unit {0}) Bool) (source : U)
+      (xs : List A) (f : F) : Type 0 where
+    pub item : A
+    pub f_then : F
+    pub read : reads false source (xs ++ item ∷ [])
+    pub called : CalledAt calls f item false f_then
+
+  -- zs are the lists of f's answers, one after the other.
+  pub record IsFlatMapped {W B F : Type 0} (inner : Bool → W → List B → Type 0)
+      (calls : Mut F (A × Unit {0}) W) (source : U) (f : F) (whole : Bool) (zs : List B) : Type 0
+    where
+      pub items : List A
+      -- the answers, and what each of them gave
+      pub sources : List W
+      pub lists : List (List B)
+      pub f_then : F
+      pub read : reads whole source items
+      pub called : Calls calls f items sources f_then
+      pub read_each : ReadsEach inner whole sources lists
+      pub is : zs ≡ joined lists
+
+  -- zs are the lists of the source's items, one after the other. `inner` is what an item reads,
+  -- which is a source itself.
+  pub record IsFlattened {B : Type 0} (inner : Bool → A → List B → Type 0) (source : U)
+      (whole : Bool) (zs : List B) : Type 0 where
+    pub sources : List A
+    pub lists : List (List B)
+    pub read : reads whole source sources
+    pub read_each : ReadsEach inner whole sources lists
+    pub is : zs ≡ joined lists
+
+  -- ys are the answers of f, called on the source's items in order. It is lent a state: init at the
+  -- first call, and at each later one as the call before left it.
+  pub record IsScanned {S B F : Type 0}
+      (calls : Mut F (MutBor S × (A × Unit {0})) (B × (MutBor S × Unit {0}))) (source : U)
+      (init : S) (f : F) (whole : Bool) (ys : List B) : Type 0 where
+    pub items : List A
+    pub f_then : F
+    pub state_then : S
+    pub read : reads whole source items
+    pub called : CallsWithState calls f init items ys f_then state_then
+
+  -- zs are the items, each in `Ok`, with what came of cloning the separator between each two. What
+  -- came so far is a front of that, and what came to the end is all of it; the source had then
+  -- ended too, where no clone was refused.
+  pub record IsInterspersed {E : Type 0} (tries : A → Result A E → Type 0) (source : U)
+      (separator : A) (whole : Bool) (zs : List (Result A E)) : Type 0 where
+    pub items : List A
+    -- what did not come yet
+    pub later : List (Result A E)
+    pub read : reads (whole && list_all is_ok zs) source items
+    pub spaced : Interspersed (tries separator) items (zs ++ later)
+    pub over : whole ≡ true → later ≡ []
+
 module _ {U V A : Type 0} (reads : Bool → U → List A → Type 0) where
-  -- `map`: the answers of f, called on the source's items in order.
+  -- `map`
   abbrev pub MapGives : {B F : Type 0} → (Bool → V → List B → Type 0) → Mut F (A × Unit {0}) B → U
       → F → V → Type 0
-  MapGives {B} {F} mapped calls source f result = (whole : Bool) (ys : List B)
-      → mapped whole result ys
-      → (xs : List A) × (g : F) × reads whole source xs × Calls calls f xs ys g
+  MapGives {B} mapped calls source f result = (whole : Bool) (ys : List B) → mapped whole result ys
+      → IsMapped reads calls source f whole ys
 
   -- `enumerate`: the items with their places, from 0.
   abbrev pub EnumerateGives : (Bool → V → List (ℕ × A) → Type 0) → U → V → Type 0
@@ -65,51 +181,40 @@ module _ {U V A : Type 0} (reads : Bool → U → List A → Type 0) where
   TakeGives taken n source result = (whole : Bool) (xs : List A) → taken whole result xs
       → reads (whole && ltb (length xs) n) source xs × (length xs ≤ n)
 
-  -- `chain`: the items of the one, to its end, and then those of the other.
+  -- `chain`
   abbrev pub ChainGives : {W : Type 0} → (Bool → W → List A → Type 0) → (Bool → V → List A → Type 0)
       → U → W → V → Type 0
   ChainGives others chained source other result = (whole : Bool) (zs : List A)
-      → chained whole result zs
-      → (xs : List A) × (ys : List A) × reads (whole || ltb 0 (length ys)) source xs
-      × others whole other ys × (zs ≡ xs ++ ys)
+      → chained whole result zs → IsChained reads others source other whole zs
 
-  -- `zip`: pairs of an item of each side; where no more come, one of the sides has ended.
+  -- `zip`
   abbrev pub ZipGives : {W B : Type 0} → (Bool → W → List B → Type 0)
       → (Bool → V → List (A × B) → Type 0) → U → W → V → Type 0
   ZipGives {B = B} others zipped source other result = (whole : Bool) (ps : List (A × B))
-      → zipped whole result ps
-      → (xs : List A) × (ys : List B) × (a : Bool) × (b : Bool) × reads a source xs
-      × others b other ys
-      × (ps ≡ zip xs ys) × (length xs ≡ length ys) × (whole ≡ true → IsTrue (a || b))
+      → zipped whole result ps → IsZipped reads others source other whole ps
 
-  -- `filter`: the items at which f answers true.
+  -- `filter`
   abbrev pub FilterGives : {F : Type 0} → (Bool → V → List A → Type 0)
       → Mut F (Bor A × Unit {0}) Bool → U → F → V → Type 0
-  FilterGives {F} kept calls source f result = (whole : Bool) (xs : List A) → kept whole result xs
-      → (ps : List (A × Bool)) × (g : F) × reads whole source (map (λ p. p.0) ps)
-      × ShownEach calls f ps g × (xs ≡ map (λ p. p.0) (filter (λ p. p.1) ps))
+  FilterGives kept calls source f result = (whole : Bool) (xs : List A) → kept whole result xs
+      → IsFiltered reads calls source f whole xs
 
-  -- `filter_map`: the values among the answers of f, called on the source's items in order.
+  -- `filter_map`
   abbrev pub FilterMapGives : {B F : Type 0} → (Bool → V → List B → Type 0)
       → Mut F (A × Unit {0}) (Option B) → U → F → V → Type 0
-  FilterMapGives {B} {F} kept calls source f result = (whole : Bool) (ys : List B)
-      → kept whole result ys
-      → (xs : List A) × (os : List (Option B)) × (g : F) × reads whole source xs
-      × Calls calls f xs os g × (ys ≡ filter_map (λ o. o) os)
+  FilterMapGives {B} kept calls source f result = (whole : Bool) (ys : List B)
+      → kept whole result ys → IsFilterMapped reads calls source f whole ys
 
   -- `skip`: all but the first n items.
   abbrev pub SkipGives : (Bool → V → List A → Type 0) → ℕ → U → V → Type 0
   SkipGives left n source result = (whole : Bool) (ys : List A) → left whole result ys
       → (xs : List A) × reads whole source xs × (ys ≡ drop n xs)
 
-  -- `skip_while`: the items from the first one on at which f answers false; f is not called after
-  -- it.
+  -- `skip_while`
   abbrev pub SkipWhileGives : {F : Type 0} → (Bool → V → List A → Type 0)
       → Mut F (Bor A × Unit {0}) Bool → U → F → V → Type 0
-  SkipWhileGives {F} left calls source f result = (whole : Bool) (ys : List A)
-      → left whole result ys
-      → (xs : List A) × (g : F) × reads whole source (xs ++ ys) × AnswersEachAt calls true f xs g
-      × FailsFirst calls g ys
+  SkipWhileGives left calls source f result = (whole : Bool) (ys : List A) → left whole result ys
+      → IsSkippedWhile reads calls source f whole ys
 
   -- `take_while`: the items up to the first one at which f answers false. That one is drawn too.
   abbrev pub TakeWhileGives : {F : Type 0} → (Bool → V → List A → Type 0)
@@ -117,44 +222,32 @@ module _ {U V A : Type 0} (reads : Bool → U → List A → Type 0) where
   TakeWhileGives {F} taken calls source f result = (whole : Bool) (xs : List A)
       → taken whole result xs
       → (g : F) × AnswersEachAt calls true f xs g
-      × (reads whole source xs ⊎ ((x : A) × (h : F) × reads false source (xs ++ x ∷ [])
-      × CalledAt calls g x false h))
+      × (reads whole source xs ⊎ FailsAtItem reads calls source xs g)
 
-  -- `flat_map`: the lists of f's answers, one after the other.
+  -- `flat_map`
   abbrev pub FlatMapGives : {W B F : Type 0} → (Bool → W → List B → Type 0)
       → (Bool → V → List B → Type 0) → Mut F (A × Unit {0}) W → U → F → V → Type 0
-  FlatMapGives {W} {B} {F} inner flat calls source f result = (whole : Bool) (zs : List B)
-      → flat whole result zs
-      → (xs : List A) × (us : List W) × (yss : List (List B)) × (g : F)
-      × reads whole source xs × Calls calls f xs us g × ReadsEach inner whole us yss
-      × (zs ≡ joined yss)
+  FlatMapGives {B = B} inner flat calls source f result = (whole : Bool) (zs : List B)
+      → flat whole result zs → IsFlatMapped reads inner calls source f whole zs
 
-  -- `flatten`: the lists of the source's items, one after the other. `inner` is what an item reads,
-  -- which is a source itself.
+  -- `flatten`
   abbrev pub FlattenGives : {B : Type 0} → (Bool → A → List B → Type 0)
       → (Bool → V → List B → Type 0) → U → V → Type 0
   FlattenGives {B} inner flat source result = (whole : Bool) (zs : List B) → flat whole result zs
-      → (us : List A) × (yss : List (List B))
-      × reads whole source us × ReadsEach inner whole us yss × (zs ≡ joined yss)
+      → IsFlattened reads inner source whole zs
 
-  -- `scan`: the answers of f, called on the source's items in order. It is lent a state: init at
-  -- the first call, and at each later one as the call before left it.
+  -- `scan`
   abbrev pub ScanGives : {S B F : Type 0} → (Bool → V → List B → Type 0)
       → Mut F (MutBor S × (A × Unit {0})) (B × (MutBor S × Unit {0})) → U → S → F → V → Type 0
-  ScanGives {S} {B} {F} scanned calls source init f result =
-      (whole : Bool) (ys : List B) → scanned whole result ys
-      → (xs : List A) × (g : F) × (last : S)
-      × reads whole source xs × CallsWithState calls f init xs ys g last
+  ScanGives {B = B} scanned calls source init f result = (whole : Bool) (ys : List B)
+      → scanned whole result ys → IsScanned reads calls source init f whole ys
 
-  -- `intersperse`: the items, each in `Ok`, with what came of cloning the separator between each
-  -- two. What came so far is a front of that, and what came to the end is all of it; the source had
-  -- then ended too, where no clone was refused.
+  -- `intersperse`
   abbrev pub IntersperseGives : {E : Type 0} → (A → Result A E → Type 0)
       → (Bool → V → List (Result A E) → Type 0) → U → A → V → Type 0
   IntersperseGives {E} tries interspersed source separator result = (whole : Bool)
       (zs : List (Result A E)) → interspersed whole result zs
-      → (xs : List A) × (more : List (Result A E)) × reads (whole && list_all is_ok zs) source xs
-      × Interspersed (tries separator) xs (zs ++ more) × (whole ≡ true → more ≡ [])
+      → IsInterspersed reads tries source separator whole zs
 
 module _ {U V T : Type 0} (reads : Bool → U → List (Bor T) → Type 0) where
   -- `copied`: what the references show.

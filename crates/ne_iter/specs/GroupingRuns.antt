@@ -62,13 +62,14 @@ module _ {S K A F : Type 0} (steps : S → Option A → S → Type 0) (asks : Mu
   AnswersThen s f rs (Some (Err e) ∷ more) h = ((k : Grouping S K A F) × HasRead s f rs k)
       × IsOver h × AllByRecursion (λ a. a ≡ None) more
 
-  -- A grouping that had answered the runs done answered so on, and now is h: it answered runs, and
-  -- then no more.
-  abbrev pub AnswersOn : S → F → List (List A) → List (Option (Result (List A) AllocError))
-      → Grouping S K A F → Type 0
-  AnswersOn s f done answers h = (rs : List (List A))
-      × (more : List (Option (Result (List A) AllocError)))
-      × (answers ≡ map (λ run. Some (Ok run)) rs ++ more) × AnswersThen s f (done ++ rs) more h
+  -- A grouping that had answered the runs done answered so on, and now is h.
+  pub record AnswersOn (s : S) (f : F) (done : List (List A))
+      (answers : List (Option (Result (List A) AllocError))) (h : Grouping S K A F) : Type 0 where
+    pub runs : List (List A)
+    -- what it answered after them
+    pub later : List (Option (Result (List A) AllocError))
+    pub are_all : answers ≡ map (λ run. Some (Ok run)) runs ++ later
+    pub ended : AnswersThen s f (done ++ runs) later h
 
 -- A grouping that is not over needs a source that can be drawn and ends, and a closure that can be
 -- called at each item that may come of it.

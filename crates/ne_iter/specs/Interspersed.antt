@@ -65,15 +65,21 @@ module _ {S A E : Type 0} (steps : S → Option A → S → Type 0) (tries : A �
         × MatchResult c (λ _. (in_hand t ≡ Some x) × (is_over t ≡ false))
         (λ _. is_over t ≡ true)))
 
+    -- The item x, which is in hand, is given.
+    pub record GivesHeld (s : RawIntersperse S A) (r : Option (Result A E))
+        (t : RawIntersperse S A) (x : A) : Type 0 where
+      pub answer : r ≡ Some (Ok x)
+      pub draws_none : drawn_from t ≡ drawn_from s
+      pub in_hand_then : in_hand t ≡ None
+      pub is_on : is_over t ≡ false
+
     -- One call. After a refused clone it answers `None` and draws nothing; an item in hand is
     -- given; else `DrawsNext`.
     abbrev pub InterspersesNext : RawIntersperse S A → Option (Result A E) → RawIntersperse S A
         → Type 0
     InterspersesNext s r t = (clones_of t ≡ clones_of s)
         × MatchBool (is_over s) ((r ≡ None) × (t ≡ s))
-        (MatchOption (in_hand s) (DrawsNext s r t)
-        (λ x. (r ≡ Some (Ok x)) × (drawn_from t ≡ drawn_from s) × (in_hand t ≡ None)
-        × (is_over t ≡ false)))
+        (MatchOption (in_hand s) (DrawsNext s r t) (GivesHeld s r t))
 
 -- Behind each run of `it` stands one of `rest`, whose items come behind x. If clones of the
 -- separator s equal it and cannot be refused, a whole run gives all of them with s between each

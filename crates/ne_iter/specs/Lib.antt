@@ -20,4 +20,10 @@ pub mod GroupingRuns
 pub mod HeldItems
 pub mod GroupingLaws
 pub mod Collected
+pub mod KeyList
+pub mod CollectedLaws
+pub mod KeyWalks
+pub mod KeyWalkLaws
+pub mod ExtendLists
+pub mod ExtendListLaws
 pub mod KeyOrder

@@ -39,6 +39,13 @@ abbrev pub EachShown : {U A : Type 0} → ((A → ℕ) → U → List ℕ → Ty
 EachShown {A = A} shows u P =
     (view : A → ℕ) (xs : List ℕ) → shows view u xs → (view_mark view u xs ≡ 0) × P view xs
 
+-- What v becomes gives, run by run, as many items as xs has, or at most as many where the run is
+-- not whole. Said of an adapter that numbers the items of xs, it spares `grind` the list of pairs.
+abbrev pub CountsAs : {V T A B : Type 0} → (V → T → Type 0) → (T → Option B → T → Type 0) → V
+    → List A → Type 0
+CountsAs {T = T} becomes steps v xs = (it : T) → becomes v it → EachRunFrom steps it (λ p.
+    (p.len ≤ length xs) × (p.whole ≡ true → p.len ≡ length xs))
+
 -- `map` by a closure that acts as the function h, and the same of what references show
 module _ {U V A B F : Type 0} (calls : Mut F (A × Unit {0}) B) (f : F)
     (gives : V → List B → Type 0) (u : U) (v : V) where

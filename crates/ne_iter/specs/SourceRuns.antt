@@ -1,11 +1,13 @@
 -- What runs of a source's iterator give, in std's words, for `search`.
-use Rattle.std.specs.Prelude.{◌≡◌, ◌+◌, ◌<◌, ◌∷◌, ◌++◌, true, Option}
+use Rattle.std.specs.Prelude.{◌≡◌, ℕ, ◌+◌, ◌<◌, ◌≤◌, ◌∷◌, ◌++◌, true, Option, IsTrue}
 use Rattle.std.specs.Fn.{Mut}
-use Rattle.std.specs.Iterator.Adapters.{map_steps, flatten_steps, chain_steps}
+use Rattle.std.specs.Iterator.Adapters.{map_steps, flatten_steps, chain_steps, take_steps}
 use Rattle.std.specs.Iterator.Runs.{Run, EachRunFrom, SomeRun, WholeRun, IsMapRun, IsFlatMapRun}
+use Rattle.std.specs.Iterator.Runs.{HasSameItems}
 use Rattle.std.specs.declared.iter.Chain.{Chain}
 use Rattle.std.specs.declared.iter.Map.{Map}
 use Rattle.std.specs.declared.iter.Flatten.{Flatten}
+use Rattle.std.specs.declared.iter.Take.{Take}
 
 module _ {U S A : Type 0} (becomes : U → S → Type 0) (steps : S → Option A → S → Type 0)
     (u : U) (P : Run steps → Type 0) where
@@ -29,6 +31,12 @@ ChainsRuns steps others a b it = EachRunFrom (chain_steps steps others) it (λ p
     SomeRun steps a (λ u. SomeRun others b (λ v. (p.len ≡ u.len + v.len)
     × (p.items ≡ u.items ++ v.items) × (p.whole ≡ true → (u.whole ≡ true) × (v.whole ≡ true))
     × (0 < v.len → u.whole ≡ true))))
+
+-- behind each run of the adapter `it`, of at most n items, stands one of `source` with these items
+abbrev pub TakesRuns : {S A : Type 0} → (S → Option A → S → Type 0) → ℕ → S → Take S → Type 0
+TakesRuns steps n source it = EachRunFrom (take_steps steps) it (λ p. (p.len ≤ n)
+    × SomeRun steps source (λ q. HasSameItems p q
+    × (IsTrue p.whole → p.len < n → IsTrue q.whole)))
 
 -- where x came of `it`, and left `rest`: before each run of `rest` stands x in one of `it`
 abbrev pub BeginsRuns : {S A : Type 0} → (S → Option A → S → Type 0) → A → S → S → Type 0

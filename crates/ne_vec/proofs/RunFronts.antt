@@ -24,7 +24,7 @@ module _ {U S A : Type 0} (becomes : U → S → Type 0) (steps : S → Option A
       λ it made p seen from.
           let f = shows it made p.whole p.items (run_drains steps p it from) in
           let l = lists p view xs f.0 (λ w. ap length (f.2 w)) f.1 in
-          (l.0, l.1, l.6),
+          (l.0, l.1, l.6, l.7),
     )
 
     pub gives_items : (xs : List A) → Lists becomes steps u xs → GivesItems becomes steps u xs

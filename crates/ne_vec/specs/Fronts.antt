@@ -3,7 +3,7 @@ use Rattle.std.specs.Prelude.{◌≡◌, ◌≤◌, ◌<◌, ℕ, Bool, slice_ge
 use Rattle.std.specs.Prelude.{Option}
 use Rattle.std.specs.List.{fold}
 use Rattle.std.specs.Iterator.{DrainsIf}
-use Rattle.std.specs.Iterator.Runs.{EachRunFrom}
+use Rattle.std.specs.Iterator.Runs.{EachRunFrom, FoldIsAtMost}
 
 -- us are the first of xs, and all of them where `whole` is true
 abbrev pub AreFirst : {A : Type 0} → Bool → List A → List A → Type 0
@@ -51,7 +51,8 @@ module _ {S A : Type 0} (steps : S → Option A → S → Type 0) where
   abbrev pub ShowsFronts : {B : Type 0} → (A → B) → List B → S → Type 0
   ShowsFronts {B} view xs it = EachRunFrom steps it (λ p.
       (p.len ≤ length xs) × (p.whole ≡ true → p.len ≡ length xs)
-      × ((h : B → ℕ) → p.whole ≡ true → map (λ x. h (view x)) p.items ≡ map h xs))
+      × ((h : B → ℕ) → p.whole ≡ true → map (λ x. h (view x)) p.items ≡ map h xs)
+      × FoldIsAtMost p view xs)
 
 module _ {U S A : Type 0} (becomes : U → S → Type 0) (steps : S → Option A → S → Type 0) where
   -- all that `grind` is told of a source that gives the items of xs

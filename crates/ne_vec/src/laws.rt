@@ -6,6 +6,7 @@ ghost use Rattle.std.specs.Cmp.{IsPartialEquivalence};
 ghost use Rattle.std.specs.Cmp.Lexicographic.{pointwise, slice_cmp, slice_partial_cmp};
 ghost use Rattle.std.specs.declared.cmp.Ordering.TheVariants.{Less, Equal, Greater};
 ghost use Rattle.ne_vec.specs.Divisions.{IsDivision, by_first, by_previous, joined, firsts};
+ghost use Rattle.ne_vec.specs.Divisions.{runs_of};
 ghost use Rattle.ne_vec.specs.Kept.{KeepsFirsts};
 ghost use Rattle.ne_vec.specs.Calls.{CallableAtItems};
 ghost use Rattle.ne_vec.specs.Chunks.{chunks};
@@ -21,6 +22,17 @@ pub fn has_one_division<T>()
         × IsDivision goes_on xs rs }
     ensures unique { (goes_on : List T → T → Bool) (xs : List T) (rs others : List (List T))
         → IsDivision goes_on xs rs → IsDivision goes_on xs others → rs ≡ others }
+{}
+
+/// `runs_of` computes that division, of a test of two items: its runs are the division, and any
+/// division is these runs. `place` says which item of a run the next one is compared with,
+/// `by_first` or `by_previous`.
+pub fn computed_runs_are_the_division<T>()
+    ensures divides { (place : (T → T → Bool) → List T → T → Bool) (same : T → T → Bool)
+        (xs : List T) → IsDivision (place same) xs (runs_of place same xs) }
+    ensures only { (place : (T → T → Bool) → List T → T → Bool) (same : T → T → Bool)
+        (xs : List T) (rs : List (List T)) → IsDivision (place same) xs rs
+        → rs ≡ runs_of place same xs }
 {}
 
 /// The runs of a list, all but its last, are the first runs of each longer list.

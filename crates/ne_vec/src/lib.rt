@@ -56,10 +56,11 @@ pub trait Singleton: Sized {
 
     /// Adds an item: `push` on a vector, `insert` on a set or a map.
     ///
-    /// `AllocError` where the collection has to grow and there is no memory for it; it is then as
-    /// it was, and the item is dropped.
+    /// `AllocError` where the collection has to grow and there is no memory for it; it is then what
+    /// the same items make, and the item is dropped.
     fn extend_one(&mut self, item: Self::Item) -> Result<(), AllocError>
         ensures added { OnOk result ((xs : List Self.Item) → collected xs self.old
             → collected (xs ++ item ∷ []) self.new) }
-        ensures unchanged { OnErr result (self.new ≡ self.old) };
+        ensures unchanged { OnErr result ((xs : List Self.Item) → collected xs self.old
+            → collected xs self.new) };
 }

@@ -83,6 +83,7 @@ impl<I: IntoIterator> IntoIterator for Take<I> {
     ghost use Rattle.std.specs.Prelude.{◌≡◌, ◌<◌};
     ghost use Rattle.std.specs.Iterator.Adapters.{take_source as std_take_source};
     ghost use Rattle.std.specs.Iterator.Adapters.{take_count as std_take_count};
+    ghost use Rattle.ne_iter.specs.SourceRuns.{TakesRuns};
     ghost use Rattle.ne_iter.specs.Parts.{take_source, take_count};
 
     type Item = I::Item;
@@ -90,7 +91,8 @@ impl<I: IntoIterator> IntoIterator for Take<I> {
     type IntoIter = iter::Take<I::IntoIter>;
 
     ghost into_iter_gives = { λ s it. I.into_iter_gives (take_source s) (std_take_source it)
-        × (std_take_count it ≡ take_count s) };
+        × (std_take_count it ≡ take_count s)
+        × TakesRuns I.IntoIter.next_gives (take_count s) (std_take_source it) it };
 
     fn into_iter(self) -> iter::Take<I::IntoIter> {
         self.iter.into_iter().take(self.n.get())

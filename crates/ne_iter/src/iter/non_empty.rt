@@ -15,7 +15,8 @@ ghost use Rattle.std.specs.Iterator.Runs.{AllItems, AllItemsGive, AnyItemGives, 
 ghost use Rattle.std.specs.Iterator.Runs.{EndsAtFirstPassing, IsReduceRun, IndexesMappedItems};
 ghost use Rattle.std.specs.Iterator.Runs.{IsFilterRun, IsFilterMapRun, IsSkipRun, IsSkipWhileRun};
 ghost use Rattle.std.specs.Iterator.Runs.{IsTakeWhileRun};
-ghost use Rattle.std.specs.Iterator.Adapters.{filter_steps, filter_map_steps, skip_steps};
+ghost use Rattle.std.specs.Iterator.Adapters.{enumerate_steps, filter_steps, filter_map_steps};
+ghost use Rattle.std.specs.Iterator.Adapters.{skip_steps};
 ghost use Rattle.std.specs.Iterator.Adapters.{skip_while_steps, take_while_steps, filter_source};
 ghost use Rattle.std.specs.Iterator.Adapters.{filter_callee, filter_map_source, filter_map_callee};
 ghost use Rattle.std.specs.Iterator.Adapters.{skip_source, skip_count, skip_while_source};
@@ -30,7 +31,8 @@ ghost use Rattle.ne_iter.specs.Sources.{IsNonEmpty, DrawsFirst};
 ghost use Rattle.ne_vec.specs.Fronts.{Shows, GivesFronts, mark, view_mark};
 ghost use Rattle.ne_vec.specs.WalkFronts.{WalkGives};
 ghost use Rattle.ne_iter.specs.SourceRuns.{RunsSome, RunsWhole, BeginsRuns};
-ghost use Rattle.ne_iter.specs.SourceLists.{BecomesList, BeginsList, ChainsLists, EachList};
+ghost use Rattle.ne_iter.specs.SourceLists.{BecomesList, BeginsList, ChainsLists, CountsAs};
+ghost use Rattle.ne_iter.specs.SourceLists.{EachList};
 ghost use Rattle.ne_iter.specs.SourceLists.{EachShown, FlattensLists, MapsList, MapsShown};
 ghost use Rattle.ne_iter.specs.SourceLists.{MeetsList, SpreadsLists, ZipsLists};
 ghost use Rattle.ne_iter.specs.Interspersed.{interspersed, JoinsLists, OnlyItsValues};
@@ -264,7 +266,9 @@ pub trait NonEmptyIterator: IntoIterator {
         ensures gives { EnumerateGives (⟦<Self as SourceWords>⟧.reads)
             (⟦<Enumerate<Self> as SourceWords>⟧.reads) self result }
         ensures lists { EachList (⟦<Self as SourceWords>⟧.lists) self (λ xs.
-            ⟦<Enumerate<Self> as SourceWords>⟧.gives_items result (enumerate_from 0 xs)) }
+            ⟦<Enumerate<Self> as SourceWords>⟧.gives_items result (enumerate_from 0 xs)
+            × CountsAs (⟦<Enumerate<Self> as IntoIterator>⟧.into_iter_gives)
+            (enumerate_steps Self.IntoIter.next_gives) result xs) }
     {
         Enumerate { iter: self }
     }

@@ -10,8 +10,10 @@ use Rattle.ne_iter.proofs.laws.adapters.list_of_flat_map.Goals as goal
 pub returns : goal.returns
 returns g c spread h lists xs gives acts inner list whole zs read =
     let parts = gives whole zs read in
-    let values = function_values g.F.FnMut c.args.f.now h parts.0 parts.1 parts.3 acts parts.5 in
+    let us = parts.items in
+    let values = function_values g.F.FnMut c.args.f.now h us parts.sources parts.f_then acts
+    parts.called in
     let reads = Reads g.U.IntoIterator.into_iter_gives g.U.IntoIter.Iterator.next_gives in
-    let each = subst (λ us. ReadsEach reads whole us parts.2) values.0 parts.6 in
-    subst (AreFirst whole (flat_map lists xs)) (sym parts.7)
-    (joined_items reads h lists whole xs parts.0 parts.2 inner (list whole parts.0 parts.4) each)
+    let each = subst (λ us. ReadsEach reads whole us parts.lists) values.0 parts.read_each in
+    subst (AreFirst whole (flat_map lists xs)) (sym parts.is)
+    (joined_items reads h lists whole xs us parts.lists inner (list whole us parts.read) each)

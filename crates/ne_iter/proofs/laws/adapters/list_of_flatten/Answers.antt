@@ -9,6 +9,6 @@ pub returns : goal.returns
 returns g c flat lists us gives inner list whole zs read =
     let parts = gives whole zs read in
     let reads = Reads g.U.IntoIterator.into_iter_gives g.U.IntoIter.Iterator.next_gives in
-    let all = joined_sources reads lists whole us parts.0 parts.1 inner
-    (list whole parts.0 parts.2) parts.3 in
-    subst (AreFirst whole (flat_map lists us)) (sym parts.4) all
+    let all = joined_sources reads lists whole us parts.sources parts.lists inner
+    (list whole parts.sources parts.read) parts.read_each in
+    subst (AreFirst whole (flat_map lists us)) (sym parts.is) all

@@ -11,7 +11,9 @@ use Rattle.ne_iter.specs.GroupingRuns.{CanRead, HasRead, runs_left}
 use Rattle.ne_iter.proofs.Groupings.{open_held, open_first, open_more, close_held, close_end}
 use Rattle.ne_iter.proofs.Groupings.{held_is_not_over, unread_is_not_over}
 use Rattle.ne_iter.proofs.iter.group_by.GroupByItemIterator.next.Goals.{in-Held}
-use Rattle.ne_iter.proofs.iter.group_by.GroupByItemIterator.next.Goals.{in-Unread+in_ok-item-in-Unread}
+use Rattle.ne_iter.proofs.iter.group_by.GroupByItemIterator.next.Goals.{
+  in-Unread+in_ok-item-in-Unread,
+}
 use Rattle.ne_iter.proofs.iter.group_by.GroupByItemIterator.next.Goals as goal
 
 pub loop-item-init : goal.loop-item-init

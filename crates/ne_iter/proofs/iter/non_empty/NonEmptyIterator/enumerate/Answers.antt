@@ -3,7 +3,7 @@ use Rattle.std.specs.Iterator.Adapters.{enumerate_source}
 use Rattle.std.specs.List.{enumerate_from}
 use Rattle.ne_iter.proofs.Runs.{DrainsIf-enumerate}
 use Rattle.ne_iter.proofs.AdapterLists.{enumerate_list}
-use Rattle.ne_iter.proofs.ClauseLists.{gives_each}
+use Rattle.ne_iter.proofs.ClauseLists.{counts_as, gives_each}
 use Rattle.ne_iter.proofs.iter.non_empty.NonEmptyIterator.enumerate.Goals as goal
 
 pub returns-clause-gives : goal.returns-clause-gives
@@ -15,5 +15,7 @@ returns-clause-gives g c whole ys h =
     )
 
 pub returns-clause-lists : goal.returns-clause-lists
-returns-clause-lists g c =
-    gives_each (enumerate_from 0) (enumerate_list (returns-clause-gives g c))
+returns-clause-lists g c xs lists =
+    let given =
+    gives_each (enumerate_from 0) (enumerate_list (returns-clause-gives g c)) xs lists in
+    (given.0, (given.1, λ it made. counts_as xs it (given.1.1 it made)))

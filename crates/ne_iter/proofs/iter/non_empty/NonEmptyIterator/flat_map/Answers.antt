@@ -14,20 +14,16 @@ returns-clause-gives g c whole zs h =
     g.U.IntoIterator.into_iter_gives g.U.IntoIter.Iterator.next_gives whole h.it zs h.made.2
     h.made.3 h.made.4 h.given in
     let q = DrainsIf-map g.Self.IntoIter.Iterator.next_gives g.F.FnMut (flatten_source h.it) p.0 p.2
-    in (
-      q.0,
-      p.0,
-      p.1,
-      q.1,
-      record {
-        it = map_source (flatten_source h.it);
-        made = h.made.0;
-        given = q.2;
-      },
-      subst (λ f. Calls g.F.FnMut f q.0 p.0 q.1) h.made.1 q.3,
-      p.3,
-      p.4,
-    )
+    in record {
+      items = q.0;
+      sources = p.0;
+      lists = p.1;
+      f_then = q.1;
+      read = record { it = map_source (flatten_source h.it); made = h.made.0; given = q.2 };
+      called = subst (λ f. Calls g.F.FnMut f q.0 p.0 q.1) h.made.1 q.3;
+      read_each = p.3;
+      is = p.4;
+    }
 
 pub returns-clause-lists : goal.returns-clause-lists
 returns-clause-lists g c = spreads_lists (flat_map_list (returns-clause-gives g c))

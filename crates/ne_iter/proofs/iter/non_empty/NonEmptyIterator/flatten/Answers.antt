@@ -9,7 +9,13 @@ returns-clause-gives g c whole zs h =
     let p = DrainsIf-flatten g.Self.IntoIter.Iterator.next_gives
     g.Self.Item.IntoIterator.into_iter_gives g.Self.Item.IntoIter.Iterator.next_gives
     whole h.it zs h.made.1 h.made.2 h.made.3 h.given in
-    (p.0, p.1, record { it = flatten_source h.it; made = h.made.0; given = p.2 }, p.3, p.4)
+    record {
+      sources = p.0;
+      lists = p.1;
+      read = record { it = flatten_source h.it; made = h.made.0; given = p.2 };
+      read_each = p.3;
+      is = p.4;
+    }
 
 pub returns-clause-lists : goal.returns-clause-lists
 returns-clause-lists g c = flattens_lists (flatten_list (returns-clause-gives g c))

@@ -22,10 +22,10 @@ returns-clause-gives g c whole zs h =
     g.Self.Item.Clone.is_infallible) c.args.separator whole h.it c.next-first.result.0 zs
     (h.made.0, h.made.3, h.made.2) h.given in
     let run = subst (λ q. DrainsIf steps ((whole && list_all is_ok zs) ≡ true) q p.0) h.made.1 p.2
-    in (
-      c.next-first.result.0 ∷ p.0,
-      p.1,
-      record {
+    in record {
+      items = c.next-first.result.0 ∷ p.0;
+      later = p.1;
+      read = record {
         it = drawn.0;
         made = drawn.1;
         given = (
@@ -33,10 +33,10 @@ returns-clause-gives g c whole zs h =
           (c.next-first.result.1, drawn.2, run.1),
           run.2,
         );
-      },
-      p.3,
-      p.4,
-    )
+      };
+      spaced = p.3;
+      over = p.4;
+    }
 
 pub returns-clause-runs : goal.returns-clause-runs
 returns-clause-runs g c =

@@ -17,7 +17,13 @@ returns-clause-gives g c whole ys h =
     let init = c.args.init in
     let by_init = subst (λ s. CallsWithState calls h.it.f s p.0 ys p.1 p.2) h.made.1 p.4 in
     let by_f = subst (λ f. CallsWithState calls f init p.0 ys p.1 p.2) h.made.2 by_init in
-    (p.0, p.1, p.2, record { it = scanned_from h.it; made = h.made.0; given = p.3 }, by_f)
+    record {
+      items = p.0;
+      f_then = p.1;
+      state_then = p.2;
+      read = record { it = scanned_from h.it; made = h.made.0; given = p.3 };
+      called = by_f;
+    }
 
 pub returns-clause-ends : goal.returns-clause-ends
 returns-clause-ends g c runs always it made =

@@ -7,17 +7,17 @@ use Rattle.ne_iter.proofs.iter.non_empty.NonEmptyIterator.zip.Goals as goal
 pub returns-clause-gives : goal.returns-clause-gives
 returns-clause-gives g c whole ps h =
     let p = DrainsIf-zip g.Self.IntoIter.Iterator.next_gives g.U.IntoIter.Iterator.next_gives whole
-    h.it ps h.given in (
-      p.0,
-      p.1,
-      p.2,
-      p.3,
-      record { it = zip_first h.it; made = h.made.0; given = p.4 },
-      record { it = zip_second h.it; made = h.made.1; given = p.5 },
-      p.6,
-      p.7,
-      p.8,
-    )
+    h.it ps h.given in record {
+      items = p.0;
+      other_items = p.1;
+      ended = p.2;
+      other_ended = p.3;
+      read = record { it = zip_first h.it; made = h.made.0; given = p.4 };
+      read_other = record { it = zip_second h.it; made = h.made.1; given = p.5 };
+      is = p.6;
+      as_many = p.7;
+      one_ended = p.8;
+    }
 
 pub returns-clause-lists : goal.returns-clause-lists
 returns-clause-lists g c =
