@@ -1,0 +1,4 @@
+pub mod Collect
+pub mod MapEq
+pub mod SetEq
+pub mod UnionShown

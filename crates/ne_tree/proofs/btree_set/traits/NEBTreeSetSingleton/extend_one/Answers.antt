@@ -1,0 +1,11 @@
+use Rattle.std.proofs.Common.{rules}
+use Rattle.ne_tree.proofs.Collect.{set_of-put}
+use Rattle.ne_tree.proofs.btree_set.traits.NEBTreeSetSingleton.extend_one.Goals as goal
+
+pub returns-clause-added : goal.returns-clause-added
+returns-clause-added g c = λ xs h. (
+  set_of-put g.met.T.Ord.total g.met.T.Ord.matches_eq xs c.args.self.now c.insert.new.self
+      c.args.item c.insert.ensures.ordered (search rules) h.0,
+  c.insert.ensures.ordered,
+  c.insert.ensures.nonempty,
+)

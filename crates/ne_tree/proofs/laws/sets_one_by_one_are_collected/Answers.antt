@@ -1,0 +1,6 @@
+use Rattle.ne_tree.proofs.Collect.{one_set}
+use Rattle.ne_tree.proofs.laws.sets_one_by_one_are_collected.Goals as goal
+
+pub returns-clause-same_set : goal.returns-clause-same_set
+returns-clause-same_set g c = λ items s t a b.
+    one_set g.met.T.Ord.total g.met.T.Ord.matches_eq items s t a.0 b.0

@@ -1,0 +1,304 @@
+//! Tree maps that hold at least one key, their walks, and what they implement.
+//!
+//! An [`NEBTreeMap`] walks in ascending order of its keys. Look-ups go by `Ord` of the keys, and a
+//! key that is there stays as it is where an equal one is inserted.
+ghost use Rattle.std.specs.Prelude.{◌≡◌, ◌+◌, ◌<◌, ◌^◌, ◌++◌, [], ◌∷◌, List, None, Some, is_some};
+ghost use Rattle.std.specs.Prelude.{if◌then◌else◌, IfOk, IfSome, IsSome, MatchOption, OnErr, OnOk};
+ghost use Rattle.std.specs.BTreeMap.{btree_map_len, get, get_key, insert_entry, keys, values};
+ghost use Rattle.std.specs.BTreeMap.{IsEmpty, IsOrdered, IsUnchanged, Updates};
+ghost use Rattle.std.specs.BTreeMap.IterMut.{iter_mut_rest, IterMutCanStep};
+ghost use Rattle.std.specs.BTreeMap.Lent.{KeepsKeys};
+ghost use Rattle.std.specs.Borrow.{sem};
+ghost use Rattle.std.specs.Int.NonZero.{non_zero_usize_get};
+ghost use Rattle.std.specs.Iterator.{ExtendsWithItems, IsFiniteIterable};
+ghost use Rattle.std.specs.List.{IsAmong};
+ghost use Rattle.std.specs.Map.Iter.{LendsValuesInOrder, ShowsInOrder, ShowsValuesInOrder};
+ghost use Rattle.std.specs.Map.Iter.{deref, deref_pair};
+ghost use Rattle.std.specs.Option.{option_copied, option_copied_mut, option_map};
+ghost use Rattle.std.specs.Ordering.{eq_by_cmp};
+ghost use Rattle.std.specs.Set.{is_member};
+ghost use Rattle.ne_iter.specs.Collected.{IsMapOf};
+ghost use Rattle.ne_iter.specs.ExtendLists.{ExtendsByList};
+ghost use Rattle.ne_iter.specs.KeyWalks.{KeyWalkShows};
+ghost use Rattle.ne_iter.specs.SourceLists.{MeetsList};
+ghost use Rattle.ne_tree.specs.Clones.{IsCloneOfMap};
+ghost use Rattle.ne_tree.specs.Lends.{LendsValue, LendsValues, LendsValuesInside, std_walk};
+
+mod traits;
+mod walks;
+
+use ne_iter::iter::SourceWords;
+use std::alloc::{AllocError, Global};
+use std::collections::{BTreeMap, btree_map};
+use std::marker::Model;
+use std::num::NonZeroUsize;
+pub use walks::{IntoIter, Iter, IterMut, Keys, Values};
+
+/// A tree map that holds at least one key, after std's [`BTreeMap`].
+///
+/// A contract sees it as std's record of the map: `get K.cmp m k` is the value of the key `k`,
+/// `m.entries` are the pairs in ascending order of the keys, and `IsOrdered K.cmp m` says that they
+/// ascend.
+///
+/// Equality, order and clones of keys and values are taken to be lawful where a clause says so.
+#[derive(Drop)]
+pub struct NEBTreeMap<K: Ord, V> {
+    inner: BTreeMap<K, V>,
+}
+
+impl<K: Ord, V> Model for NEBTreeMap<K, V> {
+    ghost use Rattle.std.specs.Prelude.{◌<◌};
+    ghost use Rattle.std.specs.BTreeMap.{BTreeMap as Entries, btree_map_len};
+    ghost use Rattle.std_collections.specs.Layout.BTreeMap.{btree_map_code};
+
+    ghost Value = { Entries K V };
+
+    ghost coded = { btree_map_code K.code V.code };
+
+    ghost view = { λ m. m.inner };
+
+    ghost invariant = { λ m. 0 < btree_map_len m.inner };
+}
+
+impl<K: Ord, V> NEBTreeMap<K, V> {
+    /// The map of one key.
+    ///
+    /// `AllocError` where there is no memory for it; the pair is then dropped.
+    pub fn new(alloc: Global, k: K, v: V) -> Result<Self, AllocError>
+    where
+        K: Drop,
+        V: Drop,
+        ensures entries { IfOk result (λ m. m.entries ≡ (k, v) ∷ []) }
+        ensures value { IfOk result (λ m. get K.cmp m k ≡ Some v) }
+        ensures ordered { IfOk result (IsOrdered K.cmp) }
+        ensures nonempty { IfOk result (λ m. 0 < btree_map_len m) }
+    {
+        let mut inner = BTreeMap::new(alloc);
+        inner.insert(k, v)?;
+        Ok(NEBTreeMap { inner })
+    }
+
+    /// The map as it is, or `None`, exactly where it is empty. It takes no memory.
+    pub fn try_from_map(map: BTreeMap<K, V>) -> Option<Self>
+    where
+        K: Drop,
+        V: Drop,
+        ensures { MatchOption result (IsEmpty map) (λ m. (m ≡ map) × IsOrdered K.cmp m
+            × (0 < btree_map_len m)) }
+    {
+        if map.is_empty() {
+            None
+        } else {
+            // `len` says that the keys ascend.
+            let _len = map.len();
+            Some(NEBTreeMap { inner: map })
+        }
+    }
+
+    /// std's walk over the pairs, in ascending order of the keys.
+    pub fn iter(&self) -> btree_map::Iter<'_, K, V>
+        ensures rest { result ≡ self.now.entries }
+        ensures runs { ShowsInOrder (deref_pair {K = K} {X = V}) }
+        ensures values_run { ShowsValuesInOrder (deref_pair {K = K} {X = V}) }
+        ensures fits { btree_map_len self.now < 2 ^ 63 }
+        ensures ordered { IsOrdered K.cmp self.now }
+        ensures nonempty { 0 < btree_map_len self.now }
+    {
+        self.inner.iter()
+    }
+
+    /// std's walk over the pairs, in ascending order of the keys, with the values for writing. The
+    /// keys stay, and so does their number.
+    pub fn iter_mut(&mut self) -> btree_map::IterMut<'_, K, V>
+        ensures* writes_back { sem 𝓛 (LendsValues K.row V.row K.Ord self.entry result) }
+        ensures keeps { KeepsKeys self.old 0 }
+        ensures ready { IterMutCanStep result }
+        ensures rest { iter_mut_rest result ≡ self.old.entries }
+        ensures ordered { IsOrdered K.cmp self.old }
+        ensures fits { btree_map_len self.old < 2 ^ 63 }
+        ensures values_run { LendsValuesInOrder (iter_mut_rest {K = K} {X = V}) }
+        ensures nonempty { 0 < btree_map_len self.old }
+    {
+        walk(&mut self.inner)
+    }
+
+    /// The walk over the pairs, in ascending order of the keys, that knows that there is one.
+    pub fn nonempty_iter(&self) -> Iter<'_, K, V>
+        ensures entries { result ≡ self.now.entries }
+        ensures shows { KeyWalkShows (deref_pair {K = K} {X = V}) result self.now.entries }
+        ensures ordered { IsOrdered K.cmp self.now }
+        ensures nonempty { 0 < btree_map_len self.now }
+    {
+        Iter {
+            inner: self.inner.iter(),
+        }
+    }
+
+    /// The same, with the values for writing. The keys stay, and so does their number.
+    pub fn nonempty_iter_mut(&mut self) -> IterMut<'_, K, V>
+        ensures* writes_back { sem 𝓛 (LendsValues K.row V.row K.Ord self.entry (std_walk result)) }
+        ensures keeps { KeepsKeys self.old 0 }
+        ensures ready { IterMutCanStep (std_walk result) }
+        ensures rest { iter_mut_rest (std_walk result) ≡ self.old.entries }
+        ensures ordered { IsOrdered K.cmp self.old }
+        ensures fits { btree_map_len self.old < 2 ^ 63 }
+        ensures values_run { LendsValuesInOrder (iter_mut_rest {K = K} {X = V}) }
+        ensures nonempty { 0 < btree_map_len self.old }
+    {
+        IterMut {
+            inner: self.iter_mut(),
+        }
+    }
+
+    /// The keys, ascending, at least one.
+    pub fn keys(&self) -> Keys<'_, K, V>
+        ensures keys { result ≡ keys self.now }
+        ensures shows { KeyWalkShows (deref {X = K}) result (keys self.now) }
+        ensures found { (q : K)
+            → is_some (get K.cmp self.now q) ≡ is_member (eq_by_cmp K.cmp) result q }
+        ensures ordered { IsOrdered K.cmp self.now }
+        ensures nonempty { 0 < btree_map_len self.now }
+    {
+        Keys {
+            inner: self.inner.keys(),
+        }
+    }
+
+    /// How many keys there are, at least 1.
+    pub fn len(&self) -> NonZeroUsize
+        ensures len { non_zero_usize_get result ≡ btree_map_len self.now }
+        ensures ordered { IsOrdered K.cmp self.now }
+        ensures nonempty { 0 < btree_map_len self.now }
+    {
+        match NonZeroUsize::new(self.inner.len()) {
+            Some(len) => len,
+            None => unreachable!(),
+        }
+    }
+
+    /// The values, in ascending order of their keys, at least one.
+    pub fn values(&self) -> Values<'_, K, V>
+        ensures values { result ≡ values self.now }
+        ensures shows { KeyWalkShows (deref {X = V}) result (values self.now) }
+        ensures ordered { IsOrdered K.cmp self.now }
+        ensures nonempty { 0 < btree_map_len self.now }
+    {
+        Values {
+            inner: self.inner.values(),
+        }
+    }
+
+    /// Whether there is an equal key.
+    pub fn contains_key(&self, k: &K) -> bool
+        ensures { result ≡ is_some (get K.cmp self.now k.now) }
+    {
+        self.inner.contains_key(k)
+    }
+
+    /// The value of the equal key, if there is one.
+    pub fn get(&self, k: &K) -> Option<&V>
+        ensures value { option_copied result ≡ get K.cmp self.now k.now }
+        ensures member { IfSome result (λ v. IsAmong (values self.now) v.now) }
+    {
+        self.inner.get(k)
+    }
+
+    /// The equal key and its value, if there is one: the key as it is in the map.
+    pub fn get_key_value(&self, k: &K) -> Option<(&K, &V)>
+        ensures key { option_map (λ p. p.0.now) result ≡ get_key K.cmp self.now k.now }
+        ensures value { option_map (λ p. p.1.now) result ≡ get K.cmp self.now k.now }
+    {
+        self.inner.get_key_value(k)
+    }
+
+    /// The value of the equal key for writing, if there is one. The keys stay, and so do the other
+    /// values.
+    pub fn get_mut(&mut self, k: &K) -> Option<&mut V>
+        ensures* writes_back { sem 𝓛 (LendsValue K.row V.row K.Ord self.entry k.now result) }
+        ensures value { option_copied_mut result ≡ get K.cmp self.old k.now }
+        ensures ordered { IsOrdered K.cmp self.old }
+        ensures nonempty { 0 < btree_map_len self.old }
+    {
+        self.inner.get_mut(k)
+    }
+
+    /// Puts a value at a key. Where an equal key is there, it stays, takes the value, and its old
+    /// one comes back; the key that was handed in is dropped.
+    ///
+    /// `AllocError` where the map has to grow, so only for a new key, and there is no memory for
+    /// it; the entries are then as they were, and the pair is dropped.
+    pub fn insert(&mut self, k: K, v: V) -> Result<Option<V>, AllocError>
+    where
+        K: Drop,
+        V: Drop,
+        ensures old { IfOk result (λ old. old ≡ get K.cmp self.old k) }
+        ensures updates { OnOk result (Updates K.cmp self.old self.new k (Some v)) }
+        ensures entries { OnOk result (self.new.entries
+            ≡ insert_entry K.cmp self.old.entries k v) }
+        ensures keys_stay { IfOk result (λ old. IsSome old → keys self.new ≡ keys self.old) }
+        ensures len { IfOk result (λ old. btree_map_len self.new
+            ≡ btree_map_len self.old + (if is_some old then 0 else 1)) }
+        ensures refused { OnErr result (get K.cmp self.old k ≡ None) }
+        ensures unchanged { OnErr result (IsUnchanged self.old self.new) }
+        ensures ordered { IsOrdered K.cmp self.new }
+        ensures nonempty { 0 < btree_map_len self.new }
+    {
+        Ok(self.inner.insert(k, v)?)
+    }
+
+    /// Inserts the pairs, in order: a key has the value of its last pair, and a key that is there
+    /// stays as it is.
+    ///
+    /// `AllocError` where the map has to grow and there is no memory for it; the pairs before are
+    /// then in, and the one at which it was refused is dropped.
+    pub fn extend<I: IntoIterator<Item = (K, V)>>(&mut self, iter: I) -> Result<(), AllocError>
+    where
+        K: Drop,
+        V: Drop,
+        requires { IsFiniteIterable I.into_iter_gives I.IntoIter.can_next I.IntoIter.remaining
+            iter }
+        ensures ran { ExtendsWithItems I.into_iter_gives I.IntoIter.next_gives
+            (λ old pairs new. IsMapOf K.eq (old.entries ++ pairs) new.entries)
+            iter self.old self.new result }
+        ensures lists { OnOk result (ExtendsByList (⟦<I as SourceWords>⟧.lists)
+            (MeetsList I.into_iter_gives I.IntoIter.next_gives) iter self.old.entries
+            (λ all. IsMapOf K.eq all self.new.entries)) }
+        ensures ordered { IsOrdered K.cmp self.new }
+        ensures nonempty { 0 < btree_map_len self.new }
+    {
+        // `len` says that the keys ascend, also where no pair comes.
+        let _len = self.inner.len();
+        self.inner.extend(iter)
+    }
+
+    /// A map of clones, entry by entry: the same entries, where clones equal their originals.
+    ///
+    /// `AllocError` where there is no memory for it, or where a clone is refused; and, as std's map
+    /// has no law that a clone equals its original, where the clones of the keys do not ascend.
+    pub fn clone(&self) -> Result<Self, AllocError>
+    where
+        K: Clone,
+        V: Clone,
+        ensures clones { IfOk result (IsCloneOfMap K.is_clone V.is_clone self.now) }
+        ensures ordered { IfOk result (IsOrdered K.cmp) }
+        ensures nonempty { IfOk result (λ m. 0 < btree_map_len m) }
+    {
+        let inner = self.inner.clone()?;
+        // `len` says that the keys ascend.
+        let _len = inner.len();
+        Ok(NEBTreeMap { inner })
+    }
+}
+
+// Lends the values of the map inside.
+fn walk<'a, K: Ord, V>(map: &'a mut BTreeMap<K, V>) -> btree_map::IterMut<'a, K, V>
+    ensures* writes_back { sem 𝓛 (LendsValuesInside K.row V.row K.Ord map.entry result) }
+    ensures keeps { KeepsKeys map.old 0 }
+    ensures ready { IterMutCanStep result }
+    ensures rest { iter_mut_rest result ≡ map.old.entries }
+    ensures ordered { IsOrdered K.cmp map.old }
+    ensures fits { btree_map_len map.old < 2 ^ 63 }
+    ensures values_run { LendsValuesInOrder (iter_mut_rest {K = K} {X = V}) }
+{
+    map.iter_mut()
+}

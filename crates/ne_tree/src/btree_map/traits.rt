@@ -1,0 +1,141 @@
+//! What an [`NEBTreeMap`] implements: conversions, clones, equality as a map, collecting, printing.
+ghost use Rattle.std.specs.Prelude.{◌≡◌, ◌<◌, ◌↔◌, ◌++◌, ◌&&◌, IsTrue, MatchResult};
+ghost use Rattle.std.specs.BTreeMap.{IsEmpty, IsOrdered, btree_map_len};
+ghost use Rattle.std.specs.Cmp.{and_equiv, and_per, on_equiv, on_per};
+ghost use Rattle.std.specs.Cmp.Lexicographic.{lists_equiv, lists_per, pointwise};
+ghost use Rattle.ne_iter.specs.Collected.{IsMapOf};
+ghost use Rattle.ne_tree.specs.Clones.{IsCloneOfMap};
+ghost use Rattle.ne_tree.specs.SameMap.{IsSameMap};
+
+use super::NEBTreeMap;
+use ne_iter::{Error, FromNonEmptyIterator, IntoNonEmptyIterator, Singleton};
+use std::alloc::{AllocError, Global};
+use std::collections::BTreeMap;
+use std::fmt;
+use std::fmt::Debug;
+
+/// To read what only a `BTreeMap` has. It cannot be written through.
+impl<K: Ord, V> AsRef<BTreeMap<K, V>> for NEBTreeMap<K, V> {
+    fn as_ref(&self) -> &BTreeMap<K, V>
+        ensures same { result.now ≡ self.now }
+        ensures ordered { IsOrdered K.cmp self.now }
+        ensures nonempty { 0 < btree_map_len self.now }
+    {
+        // `len` says that the keys ascend.
+        let _len = self.inner.len();
+        &self.inner
+    }
+}
+
+/// Equality of maps: each key is in both or in neither, and then with equal values.
+impl<K: Ord, V: PartialEq> PartialEq for NEBTreeMap<K, V> {
+    ghost eq = { λ m n. pointwise (λ p q. K.eq p.0 q.0 && V.eq p.1 q.1) m.entries n.entries };
+
+    ghost laws = { on_per (λ m. m.entries) (lists_per
+        (and_per (on_per (λ p. p.0) K.PartialEq.laws) (on_per (λ p. p.1) V.laws))) };
+
+    fn eq(&self, other: &NEBTreeMap<K, V>) -> bool
+        ensures eq { result ≡ pointwise (λ p q. K.eq p.0 q.0 && V.eq p.1 q.1) self.now.entries
+            other.now.entries }
+        ensures same_map { IsTrue result ↔ IsSameMap K.cmp V.eq self.now other.now }
+    {
+        // `len` says that the keys ascend.
+        let _lens = (self.inner.len(), other.inner.len());
+        self.inner == other.inner
+    }
+}
+
+impl<K: Ord, V: Eq> Eq for NEBTreeMap<K, V> {
+    ghost laws = { on_equiv (λ m. m.entries) (lists_equiv
+        (and_equiv (on_equiv (λ p. p.0) K.Eq.laws) (on_equiv (λ p. p.1) V.Eq.laws))) };
+}
+
+/// The map as it is, without the promise.
+impl<K: Ord, V> From<NEBTreeMap<K, V>> for BTreeMap<K, V> {
+    ghost from_gives = { λ m n. (n ≡ m) × (0 < btree_map_len n) };
+
+    fn from(m: NEBTreeMap<K, V>) -> BTreeMap<K, V> {
+        let NEBTreeMap { inner } = m;
+        inner
+    }
+}
+
+/// The map as `try_from_map` has it, or `Error::Empty`, exactly where `map` is empty. It takes no
+/// memory; in the Rust crate the pairs are collected anew.
+impl<K: Ord + Drop, V: Drop> TryFrom<BTreeMap<K, V>> for NEBTreeMap<K, V> {
+    ghost use Rattle.std.specs.Prelude.{Result};
+
+    type Error = Error;
+
+    ghost try_from_gives = { λ map r. MatchResult r (λ m. m ≡ map) (λ _. IsEmpty map) };
+
+    fn try_from(map: BTreeMap<K, V>) -> Result<NEBTreeMap<K, V>, Error> {
+        match NEBTreeMap::try_from_map(map) {
+            Some(made) => Ok(made),
+            None => Err(Error::Empty),
+        }
+    }
+}
+
+/// By the inherent call `clone`.
+impl<K: Ord + Clone, V: Clone> Clone for NEBTreeMap<K, V> {
+    ghost is_clone = { IsCloneOfMap K.is_clone V.is_clone };
+
+    fn clone(&self) -> Result<NEBTreeMap<K, V>, AllocError> {
+        NEBTreeMap::clone(self)
+    }
+}
+
+/// Each key once, with the value of the last pair that has it; the keys ascend.
+impl<K: Ord + Drop, V: Drop> FromNonEmptyIterator<(K, V)> for NEBTreeMap<K, V> {
+    ghost use Rattle.std.specs.Prelude.{◌<◌, length};
+
+    ghost collected = { λ pairs m. IsMapOf K.eq pairs m.entries × IsOrdered K.cmp m
+        × (0 < length m.entries) };
+
+    fn from_nonempty_iter<I: IntoNonEmptyIterator<Item = (K, V)>>(
+        alloc: Global,
+        iter: I,
+    ) -> Result<NEBTreeMap<K, V>, AllocError> {
+        let inner: BTreeMap<K, V> = BTreeMap::from_nonempty_iter(alloc, iter)?;
+        Ok(NEBTreeMap { inner })
+    }
+}
+
+/// Prints as std prints a map: `{0: 10, 1: 11}`.
+impl<K: Ord + Debug, V: Debug> Debug for NEBTreeMap<K, V> {
+    fn fmt<W: fmt::Write>(&self, f: &mut fmt::Formatter<W>) -> fmt::Result {
+        self.inner.fmt(f)
+    }
+}
+
+/// One pair, and then further ones by `insert`.
+impl<K: Ord + Drop, V: Drop> Singleton for NEBTreeMap<K, V> {
+    ghost use Rattle.std.specs.Prelude.{◌<◌, length};
+
+    type Item = (K, V);
+
+    ghost collected = { λ pairs m. IsMapOf K.eq pairs m.entries × IsOrdered K.cmp m
+        × (0 < length m.entries) };
+
+    fn singleton(alloc: Global, item: (K, V)) -> Result<NEBTreeMap<K, V>, AllocError> {
+        let (k, v) = item;
+        NEBTreeMap::new(alloc, k, v)
+    }
+
+    fn extend_one(&mut self, item: (K, V)) -> Result<(), AllocError> {
+        let (k, v) = item;
+        let _old = self.insert(k, v)?;
+        Ok(())
+    }
+}
+
+/// By the inherent call `extend`.
+impl<K: Ord + Drop, V: Drop> Extend<(K, V)> for NEBTreeMap<K, V> {
+    ghost extend_gives = { λ m pairs n. IsMapOf K.eq (m.entries ++ pairs) n.entries
+        × IsOrdered K.cmp n × (0 < btree_map_len n) };
+
+    fn extend<I: IntoIterator<Item = (K, V)>>(&mut self, iter: I) -> Result<(), AllocError> {
+        NEBTreeMap::extend(self, iter)
+    }
+}

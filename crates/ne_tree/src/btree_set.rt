@@ -1,0 +1,280 @@
+//! Tree sets that hold at least one item, their walks, and what they implement.
+//!
+//! An [`NEBTreeSet`] walks in ascending order of its items. Items count as the same by their `Ord`;
+//! of several equal ones the set holds one.
+ghost use Rattle.std.specs.Prelude.{◌≡◌, ◌+◌, ◌<◌, ◌^◌, ◌↔◌, ◌++◌, [], ◌∷◌, true, false, not};
+ghost use Rattle.std.specs.Prelude.{if◌then◌else◌, is_some, length, IfOk, IsTrue, MatchOption};
+ghost use Rattle.std.specs.Prelude.{OnErr, OnOk};
+ghost use Rattle.std.specs.Bool.{OnFalse};
+ghost use Rattle.std.specs.BTreeSet.{btree_set_len, contains, difference, get, insert_key};
+ghost use Rattle.std.specs.BTreeSet.{intersection, replace_key, union, IsDifference};
+ghost use Rattle.std.specs.BTreeSet.{IsDisjoint, IsEmpty, IsIntersection, IsOrdered, IsSubset};
+ghost use Rattle.std.specs.BTreeSet.{IsUnchanged, IsUnion, Updates};
+ghost use Rattle.std.specs.Int.NonZero.{non_zero_usize_get};
+ghost use Rattle.std.specs.Iterator.{ExtendsWithItems, IsFiniteIterable};
+ghost use Rattle.std.specs.List.Sorted.{IsStrictlySortedBy};
+ghost use Rattle.std.specs.Map.Iter.{ShowsInOrder, deref};
+ghost use Rattle.std.specs.Option.{option_copied};
+ghost use Rattle.ne_iter.specs.Collected.{IsSetOf};
+ghost use Rattle.ne_iter.specs.ExtendLists.{ExtendsByList};
+ghost use Rattle.ne_iter.specs.KeyWalks.{KeyWalkShows};
+ghost use Rattle.ne_iter.specs.SourceLists.{MeetsList};
+ghost use Rattle.ne_tree.specs.Clones.{IsCloneOfSet};
+ghost use Rattle.ne_tree.specs.UnionWalks.{UnionShows};
+
+mod traits;
+mod walks;
+
+use ne_iter::iter::SourceWords;
+use std::alloc::{AllocError, Global};
+use std::collections::{BTreeSet, btree_set};
+use std::marker::Model;
+use std::num::NonZeroUsize;
+pub use walks::{IntoIter, Iter, Union};
+
+/// A tree set that holds at least one item, after std's [`BTreeSet`].
+///
+/// A contract sees it as std's record of the set: `contains T.cmp s x` tells whether an item equal
+/// to `x` is there, `s.keys` are the items in ascending order, and `IsOrdered T.cmp s` says that
+/// they ascend.
+#[derive(Drop)]
+pub struct NEBTreeSet<T: Ord> {
+    inner: BTreeSet<T>,
+}
+
+impl<T: Ord> Model for NEBTreeSet<T> {
+    ghost use Rattle.std.specs.Prelude.{◌<◌};
+    ghost use Rattle.std.specs.BTreeSet.{BTreeSet as Keys, btree_set_len};
+    ghost use Rattle.std_collections.specs.Layout.BTreeSet.{btree_set_code};
+
+    ghost Value = { Keys T };
+
+    ghost coded = { btree_set_code T.code };
+
+    ghost view = { λ s. s.inner };
+
+    ghost invariant = { λ s. 0 < btree_set_len s.inner };
+}
+
+impl<T: Ord> NEBTreeSet<T> {
+    /// The set of one item.
+    ///
+    /// `AllocError` where there is no memory for it; the item is then dropped.
+    pub fn new(alloc: Global, value: T) -> Result<Self, AllocError>
+    where
+        T: Drop,
+        ensures keys { IfOk result (λ s. s.keys ≡ value ∷ []) }
+        ensures found { IfOk result (λ s. contains T.cmp s value ≡ true) }
+        ensures ordered { IfOk result (IsOrdered T.cmp) }
+        ensures nonempty { IfOk result (λ s. 0 < btree_set_len s) }
+    {
+        let mut inner = BTreeSet::new(alloc);
+        inner.insert(value)?;
+        Ok(NEBTreeSet { inner })
+    }
+
+    /// std's walk over the items, ascending.
+    pub fn iter(&self) -> btree_set::Iter<'_, T>
+        ensures rest { result ≡ self.now.keys }
+        ensures runs { ShowsInOrder (deref {X = T}) }
+        ensures fits { btree_set_len self.now < 2 ^ 63 }
+        ensures ordered { IsOrdered T.cmp self.now }
+        ensures nonempty { 0 < btree_set_len self.now }
+    {
+        self.inner.iter()
+    }
+
+    /// The walk over the items, ascending, that knows that there is one.
+    pub fn nonempty_iter(&self) -> Iter<'_, T>
+        ensures keys { result ≡ self.now.keys }
+        ensures shows { KeyWalkShows (deref {X = T}) result self.now.keys }
+        ensures ordered { IsOrdered T.cmp self.now }
+        ensures nonempty { 0 < btree_set_len self.now }
+    {
+        Iter {
+            inner: self.inner.iter(),
+        }
+    }
+
+    /// How many items there are, at least 1.
+    pub fn len(&self) -> NonZeroUsize
+        ensures len { non_zero_usize_get result ≡ btree_set_len self.now }
+        ensures ordered { IsOrdered T.cmp self.now }
+        ensures nonempty { 0 < btree_set_len self.now }
+    {
+        match NonZeroUsize::new(self.inner.len()) {
+            Some(len) => len,
+            None => unreachable!(),
+        }
+    }
+
+    /// The set as it is, or `None`, exactly where it is empty. It takes no memory.
+    pub fn try_from_set(set: BTreeSet<T>) -> Option<Self>
+    where
+        T: Drop,
+        ensures { MatchOption result (IsEmpty set) (λ s. (s ≡ set) × IsOrdered T.cmp s
+            × (0 < btree_set_len s)) }
+    {
+        if set.is_empty() {
+            None
+        } else {
+            // `len` says that the items ascend.
+            let _len = set.len();
+            Some(NEBTreeSet { inner: set })
+        }
+    }
+
+    /// Whether there is an equal item.
+    pub fn contains(&self, value: &T) -> bool
+        ensures { result ≡ contains T.cmp self.now value.now }
+    {
+        self.inner.contains(value)
+    }
+
+    /// The items that are not in `other`, ascending. There may be none, so this is std's iterator.
+    pub fn difference<'a>(&'a self, other: &'a NEBTreeSet<T>) -> btree_set::Difference<'a, T>
+        ensures items { result ≡ difference T.cmp self.now other.now }
+        ensures members { IsDifference T.cmp self.now other.now result }
+        ensures ordered { IsStrictlySortedBy T.cmp result }
+        ensures fits { length result < 2 ^ 63 }
+        ensures runs { ShowsInOrder (deref {X = T}) }
+    {
+        self.inner.difference(&other.inner)
+    }
+
+    /// The equal item, as it is in the set, if there is one.
+    pub fn get(&self, value: &T) -> Option<&T>
+        ensures item { option_copied result ≡ get T.cmp self.now value.now }
+        ensures found { is_some result ≡ contains T.cmp self.now value.now }
+    {
+        self.inner.get(value)
+    }
+
+    /// Puts an item in, and answers whether it is new. Where an equal one is there, that one stays,
+    /// and the one that was handed in is dropped.
+    ///
+    /// `AllocError` where the set has to grow, so only for a new item, and there is no memory for
+    /// it; the items are then as they were, and the new one is dropped.
+    pub fn insert(&mut self, value: T) -> Result<bool, AllocError>
+    where
+        T: Drop,
+        ensures added { IfOk result (λ added. added ≡ not (contains T.cmp self.old value)) }
+        ensures updates { OnOk result (Updates T.cmp self.old self.new value true) }
+        ensures keys { OnOk result (self.new.keys ≡ insert_key T.cmp self.old.keys value) }
+        ensures kept { IfOk result (λ added. OnFalse added (IsUnchanged self.old self.new)) }
+        ensures len { IfOk result (λ added. btree_set_len self.new
+            ≡ btree_set_len self.old + (if added then 1 else 0)) }
+        ensures refused { OnErr result (contains T.cmp self.old value ≡ false) }
+        ensures unchanged { OnErr result (IsUnchanged self.old self.new) }
+        ensures ordered { IsOrdered T.cmp self.new }
+        ensures nonempty { 0 < btree_set_len self.new }
+    {
+        Ok(self.inner.insert(value)?)
+    }
+
+    /// The items that are in `other` too, ascending. There may be none, so this is std's iterator.
+    pub fn intersection<'a>(&'a self, other: &'a NEBTreeSet<T>) -> btree_set::Intersection<'a, T>
+        ensures items { result ≡ intersection T.cmp self.now other.now }
+        ensures members { IsIntersection T.cmp self.now other.now result }
+        ensures ordered { IsStrictlySortedBy T.cmp result }
+        ensures fits { length result < 2 ^ 63 }
+        ensures runs { ShowsInOrder (deref {X = T}) }
+    {
+        self.inner.intersection(&other.inner)
+    }
+
+    /// Whether no item is in both sets.
+    pub fn is_disjoint(&self, other: &NEBTreeSet<T>) -> bool
+        ensures { IsTrue result ↔ IsDisjoint T.cmp self.now other.now }
+    {
+        self.inner.is_disjoint(&other.inner)
+    }
+
+    /// Whether all items are in `other`.
+    pub fn is_subset(&self, other: &NEBTreeSet<T>) -> bool
+        ensures { IsTrue result ↔ IsSubset T.cmp self.now other.now }
+    {
+        self.inner.is_subset(&other.inner)
+    }
+
+    /// Whether all items of `other` are in this set.
+    pub fn is_superset(&self, other: &NEBTreeSet<T>) -> bool
+        ensures { IsTrue result ↔ IsSubset T.cmp other.now self.now }
+    {
+        self.inner.is_superset(&other.inner)
+    }
+
+    /// Puts an item in, in the place of an equal one, which comes back.
+    ///
+    /// `AllocError` where the set has to grow, so only for a new item, and there is no memory for
+    /// it; the items are then as they were, and the new one is dropped.
+    pub fn replace(&mut self, value: T) -> Result<Option<T>, AllocError>
+    where
+        T: Drop,
+        ensures old { IfOk result (λ old. old ≡ get T.cmp self.old value) }
+        ensures updates { OnOk result (Updates T.cmp self.old self.new value true) }
+        ensures keys { OnOk result (self.new.keys ≡ replace_key T.cmp self.old.keys value) }
+        ensures len { IfOk result (λ old. btree_set_len self.new
+            ≡ btree_set_len self.old + (if is_some old then 0 else 1)) }
+        ensures refused { OnErr result (contains T.cmp self.old value ≡ false) }
+        ensures unchanged { OnErr result (IsUnchanged self.old self.new) }
+        ensures ordered { IsOrdered T.cmp self.new }
+        ensures nonempty { 0 < btree_set_len self.new }
+    {
+        Ok(self.inner.replace(value)?)
+    }
+
+    /// The items of both sets, each once, ascending: at least one. Of two equal items this set's
+    /// comes.
+    pub fn union<'a>(&'a self, other: &'a NEBTreeSet<T>) -> Union<'a, T>
+        ensures items { result ≡ union T.cmp self.now other.now }
+        ensures members { IsUnion T.cmp self.now other.now result }
+        ensures shows { UnionShows result (union T.cmp self.now other.now) }
+        ensures ordered { IsStrictlySortedBy T.cmp result }
+        ensures nonempty { 0 < length result }
+    {
+        Union {
+            inner: self.inner.union(&other.inner),
+        }
+    }
+
+    /// Inserts the items, in order. One that is there stays as it is.
+    ///
+    /// `AllocError` where the set has to grow and there is no memory for it; the items before are
+    /// then in, and the one at which it was refused is dropped.
+    pub fn extend<I: IntoIterator<Item = T>>(&mut self, iter: I) -> Result<(), AllocError>
+    where
+        T: Drop,
+        requires { IsFiniteIterable I.into_iter_gives I.IntoIter.can_next I.IntoIter.remaining
+            iter }
+        ensures ran { ExtendsWithItems I.into_iter_gives I.IntoIter.next_gives
+            (λ old items new. IsSetOf T.eq (old.keys ++ items) new.keys)
+            iter self.old self.new result }
+        ensures lists { OnOk result (ExtendsByList (⟦<I as SourceWords>⟧.lists)
+            (MeetsList I.into_iter_gives I.IntoIter.next_gives) iter self.old.keys
+            (λ all. IsSetOf T.eq all self.new.keys)) }
+        ensures ordered { IsOrdered T.cmp self.new }
+        ensures nonempty { 0 < btree_set_len self.new }
+    {
+        // `len` says that the items ascend, also where no item comes.
+        let _len = self.inner.len();
+        self.inner.extend(iter)
+    }
+
+    /// A set of clones, item by item: the same items, where clones equal their originals.
+    ///
+    /// `AllocError` where there is no memory for it, or where a clone is refused; and, as std's set
+    /// has no law that a clone equals its original, where the clones do not ascend.
+    pub fn clone(&self) -> Result<Self, AllocError>
+    where
+        T: Clone,
+        ensures clones { IfOk result (IsCloneOfSet T.is_clone self.now) }
+        ensures ordered { IfOk result (IsOrdered T.cmp) }
+        ensures nonempty { IfOk result (λ s. 0 < btree_set_len s) }
+    {
+        let inner = self.inner.clone()?;
+        // `len` says that the items ascend.
+        let _len = inner.len();
+        Ok(NEBTreeSet { inner })
+    }
+}

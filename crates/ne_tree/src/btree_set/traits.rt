@@ -1,0 +1,149 @@
+//! What an [`NEBTreeSet`] implements: conversions, clones, equality as a set, collecting, printing.
+ghost use Rattle.std.specs.Prelude.{◌≡◌, ◌<◌, ◌↔◌, ◌++◌, IsTrue, MatchResult};
+ghost use Rattle.std.specs.BTreeSet.{IsEmpty, IsOrdered, IsSameSet, btree_set_len};
+ghost use Rattle.std.specs.Cmp.{on_equiv, on_per};
+ghost use Rattle.std.specs.Cmp.Lexicographic.{lists_equiv, lists_per, pointwise};
+ghost use Rattle.ne_iter.specs.Collected.{IsSetOf};
+ghost use Rattle.ne_tree.specs.Clones.{IsCloneOfSet};
+
+use super::NEBTreeSet;
+use ne_iter::{Error, FromNonEmptyIterator, IntoNonEmptyIterator, Singleton};
+use std::alloc::{AllocError, Global};
+use std::collections::{BTreeSet, btree_set};
+use std::fmt;
+use std::fmt::Debug;
+
+/// To read what only a `BTreeSet` has. It cannot be written through.
+impl<T: Ord> AsRef<BTreeSet<T>> for NEBTreeSet<T> {
+    fn as_ref(&self) -> &BTreeSet<T>
+        ensures same { result.now ≡ self.now }
+        ensures ordered { IsOrdered T.cmp self.now }
+        ensures nonempty { 0 < btree_set_len self.now }
+    {
+        // `len` says that the items ascend.
+        let _len = self.inner.len();
+        &self.inner
+    }
+}
+
+/// Equality of sets: each item of one is in the other. Both are walked once, side by side, as far
+/// as they are equal; no memory is taken.
+impl<T: Ord> PartialEq for NEBTreeSet<T> {
+    ghost eq = { λ s t. pointwise T.eq s.keys t.keys };
+
+    ghost laws = { on_per (λ s. s.keys) (lists_per T.PartialEq.laws) };
+
+    fn eq(&self, other: &NEBTreeSet<T>) -> bool
+        ensures eq { result ≡ pointwise T.eq self.now.keys other.now.keys }
+        ensures same_set { IsTrue result ↔ IsSameSet T.cmp self.now other.now }
+    {
+        equal_walks(self.inner.iter(), other.inner.iter())
+    }
+}
+
+// Whether they have equal items at all places, and end together.
+fn equal_walks<'a, T: Ord>(mine: btree_set::Iter<'a, T>, theirs: btree_set::Iter<'a, T>) -> bool
+    ensures { result ≡ pointwise T.eq mine.entry theirs.entry }
+{
+    let mut mine = mine;
+    let mut theirs = theirs;
+    while let Some(x) = mine.next() {
+        let Some(y) = theirs.next() else {
+            return false;
+        };
+        if x != y {
+            return false;
+        }
+    }
+    theirs.next().is_none()
+}
+
+impl<T: Ord> Eq for NEBTreeSet<T> {
+    ghost laws = { on_equiv (λ s. s.keys) (lists_equiv T.Eq.laws) };
+}
+
+/// Each item once; the items ascend.
+impl<T: Ord + Drop> FromNonEmptyIterator<T> for NEBTreeSet<T> {
+    ghost use Rattle.std.specs.Prelude.{◌<◌, length};
+
+    ghost collected = { λ xs s. IsSetOf T.eq xs s.keys × IsOrdered T.cmp s × (0 < length s.keys) };
+
+    fn from_nonempty_iter<I: IntoNonEmptyIterator<Item = T>>(
+        alloc: Global,
+        iter: I,
+    ) -> Result<NEBTreeSet<T>, AllocError> {
+        let inner: BTreeSet<T> = BTreeSet::from_nonempty_iter(alloc, iter)?;
+        Ok(NEBTreeSet { inner })
+    }
+}
+
+/// The set as it is, without the promise.
+impl<T: Ord> From<NEBTreeSet<T>> for BTreeSet<T> {
+    ghost from_gives = { λ s t. (t ≡ s) × (0 < btree_set_len t) };
+
+    fn from(s: NEBTreeSet<T>) -> BTreeSet<T> {
+        let NEBTreeSet { inner } = s;
+        inner
+    }
+}
+
+/// Prints as std prints a set: `{1, 2}`.
+impl<T: Ord + Debug> Debug for NEBTreeSet<T> {
+    fn fmt<W: fmt::Write>(&self, f: &mut fmt::Formatter<W>) -> fmt::Result {
+        self.inner.fmt(f)
+    }
+}
+
+/// The set as `try_from_set` has it, or `Error::Empty`, exactly where `set` is empty. It takes no
+/// memory; in the Rust crate the items are collected anew.
+impl<T: Ord + Drop> TryFrom<BTreeSet<T>> for NEBTreeSet<T> {
+    ghost use Rattle.std.specs.Prelude.{Result};
+
+    type Error = Error;
+
+    ghost try_from_gives = { λ set r. MatchResult r (λ s. s ≡ set) (λ _. IsEmpty set) };
+
+    fn try_from(set: BTreeSet<T>) -> Result<NEBTreeSet<T>, Error> {
+        match NEBTreeSet::try_from_set(set) {
+            Some(made) => Ok(made),
+            None => Err(Error::Empty),
+        }
+    }
+}
+
+/// By the inherent call `clone`.
+impl<T: Ord + Clone> Clone for NEBTreeSet<T> {
+    ghost is_clone = { IsCloneOfSet T.is_clone };
+
+    fn clone(&self) -> Result<NEBTreeSet<T>, AllocError> {
+        NEBTreeSet::clone(self)
+    }
+}
+
+/// One item, and then further ones by `insert`.
+impl<T: Ord + Drop> Singleton for NEBTreeSet<T> {
+    ghost use Rattle.std.specs.Prelude.{◌<◌, length};
+
+    type Item = T;
+
+    ghost collected = { λ xs s. IsSetOf T.eq xs s.keys × IsOrdered T.cmp s × (0 < length s.keys) };
+
+    fn singleton(alloc: Global, item: T) -> Result<NEBTreeSet<T>, AllocError> {
+        NEBTreeSet::new(alloc, item)
+    }
+
+    fn extend_one(&mut self, item: T) -> Result<(), AllocError> {
+        let _added = self.insert(item)?;
+        Ok(())
+    }
+}
+
+/// By the inherent call `extend`.
+impl<T: Ord + Drop> Extend<T> for NEBTreeSet<T> {
+    ghost extend_gives = { λ s items t. IsSetOf T.eq (s.keys ++ items) t.keys
+        × IsOrdered T.cmp t × (0 < btree_set_len t) };
+
+    fn extend<I: IntoIterator<Item = T>>(&mut self, iter: I) -> Result<(), AllocError> {
+        NEBTreeSet::extend(self, iter)
+    }
+}
