@@ -1,0 +1,5 @@
+pub mod Cloned
+pub mod Collect
+pub mod Same
+pub mod Single
+pub mod UnionShown

@@ -1,0 +1,13 @@
+use Rattle.std.proofs.Common.{rules}
+use Rattle.ne_hash.proofs.Cloned.{clone_of_map, nonempty_clone}
+use Rattle.ne_hash.proofs.map.NEMap.clone.Goals as goal
+
+pub returns-clause-clones : goal.returns-clause-clones
+returns-clause-clones g c =
+    clone_of_map g.K.Clone.is_clone g.V.Clone.is_clone c.args.self.now c.in_ok-inner.inner
+    (search rules)
+
+pub returns-clause-nonempty : goal.returns-clause-nonempty
+returns-clause-nonempty g c =
+    nonempty_clone g.K.Clone.is_clone g.V.Clone.is_clone c.args.self.now c.in_ok-inner.inner
+    (search rules) (search rules)

@@ -1,0 +1,33 @@
+use Rattle.std.specs.HashSet.{InsertsAll}
+use Rattle.ne_iter.specs.Collected.{IsSetOf}
+use Rattle.ne_iter.specs.ExtendListLaws.{extends_by_list}
+use Rattle.ne_hash.proofs.Collect.{set_of-inserts_all, nonempty_set-inserts_all}
+use Rattle.ne_hash.proofs.set.NESet.extend.Goals as goal
+
+pub invariant_of-self : goal.invariant_of-self
+invariant_of-self g c = let r = c.extend.ensures.ran in
+    nonempty_set-inserts_all g.met.T.Eq.laws c.self.inside.inner c.extend.new.self r.1 r.3
+    c.self.invariant
+
+pub returns-clause-ran : goal.returns-clause-ran
+returns-clause-ran g c = let r = c.extend.ensures.ran in
+    rw (← c.self.view_is) (
+      r.0,
+      r.1,
+      r.2,
+      set_of-inserts_all g.met.T.Eq.laws c.self.inside.inner c.extend.new.self r.1 r.3,
+      r.4,
+    )
+
+pub returns-clause-nonempty : goal.returns-clause-nonempty
+returns-clause-nonempty g c = let r = c.extend.ensures.ran in
+    nonempty_set-inserts_all g.met.T.Eq.laws c.self.inside.inner c.extend.new.self r.1 r.3
+    c.self.invariant
+
+pub returns-clause-lists : goal.returns-clause-lists
+returns-clause-lists g c =
+    let s = c.self.inside.inner in
+    let t = c.extend.new.self in
+    rw (← c.self.view_is) (extends_by_list _ _ c.args.iter (InsertsAll g.T.PartialEq.eq) s t
+    c.extend.result s.keys (λ all. IsSetOf g.T.PartialEq.eq all t.keys)
+    (λ ys made. set_of-inserts_all g.met.T.Eq.laws s t ys made) c.extend.ensures.ran)

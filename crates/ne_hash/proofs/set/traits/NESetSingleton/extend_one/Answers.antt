@@ -1,0 +1,10 @@
+use Rattle.std.proofs.Common.{rules}
+use Rattle.ne_hash.proofs.Collect.{set_of-put}
+use Rattle.ne_hash.proofs.set.traits.NESetSingleton.extend_one.Goals as goal
+
+pub returns-clause-added : goal.returns-clause-added
+returns-clause-added g c = λ xs h. (
+  set_of-put g.T.PartialEq.eq g.met.T.Eq.laws xs c.args.self.now c.insert.new.self c.args.item
+      c.insert.ensures.unique (search rules) h.0,
+  c.insert.ensures.nonempty,
+)

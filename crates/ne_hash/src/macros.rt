@@ -1,0 +1,66 @@
+//! The macros [`nem!`](crate::nem) and [`nes!`](crate::nes).
+
+/// The map of the pairs that are written out, as `nem![alloc; 1 => 'a', 2 => 'b']`: each key with
+/// the value of its last pair.
+///
+/// It is a `Result`: `AllocError` where there is no memory for the pairs, which are then dropped.
+/// The expressions are evaluated from left to right, the allocator first, and none after a refusal.
+/// They hold no `return`, `break` or `?`. Without a pair the macro does not compile.
+///
+/// ```
+/// let names = nem![alloc; 1 => 'a', 2 => 'b']?;
+/// ```
+#[macro_export]
+macro_rules! nem {
+    ($alloc:expr; $key:expr => $value:expr $(,)?) => {
+        $crate::NEMap::new($alloc, $key, $value)
+    };
+    ($alloc:expr; $key:expr => $value:expr, $($keys:expr => $values:expr),+ $(,)?) => {
+        'made: {
+            let mut map = match $crate::NEMap::new($alloc, $key, $value) {
+                Ok(map) => map,
+                Err(refused) => break 'made Err(refused),
+            };
+            $(
+                let key = $keys;
+                let value = $values;
+                if let Err(refused) = map.insert(key, value) {
+                    break 'made Err(refused);
+                }
+            )+
+            Ok(map)
+        }
+    };
+}
+
+/// The set of the items that are written out, as `nes![alloc; 3, 1, 2]`: of several equal ones it
+/// holds the first.
+///
+/// It is a `Result`: `AllocError` where there is no memory for the items, which are then dropped.
+/// The expressions are evaluated from left to right, the allocator first, and none after a refusal.
+/// They hold no `return`, `break` or `?`. Without an item the macro does not compile.
+///
+/// ```
+/// let three = nes![alloc; 3, 1, 2]?;
+/// ```
+#[macro_export]
+macro_rules! nes {
+    ($alloc:expr; $value:expr $(,)?) => {
+        $crate::NESet::new($alloc, $value)
+    };
+    ($alloc:expr; $value:expr, $($values:expr),+ $(,)?) => {
+        'made: {
+            let mut set = match $crate::NESet::new($alloc, $value) {
+                Ok(set) => set,
+                Err(refused) => break 'made Err(refused),
+            };
+            $(
+                let value = $values;
+                if let Err(refused) = set.insert(value) {
+                    break 'made Err(refused);
+                }
+            )+
+            Ok(set)
+        }
+    };
+}

@@ -1,0 +1,425 @@
+//! Hashed maps that hold at least one key, their walks, and what they implement.
+//!
+//! An [`NEMap`] finds a key by its hash, and walks in an order that is left open. Keys count as the
+//! same by their `==`; a key that is there stays as it is where an equal one is inserted.
+ghost use Rattle.std.specs.Prelude.{◌≡◌, ◌+◌, ◌<◌, ◌≤◌, ◌^◌, ◌++◌, [], ◌∷◌, false, List, None};
+ghost use Rattle.std.specs.Prelude.{if◌then◌else◌, is_some, IfOk, IfSome, IsOk, IsSome};
+ghost use Rattle.std.specs.Prelude.{MatchOption, OnErr, OnOk, Some};
+ghost use Rattle.std.specs.HashMap.{get, get_key, hash_map_len, hasher_of, keys, spare, values};
+ghost use Rattle.std.specs.HashMap.{IsEmpty, IsReordered, IsUnchanged, IsUnique, PutsEntry};
+ghost use Rattle.std.specs.HashMap.{Updates};
+ghost use Rattle.std.specs.HashMap.IterMut.{iter_mut_rest, IterMutCanStep};
+ghost use Rattle.std.specs.HashMap.Lent.{KeepsKeys};
+ghost use Rattle.std.specs.Borrow.{sem};
+ghost use Rattle.std.specs.Int.NonZero.{non_zero_usize_get};
+ghost use Rattle.std.specs.Iterator.{ExtendsWithItems, IsFiniteIterable};
+ghost use Rattle.std.specs.List.{IsAmong};
+ghost use Rattle.std.specs.Map.Iter.{LendsValuesInOrder, ShowsInOrder, ShowsValuesInOrder};
+ghost use Rattle.std.specs.Map.Iter.{deref, deref_pair};
+ghost use Rattle.std.specs.Option.{option_copied, option_copied_mut, option_map};
+ghost use Rattle.std.specs.Set.{is_member};
+ghost use Rattle.ne_iter.specs.Collected.{IsMapOf};
+ghost use Rattle.ne_iter.specs.ExtendLists.{ExtendsByList};
+ghost use Rattle.ne_iter.specs.KeyWalks.{KeyWalkShows};
+ghost use Rattle.ne_iter.specs.SourceLists.{MeetsList};
+ghost use Rattle.ne_hash.specs.Clones.{IsCloneOfMap};
+ghost use Rattle.ne_hash.specs.Lends.{LendsValue, LendsValues, std_walk};
+
+mod traits;
+mod walks;
+
+use ne_iter::iter::SourceWords;
+use std::alloc::{AllocError, Global};
+use std::collections::{HashMap, hash_map};
+use std::hash::{BuildHasher, BuildHasherDefault, FoldHasher, Hash};
+use std::marker::Model;
+use std::num::NonZeroUsize;
+pub use walks::{IntoIter, Iter, IterMut, Keys, Values};
+
+/// A hashed map that holds at least one key, after std's [`HashMap`].
+///
+/// The default hasher has a fixed seed. Where strangers choose the keys, make the map by
+/// [`with_hasher`](NEMap::with_hasher) with std's `RandomState`, and fill it by `insert` or
+/// `extend`:
+///
+/// ```
+/// let map = NEMap::with_hasher(alloc, RandomState::new(&rt)?, 1, 'a')?;
+/// ```
+///
+/// A contract sees it as std's record of the map: `get K.eq m k` is the value of the key `k`,
+/// `m.entries` are the pairs in the order of a walk, `IsUnique K.eq m` says that no two keys are
+/// equal, and `hasher_of m` is the hasher.
+///
+/// Equality, hashing and clones of keys and values are taken to be lawful where a clause says so.
+#[derive(Drop)]
+pub struct NEMap<K: Eq + Hash, V, S: BuildHasher = BuildHasherDefault<FoldHasher>> {
+    inner: HashMap<K, V, S>,
+}
+
+impl<K: Eq + Hash, V, S: BuildHasher> Model for NEMap<K, V, S> {
+    ghost use Rattle.std.specs.Prelude.{◌<◌};
+    ghost use Rattle.std.specs.HashMap.{HashMap as Entries, hash_map_len};
+    ghost use Rattle.std_collections.specs.Layout.HashMap.{hash_map_code};
+
+    ghost Value = { Entries K V S };
+
+    ghost coded = { hash_map_code K.code V.code S.code };
+
+    ghost view = { λ m. m.inner };
+
+    ghost invariant = { λ m. 0 < hash_map_len m.inner };
+}
+
+impl<K: Eq + Hash + Drop, V: Drop> NEMap<K, V> {
+    /// The map of one key, with the default hasher.
+    ///
+    /// `AllocError` where there is no memory for it; the pair is then dropped.
+    pub fn new(alloc: Global, k: K, v: V) -> Result<Self, AllocError>
+        ensures entries { IfOk result (λ m. m.entries ≡ (k, v) ∷ []) }
+        ensures value { IfOk result (λ m. get K.eq m k ≡ Some v) }
+        ensures unique { IfOk result (IsUnique K.eq) }
+        ensures nonempty { IfOk result (λ m. 0 < hash_map_len m) }
+    {
+        NEMap::with_hasher(alloc, BuildHasherDefault::new(), k, v)
+    }
+
+    /// The same, with room for at least `capacity` keys, the first among them.
+    ///
+    /// `AllocError` where there is no memory for that, or it is too much to ask for; the pair is
+    /// then dropped.
+    pub fn with_capacity(
+        alloc: Global,
+        capacity: NonZeroUsize,
+        k: K,
+        v: V,
+    ) -> Result<Self, AllocError>
+        ensures entries { IfOk result (λ m. m.entries ≡ (k, v) ∷ []) }
+        ensures value { IfOk result (λ m. get K.eq m k ≡ Some v) }
+        ensures room { IfOk result (λ m. non_zero_usize_get capacity ≤ hash_map_len m + spare m) }
+        ensures unique { IfOk result (IsUnique K.eq) }
+        ensures nonempty { IfOk result (λ m. 0 < hash_map_len m) }
+    {
+        NEMap::with_capacity_and_hasher(alloc, capacity, BuildHasherDefault::new(), k, v)
+    }
+}
+
+impl<K: Eq + Hash, V, S: BuildHasher> NEMap<K, V, S> {
+    /// The map as it is, with its hasher, or `None`, exactly where it is empty. It takes no memory.
+    pub fn try_from_map(map: HashMap<K, V, S>) -> Option<Self>
+    where
+        K: Drop,
+        V: Drop,
+        S: Drop,
+        ensures { MatchOption result (IsEmpty map) (λ m. (m ≡ map) × IsUnique K.eq m
+            × (0 < hash_map_len m)) }
+    {
+        if map.is_empty() {
+            None
+        } else {
+            // `len` says that no two keys are equal.
+            let _len = map.len();
+            Some(NEMap { inner: map })
+        }
+    }
+
+    /// How many keys the map has room for, at least as many as it holds.
+    pub fn capacity(&self) -> NonZeroUsize
+        ensures room { non_zero_usize_get result ≡ hash_map_len self.now + spare self.now }
+        ensures at_least_len { hash_map_len self.now ≤ non_zero_usize_get result }
+    {
+        match NonZeroUsize::new(self.inner.capacity()) {
+            Some(capacity) => capacity,
+            None => unreachable!(),
+        }
+    }
+
+    /// The hasher that the map was made with.
+    pub fn hasher(&self) -> &S
+        ensures { result.now ≡ hasher_of self.now }
+    {
+        self.inner.hasher()
+    }
+
+    /// std's walk over the pairs. The order is left open.
+    pub fn iter(&self) -> hash_map::Iter<'_, K, V>
+        ensures rest { result ≡ self.now.entries }
+        ensures runs { ShowsInOrder (deref_pair {K = K} {X = V}) }
+        ensures values_run { ShowsValuesInOrder (deref_pair {K = K} {X = V}) }
+        ensures fits { hash_map_len self.now < 2 ^ 63 }
+        ensures unique { IsUnique K.eq self.now }
+        ensures nonempty { 0 < hash_map_len self.now }
+    {
+        self.inner.iter()
+    }
+
+    /// std's walk over the pairs, with the values for writing. The keys stay, and so does their
+    /// number. The order is left open.
+    pub fn iter_mut(&mut self) -> hash_map::IterMut<'_, K, V>
+        ensures* writes_back { sem 𝓛 (LendsValues K.row V.row S.row S.Hasher.row K.Hash
+            S.BuildHasher S.Hasher.Hasher self.entry result) }
+        ensures keeps { KeepsKeys self.old }
+        ensures ready { IterMutCanStep result }
+        ensures rest { iter_mut_rest result ≡ self.old.entries }
+        ensures unique { IsUnique K.eq self.old }
+        ensures fits { hash_map_len self.old < 2 ^ 63 }
+        ensures values_run { LendsValuesInOrder (iter_mut_rest {K = K} {X = V}) }
+        ensures nonempty { 0 < hash_map_len self.old }
+    {
+        self.inner.iter_mut()
+    }
+
+    /// The walk over the pairs that knows that there is one. The order is left open.
+    pub fn nonempty_iter(&self) -> Iter<'_, K, V>
+        ensures entries { result ≡ self.now.entries }
+        ensures shows { KeyWalkShows (deref_pair {K = K} {X = V}) result self.now.entries }
+        ensures unique { IsUnique K.eq self.now }
+        ensures nonempty { 0 < hash_map_len self.now }
+    {
+        Iter {
+            inner: self.inner.iter(),
+        }
+    }
+
+    /// The same, with the values for writing. The keys stay, and so does their number.
+    pub fn nonempty_iter_mut(&mut self) -> IterMut<'_, K, V>
+        ensures* writes_back { sem 𝓛 (LendsValues K.row V.row S.row S.Hasher.row K.Hash
+            S.BuildHasher S.Hasher.Hasher self.entry (std_walk result)) }
+        ensures keeps { KeepsKeys self.old }
+        ensures ready { IterMutCanStep (std_walk result) }
+        ensures rest { iter_mut_rest (std_walk result) ≡ self.old.entries }
+        ensures unique { IsUnique K.eq self.old }
+        ensures fits { hash_map_len self.old < 2 ^ 63 }
+        ensures values_run { LendsValuesInOrder (iter_mut_rest {K = K} {X = V}) }
+        ensures nonempty { 0 < hash_map_len self.old }
+    {
+        IterMut {
+            inner: self.iter_mut(),
+        }
+    }
+
+    /// The keys, at least one. The order is left open; it is that of the pairs.
+    pub fn keys(&self) -> Keys<'_, K, V>
+        ensures keys { result ≡ keys self.now }
+        ensures shows { KeyWalkShows (deref {X = K}) result (keys self.now) }
+        ensures found { (q : K) → is_some (get K.eq self.now q) ≡ is_member K.eq result q }
+        ensures unique { IsUnique K.eq self.now }
+        ensures nonempty { 0 < hash_map_len self.now }
+    {
+        Keys {
+            inner: self.inner.keys(),
+        }
+    }
+
+    /// How many keys there are, at least 1.
+    pub fn len(&self) -> NonZeroUsize
+        ensures len { non_zero_usize_get result ≡ hash_map_len self.now }
+        ensures unique { IsUnique K.eq self.now }
+        ensures nonempty { 0 < hash_map_len self.now }
+    {
+        match NonZeroUsize::new(self.inner.len()) {
+            Some(len) => len,
+            None => unreachable!(),
+        }
+    }
+
+    /// Always `false`.
+    pub fn is_empty(&self) -> bool
+        ensures { result ≡ false }
+    {
+        false
+    }
+
+    /// The values, at least one. The order is left open; it is that of the pairs.
+    pub fn values(&self) -> Values<'_, K, V>
+        ensures values { result ≡ values self.now }
+        ensures shows { KeyWalkShows (deref {X = V}) result (values self.now) }
+        ensures unique { IsUnique K.eq self.now }
+        ensures nonempty { 0 < hash_map_len self.now }
+    {
+        Values {
+            inner: self.inner.values(),
+        }
+    }
+
+    /// Whether there is an equal key.
+    pub fn contains_key(&self, k: &K) -> bool
+        ensures { result ≡ is_some (get K.eq self.now k.now) }
+    {
+        self.inner.contains_key(k)
+    }
+
+    /// The value of the equal key, if there is one.
+    pub fn get(&self, k: &K) -> Option<&V>
+        ensures value { option_copied result ≡ get K.eq self.now k.now }
+        ensures member { IfSome result (λ v. IsAmong (values self.now) v.now) }
+    {
+        self.inner.get(k)
+    }
+
+    /// The equal key and its value, if there is one: the key as it is in the map.
+    pub fn get_key_value(&self, k: &K) -> Option<(&K, &V)>
+        ensures key { option_map (λ p. p.0.now) result ≡ get_key K.eq self.now k.now }
+        ensures value { option_map (λ p. p.1.now) result ≡ get K.eq self.now k.now }
+    {
+        self.inner.get_key_value(k)
+    }
+
+    /// The value of the equal key for writing, if there is one. The keys stay, and so do the other
+    /// values.
+    pub fn get_mut(&mut self, k: &K) -> Option<&mut V>
+        ensures* writes_back { sem 𝓛 (LendsValue K.row V.row S.row S.Hasher.row K.Hash
+            S.BuildHasher S.Hasher.Hasher self.entry k.now result) }
+        ensures value { option_copied_mut result ≡ get K.eq self.old k.now }
+        ensures unique { IsUnique K.eq self.old }
+        ensures nonempty { 0 < hash_map_len self.old }
+    {
+        self.inner.get_mut(k)
+    }
+
+    /// Puts a value at a key. Where an equal key is there, it stays, takes the value, and its old
+    /// one comes back; the key that was handed in is dropped.
+    ///
+    /// `AllocError` where the map has to grow, so only for a new key, and there is no memory for
+    /// it; the entries are then as they were, and the pair is dropped.
+    pub fn insert(&mut self, k: K, v: V) -> Result<Option<V>, AllocError>
+    where
+        K: Drop,
+        V: Drop,
+        ensures old { IfOk result (λ old. old ≡ get K.eq self.old k) }
+        ensures updates { OnOk result (Updates K.eq self.old self.new k (Some v)) }
+        ensures entries { IfOk result (PutsEntry K.eq self.old self.new k v) }
+        ensures keys_stay { IfOk result (λ old. IsSome old → keys self.new ≡ keys self.old) }
+        ensures len { IfOk result (λ old. hash_map_len self.new
+            ≡ hash_map_len self.old + (if is_some old then 0 else 1)) }
+        ensures refused { OnErr result (get K.eq self.old k ≡ None) }
+        ensures unchanged { OnErr result (IsUnchanged self.old self.new) }
+        ensures hasher { hasher_of self.new ≡ hasher_of self.old }
+        ensures unique { IsUnique K.eq self.new }
+        ensures nonempty { 0 < hash_map_len self.new }
+    {
+        Ok(self.inner.insert(k, v)?)
+    }
+
+    /// Gives back room that the map does not need. The entries stay, though the order of a walk may
+    /// change.
+    ///
+    /// Where there is no memory for the smaller room, the map keeps what it has, so this never
+    /// answers `AllocError`.
+    pub fn shrink_to_fit(&mut self) -> Result<(), AllocError>
+        ensures done { IsOk result }
+        ensures entries { IsReordered K.eq self.old self.new }
+        ensures hasher { hasher_of self.new ≡ hasher_of self.old }
+        ensures unique { IsUnique K.eq self.new }
+        ensures nonempty { 0 < hash_map_len self.new }
+    {
+        self.inner.shrink_to_fit();
+        Ok(())
+    }
+
+    /// The map of one key, with this hasher and room for at least `capacity` keys.
+    ///
+    /// `AllocError` where there is no memory for that, or it is too much to ask for; the hasher and
+    /// the pair are then dropped.
+    pub fn with_capacity_and_hasher(
+        alloc: Global,
+        capacity: NonZeroUsize,
+        hasher: S,
+        k: K,
+        v: V,
+    ) -> Result<Self, AllocError>
+    where
+        K: Drop,
+        V: Drop,
+        S: Drop,
+        ensures entries { IfOk result (λ m. m.entries ≡ (k, v) ∷ []) }
+        ensures value { IfOk result (λ m. get K.eq m k ≡ Some v) }
+        ensures hasher { IfOk result (λ m. hasher_of m ≡ hasher) }
+        ensures room { IfOk result (λ m. non_zero_usize_get capacity ≤ hash_map_len m + spare m) }
+        ensures unique { IfOk result (IsUnique K.eq) }
+        ensures nonempty { IfOk result (λ m. 0 < hash_map_len m) }
+    {
+        let inner = HashMap::with_capacity_and_hasher(alloc, capacity.get(), hasher)?;
+        of_one_key(inner, k, v)
+    }
+
+    /// The map of one key, with this hasher.
+    ///
+    /// `AllocError` where there is no memory for it; the hasher and the pair are then dropped.
+    pub fn with_hasher(alloc: Global, hasher: S, k: K, v: V) -> Result<Self, AllocError>
+    where
+        K: Drop,
+        V: Drop,
+        S: Drop,
+        ensures entries { IfOk result (λ m. m.entries ≡ (k, v) ∷ []) }
+        ensures value { IfOk result (λ m. get K.eq m k ≡ Some v) }
+        ensures hasher { IfOk result (λ m. hasher_of m ≡ hasher) }
+        ensures unique { IfOk result (IsUnique K.eq) }
+        ensures nonempty { IfOk result (λ m. 0 < hash_map_len m) }
+    {
+        of_one_key(HashMap::with_hasher(alloc, hasher), k, v)
+    }
+
+    /// Inserts the pairs, in order: a key has the value of its last pair, and a key that is there
+    /// stays as it is.
+    ///
+    /// `AllocError` where the map has to grow and there is no memory for it; the pairs before are
+    /// then in, and the one at which it was refused is dropped.
+    pub fn extend<I: IntoIterator<Item = (K, V)>>(&mut self, iter: I) -> Result<(), AllocError>
+    where
+        K: Drop,
+        V: Drop,
+        requires { IsFiniteIterable I.into_iter_gives I.IntoIter.can_next I.IntoIter.remaining
+            iter }
+        ensures ran { ExtendsWithItems I.into_iter_gives I.IntoIter.next_gives
+            (λ old pairs new. IsMapOf K.eq (old.entries ++ pairs) new.entries)
+            iter self.old self.new result }
+        ensures lists { OnOk result (ExtendsByList (⟦<I as SourceWords>⟧.lists)
+            (MeetsList I.into_iter_gives I.IntoIter.next_gives) iter self.old.entries
+            (λ all. IsMapOf K.eq all self.new.entries)) }
+        ensures unique { IsUnique K.eq self.new }
+        ensures nonempty { 0 < hash_map_len self.new }
+    {
+        // `len` says that no two keys are equal, also where no pair comes.
+        let _len = self.inner.len();
+        self.inner.extend(iter)
+    }
+
+    /// A map of clones, entry by entry: the same entries, where clones equal their originals.
+    ///
+    /// `AllocError` where there is no memory for it, or where a clone is refused; and, as std's map
+    /// has no law that a clone equals its original, where the clone of a key does not equal it or
+    /// the clone of the hasher gives it another hash.
+    pub fn clone(&self) -> Result<Self, AllocError>
+    where
+        K: Clone,
+        V: Clone,
+        S: Clone,
+        ensures clones { IfOk result (IsCloneOfMap K.is_clone V.is_clone self.now) }
+        ensures unique { IfOk result (IsUnique K.eq) }
+        ensures nonempty { IfOk result (λ m. 0 < hash_map_len m) }
+    {
+        let inner = self.inner.clone()?;
+        // `len` says that no two keys are equal.
+        let _len = inner.len();
+        Ok(NEMap { inner })
+    }
+}
+
+// The map with the one key that is put in.
+fn of_one_key<K: Eq + Hash + Drop, V: Drop, S: BuildHasher + Drop>(
+    map: HashMap<K, V, S>,
+    k: K,
+    v: V,
+) -> Result<NEMap<K, V, S>, AllocError>
+    requires { IsEmpty map }
+    ensures entries { IfOk result (λ m. m.entries ≡ (k, v) ∷ []) }
+    ensures value { IfOk result (λ m. get K.eq m k ≡ Some v) }
+    ensures hasher { IfOk result (λ m. hasher_of m ≡ hasher_of map) }
+    ensures room { IfOk result (λ m. spare map ≤ hash_map_len m + spare m) }
+    ensures unique { IfOk result (IsUnique K.eq) }
+    ensures nonempty { IfOk result (λ m. 0 < hash_map_len m) }
+{
+    let mut inner = map;
+    inner.insert(k, v)?;
+    Ok(NEMap { inner })
+}

@@ -1,0 +1,148 @@
+//! What an [`NEMap`] implements: conversions, clones, equality as a map, collecting, printing.
+ghost use Rattle.std.specs.Prelude.{◌≡◌, ◌<◌, ◌↔◌, ◌++◌, IsTrue, MatchResult};
+ghost use Rattle.std.specs.HashMap.{hash_map_eq, hash_map_len, IsEmpty, IsUnique};
+ghost use Rattle.ne_iter.specs.Collected.{IsMapOf};
+ghost use Rattle.ne_hash.specs.Clones.{IsCloneOfMap};
+ghost use Rattle.ne_hash.specs.SameMap.{IsSameMap};
+
+use super::NEMap;
+use ne_iter::{Error, FromNonEmptyIterator, IntoNonEmptyIterator, Singleton};
+use std::alloc::{AllocError, Global};
+use std::collections::HashMap;
+use std::fmt;
+use std::fmt::Debug;
+use std::hash::{BuildHasher, Hash};
+
+/// To read what only a `HashMap` has. It cannot be written through.
+impl<K: Eq + Hash, V, S: BuildHasher> AsRef<HashMap<K, V, S>> for NEMap<K, V, S> {
+    fn as_ref(&self) -> &HashMap<K, V, S>
+        ensures same { result.now ≡ self.now }
+        ensures unique { IsUnique K.eq self.now }
+        ensures nonempty { 0 < hash_map_len self.now }
+    {
+        // `len` says that no two keys are equal.
+        let _len = self.inner.len();
+        &self.inner
+    }
+}
+
+/// Equality of maps: each key is in both or in neither, and then with equal values. The order of
+/// the walks does not count.
+impl<K: Eq + Hash, V: PartialEq, S: BuildHasher> PartialEq for NEMap<K, V, S> {
+    ghost use Rattle.std.specs.HashMap.Eq.{hash_map_eq_symm, hash_map_eq_trans};
+
+    ghost eq = { hash_map_eq K.eq V.eq };
+
+    ghost laws = { let v = V.laws in record {
+      symm = hash_map_eq_symm K.eq V.eq v.symm;
+      trans = hash_map_eq_trans K.eq V.eq K.Eq.laws v.trans;
+    } };
+
+    fn eq(&self, other: &NEMap<K, V, S>) -> bool
+        ensures eq { result ≡ hash_map_eq K.eq V.eq self.now other.now }
+        ensures same_map { IsTrue result ↔ IsSameMap K.eq V.eq self.now other.now }
+    {
+        self.inner == other.inner
+    }
+}
+
+impl<K: Eq + Hash, V: Eq, S: BuildHasher> Eq for NEMap<K, V, S> {
+    ghost use Rattle.std.specs.Cmp.{equiv, partial_equiv_from_equiv};
+    ghost use Rattle.std.specs.HashMap.Eq.{hash_map_eq_refl, hash_map_eq_symm, hash_map_eq_trans};
+
+    ghost laws = { let v = V.Eq.laws in equiv (record {
+      symm = hash_map_eq_symm K.eq V.eq v.symm;
+      trans = hash_map_eq_trans K.eq V.eq K.Eq.laws (partial_equiv_from_equiv v).trans;
+    }) (hash_map_eq_refl K.eq V.eq v.refl) };
+}
+
+/// The map as it is, with its hasher, without the promise.
+impl<K: Eq + Hash, V, S: BuildHasher> From<NEMap<K, V, S>> for HashMap<K, V, S> {
+    ghost from_gives = { λ m n. (n ≡ m) × (0 < hash_map_len n) };
+
+    fn from(m: NEMap<K, V, S>) -> HashMap<K, V, S> {
+        let NEMap { inner } = m;
+        inner
+    }
+}
+
+/// The map as `try_from_map` has it, or `Error::Empty`, exactly where `map` is empty. It takes no
+/// memory and keeps the hasher; in the Rust crate the pairs are collected anew, with a default
+/// hasher.
+impl<K: Eq + Hash + Drop, V: Drop, S: BuildHasher + Drop> TryFrom<HashMap<K, V, S>>
+    for NEMap<K, V, S> {
+    ghost use Rattle.std.specs.Prelude.{Result};
+
+    type Error = Error;
+
+    ghost try_from_gives = { λ map r. MatchResult r (λ m. m ≡ map) (λ _. IsEmpty map) };
+
+    fn try_from(map: HashMap<K, V, S>) -> Result<NEMap<K, V, S>, Error> {
+        match NEMap::try_from_map(map) {
+            Some(made) => Ok(made),
+            None => Err(Error::Empty),
+        }
+    }
+}
+
+/// By the inherent call `clone`.
+impl<K: Eq + Hash + Clone, V: Clone, S: BuildHasher + Clone> Clone for NEMap<K, V, S> {
+    ghost is_clone = { IsCloneOfMap K.is_clone V.is_clone };
+
+    fn clone(&self) -> Result<NEMap<K, V, S>, AllocError> {
+        NEMap::clone(self)
+    }
+}
+
+/// Each key once, with the value of the last pair that has it.
+impl<K: Eq + Hash + Drop, V: Drop, S: BuildHasher + Default + Drop> FromNonEmptyIterator<(K, V)>
+    for NEMap<K, V, S> {
+    ghost use Rattle.std.specs.Prelude.{◌<◌, length};
+
+    ghost collected = { λ pairs m. IsMapOf K.eq pairs m.entries × (0 < length m.entries) };
+
+    fn from_nonempty_iter<I: IntoNonEmptyIterator<Item = (K, V)>>(
+        alloc: Global,
+        iter: I,
+    ) -> Result<NEMap<K, V, S>, AllocError> {
+        let inner: HashMap<K, V, S> = HashMap::from_nonempty_iter(alloc, iter)?;
+        Ok(NEMap { inner })
+    }
+}
+
+/// Prints as std prints a map: `{0: 10}`.
+impl<K: Eq + Hash + Debug, V: Debug, S: BuildHasher> Debug for NEMap<K, V, S> {
+    fn fmt<W: fmt::Write>(&self, f: &mut fmt::Formatter<W>) -> fmt::Result {
+        self.inner.fmt(f)
+    }
+}
+
+/// One pair, and then further ones by `insert`.
+impl<K: Eq + Hash + Drop, V: Drop> Singleton for NEMap<K, V> {
+    ghost use Rattle.std.specs.Prelude.{◌<◌, length};
+
+    type Item = (K, V);
+
+    ghost collected = { λ pairs m. IsMapOf K.eq pairs m.entries × (0 < length m.entries) };
+
+    fn singleton(alloc: Global, item: (K, V)) -> Result<NEMap<K, V>, AllocError> {
+        let (k, v) = item;
+        NEMap::new(alloc, k, v)
+    }
+
+    fn extend_one(&mut self, item: (K, V)) -> Result<(), AllocError> {
+        let (k, v) = item;
+        let _old = self.insert(k, v)?;
+        Ok(())
+    }
+}
+
+/// By the inherent call `extend`.
+impl<K: Eq + Hash + Drop, V: Drop, S: BuildHasher> Extend<(K, V)> for NEMap<K, V, S> {
+    ghost extend_gives = { λ m pairs n. IsMapOf K.eq (m.entries ++ pairs) n.entries
+        × IsUnique K.eq n × (0 < hash_map_len n) };
+
+    fn extend<I: IntoIterator<Item = (K, V)>>(&mut self, iter: I) -> Result<(), AllocError> {
+        NEMap::extend(self, iter)
+    }
+}

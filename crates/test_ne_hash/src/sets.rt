@@ -1,0 +1,157 @@
+//! Sets: what is in one, what was put in, two of them together, and their walks.
+ghost use Rattle.std.specs.Prelude.{◌≡◌, ◌<◌, ◌≤◌, ◌↔◌, ◌++◌, ◌/◌, true, false, map, nat_eq};
+ghost use Rattle.std.specs.Prelude.{All, Contains, IfOk, IsTrue, OnOk};
+ghost use Rattle.std.specs.HashSet.{contains, get, hash_set_len, IsDifference, IsDisjoint};
+ghost use Rattle.std.specs.HashSet.{IsIntersection, IsSameSet, IsSubset, IsUnion, IsUnique};
+ghost use Rattle.std.specs.Int.NonZero.{non_zero_usize_get};
+ghost use Rattle.ne_iter.specs.Collected.{IsSetOf};
+
+use nonempty_collections::{IntoNonEmptyIterator, NESet, NEVec, NonEmptyIterator, nes};
+use std::alloc::{AllocError, Global};
+use std::collections::HashSet;
+
+/// A set that is written out: two of its three items are equal.
+pub(crate) fn written_out(alloc: Global) -> Result<NESet<u32>, AllocError>
+    ensures has { IfOk result (λ s. contains nat_eq s 2 ≡ true) }
+    ensures lacks { IfOk result (λ s. contains nat_eq s 3 ≡ false) }
+    ensures len { IfOk result (λ s. hash_set_len s ≡ 2) }
+{
+    nes![alloc; 2, 1, 2]
+}
+
+/// What was put in is there.
+pub(crate) fn put_and_look_up(set: &mut NESet<u32>, x: u32) -> Result<bool, AllocError>
+    ensures { IfOk result (λ found. found ≡ true) }
+{
+    set.insert(x)?;
+    Ok(set.contains(&x))
+}
+
+/// Putting an item in a second time adds nothing.
+pub(crate) fn put_twice(set: &mut NESet<u32>, x: u32) -> Result<bool, AllocError>
+    ensures { IfOk result (λ added. added ≡ false) }
+{
+    set.insert(x)?;
+    set.insert(x)
+}
+
+/// What is replaced by an equal item comes back, and the item is there.
+pub(crate) fn replaced(set: &mut NESet<u32>, x: u32) -> Result<Option<u32>, AllocError>
+    ensures old { IfOk result (λ old. old ≡ get nat_eq set.old x) }
+    ensures found { OnOk result (contains nat_eq set.new x ≡ true) }
+{
+    set.replace(x)
+}
+
+/// How many items there are: never 0.
+pub(crate) fn how_many(set: &NESet<u32>) -> usize
+    ensures len { result ≡ hash_set_len set.now }
+    ensures some { 0 < result }
+{
+    set.len().get()
+}
+
+/// The items, each once.
+pub(crate) fn items_of_a_set(alloc: Global, set: &NESet<u32>) -> Result<NEVec<u32>, AllocError>
+    ensures items { IfOk result (λ v. v ≡ set.now.keys) }
+    ensures unique { IsUnique nat_eq set.now }
+{
+    set.nonempty_iter().copied().collect(alloc)
+}
+
+/// The items of a set that is handed over.
+pub(crate) fn items_by_value(alloc: Global, set: NESet<u32>) -> Result<NEVec<u32>, AllocError>
+    ensures { IfOk result (λ v. v ≡ set.keys) }
+{
+    set.into_nonempty_iter().collect(alloc)
+}
+
+/// The greatest item.
+pub(crate) fn greatest(set: &NESet<u32>) -> u32
+    ensures member { Contains set.now.keys result }
+    ensures greatest { All (λ x. x ≤ result) set.now.keys }
+{
+    set.nonempty_iter().copied().max()
+}
+
+/// The items of both sets: there always is one.
+pub(crate) fn all_of_both(
+    alloc: Global,
+    a: &NESet<u32>,
+    b: &NESet<u32>,
+) -> Result<NEVec<u32>, AllocError>
+    ensures { IfOk result (λ v. IsUnion nat_eq a.now b.now v) }
+{
+    a.union(b).copied().collect(alloc)
+}
+
+/// The items that are in both sets.
+pub(crate) fn shared(alloc: Global, a: &NESet<u32>, b: &NESet<u32>) -> Result<Vec<u32>, AllocError>
+    ensures { IfOk result (λ v. IsIntersection nat_eq a.now b.now v.items) }
+{
+    a.intersection(b).copied().collect(alloc)
+}
+
+/// The items that are in the first set alone.
+pub(crate) fn left_over(
+    alloc: Global,
+    a: &NESet<u32>,
+    b: &NESet<u32>,
+) -> Result<Vec<u32>, AllocError>
+    ensures { IfOk result (λ v. IsDifference nat_eq a.now b.now v.items) }
+{
+    a.difference(b).copied().collect(alloc)
+}
+
+/// Two sets in which each has all items of the other are equal.
+pub(crate) fn mutual(a: &NESet<u32>, b: &NESet<u32>) -> bool
+    ensures { result ≡ true → IsSubset nat_eq a.now b.now × IsSubset nat_eq b.now a.now }
+{
+    a.is_subset(b) && a.is_superset(b)
+}
+
+/// Whether they have an item in common.
+pub(crate) fn meet(a: &NESet<u32>, b: &NESet<u32>) -> bool
+    ensures { result ≡ false ↔ IsDisjoint nat_eq a.now b.now }
+{
+    !a.is_disjoint(b)
+}
+
+/// A clone has the same items.
+pub(crate) fn cloned(set: &NESet<u32>) -> Result<NESet<u32>, AllocError>
+    ensures { IfOk result (λ s. s.keys ≡ set.now.keys) }
+{
+    set.clone()
+}
+
+/// Whether they are the same set.
+pub(crate) fn same(a: &NESet<u32>, b: &NESet<u32>) -> bool
+    ensures { IsTrue result ↔ IsSameSet nat_eq a.now b.now }
+{
+    *a == *b
+}
+
+/// What is collected into a set.
+pub(crate) fn distinct_halves(alloc: Global, items: NEVec<u32>) -> Result<NESet<u32>, AllocError>
+    ensures { IfOk result (λ s. IsSetOf nat_eq (map (λ x. x / 2) items) s.keys) }
+{
+    items.into_nonempty_iter().map(|x| x / 2).collect(alloc)
+}
+
+/// Items added to a set.
+pub(crate) fn extended(set: &mut NESet<u32>, more: NEVec<u32>) -> Result<(), AllocError>
+    ensures { OnOk result (IsSetOf nat_eq (set.old.keys ++ more) set.new.keys) }
+{
+    set.extend(more)
+}
+
+/// A set, and what is left of it as std's: the same, its hasher included.
+pub(crate) fn there_and_back(set: NESet<u32>) -> NESet<u32>
+    ensures { result ≡ set }
+{
+    let inner: HashSet<u32> = HashSet::from(set);
+    match NESet::try_from_set(inner) {
+        Some(back) => back,
+        None => unreachable!(),
+    }
+}
