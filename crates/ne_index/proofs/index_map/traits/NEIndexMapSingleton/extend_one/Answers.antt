@@ -1,0 +1,10 @@
+use Rattle.std.proofs.Common.{rules}
+use Rattle.ne_index.proofs.Collect.{key_list_map-put}
+use Rattle.ne_index.proofs.index_map.traits.NEIndexMapSingleton.extend_one.Goals as goal
+
+pub returns-clause-added : goal.returns-clause-added
+returns-clause-added g c = λ xs h. (
+  key_list_map-put g.met.K.Eq.laws xs c.args.self.now c.insert.new.self
+      (c.args.item.0, c.args.item.1) c.insert.ensures.unique (search rules) (search rules) h.0,
+  c.insert.ensures.nonempty,
+)

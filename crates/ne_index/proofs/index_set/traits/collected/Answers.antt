@@ -1,0 +1,10 @@
+use Rattle.ne_iter.proofs.Collects.{collects}
+use Rattle.ne_index.proofs.Collect.{key_list_set-made}
+use Rattle.ne_index.proofs.index_set.traits.collected.Goals as goal
+
+pub returns : goal.returns
+returns g c =
+    collects g.met.I.IntoNonEmptyIterator.same_lists g.met.I.IntoNEIter.NonEmptyIterator.not_empty
+    c.args.iter c.into_nonempty_iter.result c.into_iter.result
+    c.into_nonempty_iter.ensures.into_nonempty_iter_gives c.into_iter.ensures.into_iter_gives
+    _ _ (key_list_set-made g.met.T.Eq.laws) c.collect.result c.collect.ensures.ran

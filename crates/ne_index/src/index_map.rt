@@ -1,0 +1,426 @@
+//! Index maps that hold at least one key, their walks, and what they implement.
+//!
+//! An [`NEIndexMap`] walks in the order in which its keys were put in, and each key has its place.
+//! Look-ups go by `Eq` and `Hash` of the keys, and a key that is there stays as it is, in its
+//! place, where an equal one is inserted.
+ghost use Rattle.std.specs.Prelude.{◌≡◌, ◌+◌, ◌-◌, ◌<◌, ◌≤◌, ◌^◌, ◌++◌, [], ◌∷◌, None, Some, false};
+ghost use Rattle.std.specs.Prelude.{if◌then◌else◌, is_some, slice_get, IfOk, IfSome, IsSome};
+ghost use Rattle.std.specs.Prelude.{IfNone, IsOk, MatchOption, OnErr, OnOk};
+ghost use Rattle.std.specs.Borrow.{sem};
+ghost use Rattle.std.specs.Int.NonZero.{non_zero_usize_get};
+ghost use Rattle.std.specs.Iterator.{ExtendsWithItems, IsFiniteIterable};
+ghost use Rattle.std.specs.List.{swap, IsAmong};
+ghost use Rattle.std.specs.Map.Iter.{ShowsInOrder, ShowsValuesInOrder, deref, deref_pair};
+ghost use Rattle.std.specs.Option.{option_copied, option_copied_mut, option_map};
+ghost use Rattle.std.specs.Set.{is_member};
+ghost use Rattle.indexmap.specs.IndexMap.{get, get_key, hasher_of, index_map_len, index_of, keys};
+ghost use Rattle.indexmap.specs.IndexMap.{spare, values, IsEmpty, IsReordered, IsUnchanged};
+ghost use Rattle.indexmap.specs.IndexMap.{IsUnique, Updates};
+ghost use Rattle.ne_iter.specs.ExtendLists.{ExtendsByList};
+ghost use Rattle.ne_iter.specs.KeyList.{IsKeyListMapOf};
+ghost use Rattle.ne_iter.specs.KeyWalks.{KeyWalkShows};
+ghost use Rattle.ne_iter.specs.SourceLists.{MeetsList};
+ghost use Rattle.ne_index.specs.Clones.{IsCloneOfMap};
+ghost use Rattle.ne_index.specs.Lends.{LendsValue};
+ghost use Rattle.ne_index.specs.Puts.{put_entry, put_item};
+
+mod traits;
+mod walks;
+
+use indexmap::{IndexMap, map};
+use ne_iter::iter::SourceWords;
+use std::alloc::{AllocError, Global};
+use std::hash::{BuildHasher, BuildHasherDefault, FoldHasher, Hash};
+use std::marker::Model;
+use std::num::NonZeroUsize;
+pub use walks::{IntoIter, Iter, Keys, Values};
+
+/// An index map that holds at least one key, after the crate `indexmap`'s [`IndexMap`].
+///
+/// A contract sees it as the record of the map inside: `m.entries` are the pairs in the map's
+/// order, `get K.eq m k` is the value of the key `k`, `hasher_of m` is the builder of the hashers,
+/// and `IsUnique K.eq m` says that no two keys are equal.
+///
+/// The default hasher has a fixed seed, where the Rust crate's is `RandomState`. Where strangers
+/// choose the keys, make the map by `with_hasher` with `RandomState`. Equality, hashes and clones
+/// of keys and values are taken to be lawful where a clause says so.
+#[derive(Drop)]
+pub struct NEIndexMap<K: Eq + Hash, V, S: BuildHasher = BuildHasherDefault<FoldHasher>> {
+    inner: IndexMap<K, V, S>,
+}
+
+impl<K: Eq + Hash, V, S: BuildHasher> Model for NEIndexMap<K, V, S> {
+    ghost use Rattle.std.specs.Prelude.{◌<◌};
+    ghost use Rattle.indexmap.specs.IndexMap.{IndexMap as Entries, index_map_len};
+    ghost use Rattle.indexmap.specs.Layout.{hash_map_code};
+
+    ghost Value = { Entries K V S };
+
+    ghost coded = { hash_map_code K.code V.code S.code };
+
+    ghost view = { λ m. m.inner };
+
+    ghost invariant = { λ m. 0 < index_map_len m.inner };
+}
+
+impl<K: Eq + Hash, V, S: BuildHasher> NEIndexMap<K, V, S> {
+    /// How many keys the map can hold before it has to grow: at least as many as there are.
+    pub fn capacity(&self) -> NonZeroUsize
+        ensures room { non_zero_usize_get result ≡ index_map_len self.now + spare self.now }
+        ensures at_least_len { index_map_len self.now ≤ non_zero_usize_get result }
+    {
+        NonZeroUsize::new(self.inner.capacity()).unwrap()
+    }
+
+    /// The builder of the map's hashers.
+    pub fn hasher(&self) -> &S
+        ensures { result.now ≡ hasher_of self.now }
+    {
+        self.inner.hasher()
+    }
+
+    /// The crate `indexmap`'s walk over the pairs, in the map's order.
+    pub fn iter(&self) -> map::Iter<'_, K, V>
+        ensures rest { result ≡ self.now.entries }
+        ensures runs { ShowsInOrder (deref_pair {K = K} {X = V}) }
+        ensures values_run { ShowsValuesInOrder (deref_pair {K = K} {X = V}) }
+        ensures fits { index_map_len self.now < 2 ^ 63 }
+        ensures unique { IsUnique K.eq self.now }
+        ensures nonempty { 0 < index_map_len self.now }
+    {
+        self.inner.iter()
+    }
+
+    /// The walk over the pairs, in the map's order, that knows that there is one.
+    pub fn nonempty_iter(&self) -> Iter<'_, K, V>
+        ensures entries { result ≡ self.now.entries }
+        ensures shows { KeyWalkShows (deref_pair {K = K} {X = V}) result self.now.entries }
+        ensures unique { IsUnique K.eq self.now }
+        ensures nonempty { 0 < index_map_len self.now }
+    {
+        Iter {
+            inner: self.inner.iter(),
+        }
+    }
+
+    /// The keys, in the map's order, at least one.
+    pub fn keys(&self) -> Keys<'_, K, V>
+        ensures keys { result ≡ keys self.now }
+        ensures shows { KeyWalkShows (deref {X = K}) result (keys self.now) }
+        ensures found { (q : K) → is_some (get K.eq self.now q) ≡ is_member K.eq result q }
+        ensures unique { IsUnique K.eq self.now }
+        ensures nonempty { 0 < index_map_len self.now }
+    {
+        Keys {
+            inner: self.inner.keys(),
+        }
+    }
+
+    /// How many keys there are, at least 1.
+    pub fn len(&self) -> NonZeroUsize
+        ensures len { non_zero_usize_get result ≡ index_map_len self.now }
+        ensures unique { IsUnique K.eq self.now }
+        ensures nonempty { 0 < index_map_len self.now }
+    {
+        NonZeroUsize::new(self.inner.len()).unwrap()
+    }
+
+    /// `false`: there is a key.
+    ///
+    /// It is there for code that is written for `IndexMap` too. In the Rust crate it is deprecated.
+    pub fn is_empty(&self) -> bool
+        ensures never { result ≡ false }
+        ensures nonempty { 0 < index_map_len self.now }
+    {
+        let _ = &self.inner; // the invariant is known where a field is used
+        false
+    }
+
+    /// The values, in the order of their keys, at least one.
+    pub fn values(&self) -> Values<'_, K, V>
+        ensures values { result ≡ values self.now }
+        ensures shows { KeyWalkShows (deref {X = V}) result (values self.now) }
+        ensures nonempty { 0 < index_map_len self.now }
+    {
+        Values {
+            inner: self.inner.values(),
+        }
+    }
+
+    /// The first pair.
+    pub fn first(&self) -> (&K, &V)
+        ensures { slice_get self.now.entries 0 ≡ Some (deref_pair result) }
+    {
+        self.inner.first().unwrap()
+    }
+
+    /// The last pair, which is the first one where there is no other.
+    pub fn last(&self) -> (&K, &V)
+        ensures { slice_get self.now.entries (index_map_len self.now - 1)
+            ≡ Some (deref_pair result) }
+    {
+        self.inner.last().unwrap()
+    }
+}
+
+impl<K: Eq + Hash, V> NEIndexMap<K, V> {
+    /// The map of one key.
+    ///
+    /// `AllocError` where there is no memory for it; the pair is then dropped.
+    pub fn new(alloc: Global, k: K, v: V) -> Result<Self, AllocError>
+    where
+        K: Drop,
+        V: Drop,
+        ensures entries { IfOk result (λ m. m.entries ≡ (k, v) ∷ []) }
+        ensures unique { IfOk result (IsUnique K.eq) }
+        ensures nonempty { IfOk result (λ m. 0 < index_map_len m) }
+    {
+        NEIndexMap::with_hasher(alloc, BuildHasherDefault::new(), k, v)
+    }
+
+    /// The map of one key, with room for `capacity` of them.
+    ///
+    /// `AllocError` where there is no memory for it, or where `capacity` is more than can be asked
+    /// for; the pair is then dropped.
+    pub fn with_capacity(
+        alloc: Global,
+        capacity: NonZeroUsize,
+        k: K,
+        v: V,
+    ) -> Result<NEIndexMap<K, V>, AllocError>
+    where
+        K: Drop,
+        V: Drop,
+        ensures entries { IfOk result (λ m. m.entries ≡ (k, v) ∷ []) }
+        ensures room { IfOk result (λ m. non_zero_usize_get capacity
+            ≤ index_map_len m + spare m) }
+        ensures unique { IfOk result (IsUnique K.eq) }
+        ensures nonempty { IfOk result (λ m. 0 < index_map_len m) }
+    {
+        NEIndexMap::with_capacity_and_hasher(alloc, capacity, BuildHasherDefault::new(), k, v)
+    }
+}
+
+impl<K: Eq + Hash, V, S: BuildHasher> NEIndexMap<K, V, S> {
+    /// The map as it is, with its hasher, or `None`, exactly where it is empty. It takes no memory.
+    pub fn try_from_map(map: IndexMap<K, V, S>) -> Option<Self>
+    where
+        K: Drop,
+        V: Drop,
+        S: Drop,
+        ensures { MatchOption result (IsEmpty map) (λ m. (m ≡ map) × IsUnique K.eq m
+            × (0 < index_map_len m)) }
+    {
+        if map.is_empty() {
+            None
+        } else {
+            // `len` says that the keys are unique.
+            let _len = map.len();
+            Some(NEIndexMap { inner: map })
+        }
+    }
+
+    /// Whether there is an equal key.
+    pub fn contains_key(&self, k: &K) -> bool
+        ensures { result ≡ is_some (get K.eq self.now k.now) }
+    {
+        self.inner.contains_key(k)
+    }
+
+    /// The value of the equal key, if there is one.
+    pub fn get(&self, k: &K) -> Option<&V>
+        ensures value { option_copied result ≡ get K.eq self.now k.now }
+        ensures member { IfSome result (λ v. IsAmong (values self.now) v.now) }
+    {
+        self.inner.get(k)
+    }
+
+    /// The equal key and its value, if there is one: the key as it is in the map.
+    pub fn get_key_value(&self, k: &K) -> Option<(&K, &V)>
+        ensures key { option_map (λ p. p.0.now) result ≡ get_key K.eq self.now k.now }
+        ensures value { option_map (λ p. p.1.now) result ≡ get K.eq self.now k.now }
+    {
+        self.inner.get_key_value(k)
+    }
+
+    /// The value of the equal key for writing, if there is one. The keys stay in their places, and
+    /// the other values stay.
+    pub fn get_mut(&mut self, k: &K) -> Option<&mut V>
+        ensures* writes_back { sem 𝓛 (LendsValue K.row V.row S.row S.Hasher.row K.Hash
+            S.BuildHasher S.Hasher.Hasher self.entry k.now result) }
+        ensures value { option_copied_mut result ≡ get K.eq self.old k.now }
+        ensures unique { IsUnique K.eq self.old }
+        ensures nonempty { 0 < index_map_len self.old }
+    {
+        self.inner.get_mut(k)
+    }
+
+    /// The place of the equal key, if there is one.
+    pub fn get_index_of(&self, k: &K) -> Option<usize>
+        ensures place { result ≡ index_of K.eq self.now k.now }
+        ensures found { is_some result ≡ is_some (get K.eq self.now k.now) }
+        ensures within { IfSome result (λ i. i < index_map_len self.now) }
+        ensures value { IfSome result (λ i. slice_get (values self.now) i
+            ≡ get K.eq self.now k.now) }
+        ensures unique { IsUnique K.eq self.now }
+    {
+        self.inner.get_index_of(k)
+    }
+
+    /// Puts a value at a key. Where an equal key is there, it stays in its place and takes the
+    /// value, and its old one comes back; the key that was handed in is dropped. A new key stands
+    /// last.
+    ///
+    /// `AllocError` where the map has to grow, so only for a new key, and there is no memory for
+    /// it; the entries are then as they were, and the pair is dropped.
+    pub fn insert(&mut self, k: K, v: V) -> Result<Option<V>, AllocError>
+    where
+        K: Drop,
+        V: Drop,
+        ensures old { IfOk result (λ old. old ≡ get K.eq self.old k) }
+        ensures updates { OnOk result (Updates K.eq self.old self.new k (Some v)) }
+        ensures entries { OnOk result (self.new.entries ≡ put_entry K.eq self.old.entries k v) }
+        ensures keys { OnOk result (keys self.new ≡ put_item K.eq (keys self.old) k) }
+        ensures new_last { IfOk result (λ old. IfNone old
+            (self.new.entries ≡ self.old.entries ++ (k, v) ∷ [])) }
+        ensures keys_stay { IfOk result (λ old. IsSome old → keys self.new ≡ keys self.old) }
+        ensures len { IfOk result (λ old. index_map_len self.new
+            ≡ index_map_len self.old + (if is_some old then 0 else 1)) }
+        ensures refused { OnErr result (get K.eq self.old k ≡ None) }
+        ensures unchanged { OnErr result (IsUnchanged self.old self.new) }
+        ensures hasher { hasher_of self.new ≡ hasher_of self.old }
+        ensures unique { IsUnique K.eq self.new }
+        ensures nonempty { 0 < index_map_len self.new }
+    {
+        Ok(self.inner.insert(k, v)?)
+    }
+
+    /// Gives back as much memory as it can. The map stays as it is.
+    ///
+    /// It is always `Ok`: a refusal leaves the room as it was.
+    pub fn shrink_to_fit(&mut self) -> Result<(), AllocError>
+        ensures unchanged { IsUnchanged self.old self.new }
+        ensures hasher { hasher_of self.new ≡ hasher_of self.old }
+        ensures unique { IsUnique K.eq self.new }
+        ensures nonempty { 0 < index_map_len self.new }
+        ensures succeeds { IsOk result }
+    {
+        // `len` says that the keys are unique.
+        let _len = self.inner.len();
+        self.inner.shrink_to_fit();
+        Ok(())
+    }
+
+    /// The map of one key, with room for `capacity` of them and the hashers of `hasher`.
+    ///
+    /// `AllocError` where there is no memory for it, or where `capacity` is more than can be asked
+    /// for; the pair and `hasher` are then dropped.
+    pub fn with_capacity_and_hasher(
+        alloc: Global,
+        capacity: NonZeroUsize,
+        hasher: S,
+        k: K,
+        v: V,
+    ) -> Result<NEIndexMap<K, V, S>, AllocError>
+    where
+        K: Drop,
+        V: Drop,
+        S: Drop,
+        ensures entries { IfOk result (λ m. m.entries ≡ (k, v) ∷ []) }
+        ensures hasher { IfOk result (λ m. hasher_of m ≡ hasher) }
+        ensures room { IfOk result (λ m. non_zero_usize_get capacity
+            ≤ index_map_len m + spare m) }
+        ensures unique { IfOk result (IsUnique K.eq) }
+        ensures nonempty { IfOk result (λ m. 0 < index_map_len m) }
+    {
+        let mut inner = IndexMap::with_capacity_and_hasher(alloc, capacity.get(), hasher)?;
+        inner.insert(k, v)?;
+        Ok(NEIndexMap { inner })
+    }
+
+    /// The map of one key, with the hashers of `hasher`.
+    ///
+    /// `AllocError` where there is no memory for it; the pair and `hasher` are then dropped.
+    pub fn with_hasher(
+        alloc: Global,
+        hasher: S,
+        k: K,
+        v: V,
+    ) -> Result<NEIndexMap<K, V, S>, AllocError>
+    where
+        K: Drop,
+        V: Drop,
+        S: Drop,
+        ensures entries { IfOk result (λ m. m.entries ≡ (k, v) ∷ []) }
+        ensures hasher { IfOk result (λ m. hasher_of m ≡ hasher) }
+        ensures unique { IfOk result (IsUnique K.eq) }
+        ensures nonempty { IfOk result (λ m. 0 < index_map_len m) }
+    {
+        let mut inner = IndexMap::with_hasher(alloc, hasher);
+        inner.insert(k, v)?;
+        Ok(NEIndexMap { inner })
+    }
+
+    /// Exchanges the pairs at two places. All others stay where they are.
+    ///
+    /// Both places have to be below `len`; in the Rust crate others panic.
+    pub fn swap_indices(&mut self, a: usize, b: usize)
+        requires a { a < index_map_len self.old }
+        requires b { b < index_map_len self.old }
+        ensures entries { self.new.entries ≡ swap self.old.entries a b }
+        ensures reordered { IsReordered K.eq self.old self.new }
+        ensures hasher { hasher_of self.new ≡ hasher_of self.old }
+        ensures unique { IsUnique K.eq self.new }
+        ensures nonempty { 0 < index_map_len self.new }
+    {
+        self.inner.swap_indices(a, b);
+    }
+
+    /// Inserts the pairs, in order: a key has the value of its last pair. A key that is there stays
+    /// as it is, in its place, and the new ones stand behind, in the order in which they come
+    /// first.
+    ///
+    /// `AllocError` where the map has to grow and there is no memory for it; the pairs before are
+    /// then in, and the one at which it was refused is dropped.
+    pub fn extend<I: IntoIterator<Item = (K, V)>>(&mut self, iter: I) -> Result<(), AllocError>
+    where
+        K: Drop,
+        V: Drop,
+        requires { IsFiniteIterable I.into_iter_gives I.IntoIter.can_next I.IntoIter.remaining
+            iter }
+        ensures ran { ExtendsWithItems I.into_iter_gives I.IntoIter.next_gives
+            (λ old pairs new. IsKeyListMapOf K.eq (old.entries ++ pairs) new.entries
+            × (hasher_of new ≡ hasher_of old))
+            iter self.old self.new result }
+        ensures lists { OnOk result (ExtendsByList (⟦<I as SourceWords>⟧.lists)
+            (MeetsList I.into_iter_gives I.IntoIter.next_gives) iter self.old.entries
+            (λ all. IsKeyListMapOf K.eq all self.new.entries)) }
+        ensures hasher { hasher_of self.new ≡ hasher_of self.old }
+        ensures unique { IsUnique K.eq self.new }
+        ensures nonempty { 0 < index_map_len self.new }
+    {
+        // `len` says that the keys are unique, also where no pair comes.
+        let _len = self.inner.len();
+        self.inner.extend(iter)
+    }
+
+    /// A map of clones, entry by entry: the same entries, where clones equal their originals.
+    ///
+    /// `AllocError` where there is no memory for it, or where a clone is refused; and, as `Clone`
+    /// has no law that a clone equals its original, where the clone of a key does not equal it or
+    /// hashes otherwise.
+    pub fn clone(&self) -> Result<Self, AllocError>
+    where
+        K: Clone,
+        V: Clone,
+        S: Clone,
+        ensures clones { IfOk result (IsCloneOfMap K.is_clone V.is_clone self.now) }
+        ensures unique { IfOk result (IsUnique K.eq) }
+        ensures nonempty { IfOk result (λ m. 0 < index_map_len m) }
+    {
+        let inner = self.inner.clone()?;
+        // `len` says that the keys are unique.
+        let _len = inner.len();
+        Ok(NEIndexMap { inner })
+    }
+}

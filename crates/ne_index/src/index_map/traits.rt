@@ -1,0 +1,163 @@
+//! What an [`NEIndexMap`] implements: conversions, clones, equality as a map, places, collecting,
+//! printing.
+ghost use Rattle.std.specs.Prelude.{◌≡◌, ◌<◌, ◌↔◌, ◌++◌, IfOk, IsTrue, List, Some, slice_get, true};
+ghost use Rattle.std.specs.Cmp;
+ghost use Rattle.std.specs.Cmp.{partial_equiv_from_equiv};
+ghost use Rattle.std.specs.HashMap.Eq.{hash_map_eq_refl, hash_map_eq_symm, hash_map_eq_trans};
+ghost use Rattle.std.specs.Iterator.{IsFiniteIterable};
+ghost use Rattle.indexmap.specs.IndexMap.{IsUnique, hasher_of, index_map_eq, index_map_len, values};
+ghost use Rattle.ne_iter.specs.KeyList.{IsKeyListMapOf};
+ghost use Rattle.ne_index.specs.Clones.{IsCloneOfMap};
+ghost use Rattle.ne_index.specs.SameMap.{IsSameMap};
+
+use super::NEIndexMap;
+use indexmap::IndexMap;
+use ne_iter::iter::SourceWords;
+use ne_iter::{FromNonEmptyIterator, IntoNonEmptyIterator, NonEmptyIterator, Singleton};
+use std::alloc::{AllocError, Global};
+use std::fmt;
+use std::fmt::Debug;
+use std::hash::{BuildHasher, Hash};
+use std::ops::Index;
+
+/// Prints as std prints a map: `{0: 10, 1: 11}`.
+impl<K: Eq + Hash + Debug, V: Debug, S: BuildHasher> Debug for NEIndexMap<K, V, S> {
+    fn fmt<W: fmt::Write>(&self, f: &mut fmt::Formatter<W>) -> fmt::Result {
+        self.inner.fmt(f)
+    }
+}
+
+/// To read what only an `IndexMap` has. It cannot be written through.
+impl<K: Eq + Hash, V, S: BuildHasher> AsRef<IndexMap<K, V, S>> for NEIndexMap<K, V, S> {
+    fn as_ref(&self) -> &IndexMap<K, V, S>
+        ensures same { result.now ≡ self.now }
+        ensures unique { IsUnique K.eq self.now }
+        ensures nonempty { 0 < index_map_len self.now }
+    {
+        // `len` says that the keys are unique.
+        let _len = self.inner.len();
+        &self.inner
+    }
+}
+
+/// Equality of maps, in any order: each key is in both or in neither, and then with equal values.
+impl<K: Eq + Hash, V: PartialEq, S: BuildHasher> PartialEq for NEIndexMap<K, V, S> {
+    ghost eq = { index_map_eq K.eq V.eq };
+
+    ghost laws = { let v = V.laws in record {
+      symm = hash_map_eq_symm K.eq V.eq v.symm;
+      trans = hash_map_eq_trans K.eq V.eq K.Eq.laws v.trans;
+    } };
+
+    fn eq(&self, other: &NEIndexMap<K, V, S>) -> bool
+        ensures eq { result ≡ index_map_eq K.eq V.eq self.now other.now }
+        ensures same_map { IsTrue result ↔ IsSameMap K.eq V.eq self.now other.now }
+    {
+        self.inner == other.inner
+    }
+}
+
+impl<K: Eq + Hash, V: Eq, S: BuildHasher> Eq for NEIndexMap<K, V, S> {
+    ghost laws = { let v = V.Eq.laws in Cmp.equiv (record {
+      symm = hash_map_eq_symm K.eq V.eq v.symm;
+      trans = hash_map_eq_trans K.eq V.eq K.Eq.laws (partial_equiv_from_equiv v).trans;
+    }) (hash_map_eq_refl K.eq V.eq v.refl) };
+}
+
+/// The map as it is, with its hasher, without the promise.
+impl<K: Eq + Hash, V, S: BuildHasher> From<NEIndexMap<K, V, S>> for IndexMap<K, V, S> {
+    ghost from_gives = { λ m n. (n ≡ m) × (0 < index_map_len n) };
+
+    fn from(m: NEIndexMap<K, V, S>) -> IndexMap<K, V, S> {
+        let NEIndexMap { inner } = m;
+        inner
+    }
+}
+
+/// By the inherent call `clone`.
+impl<K: Eq + Hash + Clone, V: Clone, S: BuildHasher + Clone> Clone for NEIndexMap<K, V, S> {
+    ghost is_clone = { IsCloneOfMap K.is_clone V.is_clone };
+
+    fn clone(&self) -> Result<NEIndexMap<K, V, S>, AllocError> {
+        NEIndexMap::clone(self)
+    }
+}
+
+/// Each key once, in the order in which they come first, with the value of the last pair that has
+/// it.
+impl<K: Eq + Hash + Drop, V: Drop, S: BuildHasher + Default + Drop> FromNonEmptyIterator<(K, V)>
+    for NEIndexMap<K, V, S> {
+    ghost use Rattle.std.specs.Prelude.{◌<◌, length};
+
+    ghost collected = { λ pairs m. IsKeyListMapOf K.eq pairs m.entries × (0 < length m.entries) };
+
+    fn from_nonempty_iter<I: IntoNonEmptyIterator<Item = (K, V)>>(
+        alloc: Global,
+        iter: I,
+    ) -> Result<NEIndexMap<K, V, S>, AllocError> {
+        let inner = collected(alloc, iter)?;
+        Ok(NEIndexMap { inner })
+    }
+}
+
+// The same, without the promise.
+fn collected<
+    K: Eq + Hash + Drop,
+    V: Drop,
+    S: BuildHasher + Default + Drop,
+    I: IntoNonEmptyIterator<Item = (K, V)>,
+>(alloc: Global, iter: I) -> Result<IndexMap<K, V, S>, AllocError>
+    requires { (source : I.IntoNEIter) → I.into_nonempty_iter_gives iter source
+        → IsFiniteIterable I.IntoNEIter.into_iter_gives I.IntoNEIter.IntoIter.can_next
+        I.IntoNEIter.IntoIter.remaining source }
+    ensures { IfOk result (λ m. (pairs : List (K × V)) × ⟦<I as SourceWords>⟧.reads true iter pairs
+        × (IsKeyListMapOf K.eq pairs m.entries × (0 < index_map_len m))) }
+{
+    iter.into_nonempty_iter().into_iter().collect(alloc)
+}
+
+/// The value at a place, from 0 on, which has to be below `len`; in the Rust crate another panics.
+impl<K: Eq + Hash, V> Index<usize> for NEIndexMap<K, V> {
+    type Output = V;
+
+    ghost can_index = { λ m i. i < index_map_len m };
+
+    ghost index_gives = { λ m i v. slice_get (values m) i ≡ Some v };
+
+    fn index(&self, index: usize) -> &V
+        requires { index < index_map_len self.now }
+        ensures { slice_get (values self.now) index ≡ Some result.now }
+    {
+        &self.inner[index]
+    }
+}
+
+/// One pair, and then further ones by `insert`.
+impl<K: Eq + Hash + Drop, V: Drop> Singleton for NEIndexMap<K, V> {
+    ghost use Rattle.std.specs.Prelude.{◌<◌, length};
+
+    type Item = (K, V);
+
+    ghost collected = { λ pairs m. IsKeyListMapOf K.eq pairs m.entries × (0 < length m.entries) };
+
+    fn singleton(alloc: Global, item: (K, V)) -> Result<NEIndexMap<K, V>, AllocError> {
+        let (k, v) = item;
+        NEIndexMap::new(alloc, k, v)
+    }
+
+    fn extend_one(&mut self, item: (K, V)) -> Result<(), AllocError> {
+        let (k, v) = item;
+        let _old = self.insert(k, v)?;
+        Ok(())
+    }
+}
+
+/// By the inherent call `extend`.
+impl<K: Eq + Hash + Drop, V: Drop, S: BuildHasher> Extend<(K, V)> for NEIndexMap<K, V, S> {
+    ghost extend_gives = { λ m pairs n. IsKeyListMapOf K.eq (m.entries ++ pairs) n.entries
+        × (hasher_of n ≡ hasher_of m) × (0 < index_map_len n) };
+
+    fn extend<I: IntoIterator<Item = (K, V)>>(&mut self, iter: I) -> Result<(), AllocError> {
+        NEIndexMap::extend(self, iter)
+    }
+}

@@ -1,0 +1,78 @@
+//! The laws of index maps and sets. Each is the contract of a function that does nothing: a caller
+//! calls it, and then knows what it ensures.
+ghost use Rattle.std.specs.Prelude.{◌≡◌, ◌↔◌, ◌++◌, List, Ok, Result};
+ghost use Rattle.indexmap.specs.IndexMap.{IndexMap as Entries};
+ghost use Rattle.indexmap.specs.IndexSet.{IndexSet as Keys, IsSameSet};
+ghost use Rattle.ne_vec.specs.declared.Error.{Error};
+ghost use Rattle.ne_iter.specs.Collected.{IsSetOf};
+ghost use Rattle.ne_iter.specs.KeyList.{first_seen, key_list};
+ghost use Rattle.ne_index.specs.SameMap.{IsSameMap};
+
+use crate::{NEIndexMap, NEIndexSet};
+use indexmap::IndexSet;
+use ne_iter::{FromNonEmptyIterator, Singleton};
+use std::hash::{BuildHasher, Hash};
+
+/// A set that was handed out as the crate `indexmap`'s and comes back is the same set, with the
+/// same hasher, and is never refused.
+pub fn index_sets_come_back<T: Eq + Hash + Drop, S: BuildHasher + Drop>()
+    ensures { (s inner : Keys T S) (r : Result (Keys T S) Error)
+        → ⟦<IndexSet<T, S> as From<NEIndexSet<T, S>>>⟧.from_gives s inner
+        → ⟦<NEIndexSet<T, S> as TryFrom<IndexSet<T, S>>>⟧.try_from_gives inner r
+        → r ≡ Ok s }
+{}
+
+/// Equality of index maps, as `==` tells it, is symmetric and transitive, whatever that of their
+/// values is. It leaves their order aside.
+pub fn index_map_equality_is_symmetric_and_transitive<K: Eq + Hash, V: PartialEq, S: BuildHasher>()
+    ensures symmetric { (m n : Entries K V S) → IsSameMap K.eq V.eq m n → IsSameMap K.eq V.eq n m }
+    ensures transitive { (m n o : Entries K V S) → IsSameMap K.eq V.eq m n
+        → IsSameMap K.eq V.eq n o → IsSameMap K.eq V.eq m o }
+{}
+
+/// Where each value equals itself, so does each index map.
+pub fn index_map_equality_is_reflexive<K: Eq + Hash, V: Eq, S: BuildHasher>()
+    ensures { (m : Entries K V S) → IsSameMap K.eq V.eq m m }
+{}
+
+/// Equality of index sets, as `==` tells it, is reflexive, symmetric and transitive. It leaves
+/// their order aside.
+pub fn index_set_equality_is_an_equivalence<T: Eq + Hash, S: BuildHasher>()
+    ensures reflexive { (s : Keys T S) → IsSameSet T.eq s s }
+    ensures symmetric { (s t : Keys T S) → IsSameSet T.eq s t → IsSameSet T.eq t s }
+    ensures transitive { (s t u : Keys T S) → IsSameSet T.eq s t → IsSameSet T.eq t u
+        → IsSameSet T.eq s u }
+{}
+
+/// What pairs make one by one, by `singleton` and then `extend_one`, is what they make where they
+/// are collected; and two maps that the same pairs make have the same entries, in the same order.
+pub fn index_maps_one_by_one_are_collected<K: Eq + Hash + Drop, V: Drop>()
+    ensures same_word { (pairs : List (K × V)) (m : _)
+        → ⟦<NEIndexMap<K, V> as Singleton>⟧.collected pairs m
+        ↔ ⟦<NEIndexMap<K, V> as FromNonEmptyIterator<(K, V)>>⟧.collected pairs m }
+    ensures same_entries { (pairs : List (K × V))
+        (m n : _)
+        → ⟦<NEIndexMap<K, V> as Singleton>⟧.collected pairs m
+        → ⟦<NEIndexMap<K, V> as FromNonEmptyIterator<(K, V)>>⟧.collected pairs n
+        → n.entries ≡ m.entries }
+{}
+
+/// What items make one by one, by `singleton` and then `extend_one`, is what they make where they
+/// are collected; and two sets that the same items make have the same items, in the same order.
+pub fn index_sets_one_by_one_are_collected<T: Eq + Hash + Drop>()
+    ensures same_word { (items : List T) (s : _)
+        → ⟦<NEIndexSet<T> as Singleton>⟧.collected items s
+        ↔ ⟦<NEIndexSet<T> as FromNonEmptyIterator<T>>⟧.collected items s }
+    ensures same_keys { (items : List T) (s t : _)
+        → ⟦<NEIndexSet<T> as Singleton>⟧.collected items s
+        → ⟦<NEIndexSet<T> as FromNonEmptyIterator<T>>⟧.collected items t
+        → t.keys ≡ s.keys }
+{}
+
+/// A key list has each key of the list once and no other, and begins with the key list of each
+/// front of the list.
+pub fn key_lists_are_sets_in_order<K: Eq>()
+    ensures once { (xs : List K) → IsSetOf K.eq xs (key_list K.eq xs) }
+    ensures in_order { (front more : List K) → key_list K.eq (front ++ more)
+        ≡ key_list K.eq front ++ first_seen K.eq front more }
+{}

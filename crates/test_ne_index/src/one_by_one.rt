@@ -1,0 +1,40 @@
+//! Maps and sets that are made of one item, and then take another.
+ghost use Rattle.std.specs.Prelude.{◌≡◌, [], ◌∷◌, nat_eq, IfOk};
+ghost use Rattle.ne_iter.specs.KeyList.{key_list, IsKeyListMapOf};
+
+use nonempty_collections::{NEIndexMap, NEIndexSet, Singleton};
+use std::alloc::{AllocError, Global};
+
+/// What two items make, in whatever is made of one.
+pub(crate) fn two<C: Singleton + Drop>(
+    alloc: Global,
+    a: C::Item,
+    b: C::Item,
+) -> Result<C, AllocError>
+where
+    C::Item: Drop,
+    ensures { IfOk result (C.collected (a ∷ b ∷ [])) }
+{
+    let mut both: C = C::singleton(alloc, a)?;
+    both.extend_one(b)?;
+    Ok(both)
+}
+
+/// Two pairs with the same key.
+pub(crate) fn pairs(
+    alloc: Global,
+    k: u32,
+    first: u32,
+    second: u32,
+) -> Result<NEIndexMap<u32, u32>, AllocError>
+    ensures { IfOk result (λ m. IsKeyListMapOf nat_eq ((k, first) ∷ (k, second) ∷ []) m.entries) }
+{
+    two(alloc, (k, first), (k, second))
+}
+
+/// The same item twice.
+pub(crate) fn items(alloc: Global, x: u32) -> Result<NEIndexSet<u32>, AllocError>
+    ensures { IfOk result (λ s. s.keys ≡ key_list nat_eq (x ∷ x ∷ [])) }
+{
+    two(alloc, x, x)
+}

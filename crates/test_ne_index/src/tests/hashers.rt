@@ -1,0 +1,140 @@
+//! Maps and sets over a hasher of one's own, which is told from others by its number, and of keys
+//! whose equality and hash look at a part alone.
+
+use super::{is, prints};
+use indexmap::{IndexMap, IndexSet};
+use nonempty_collections::{NEIndexMap, NEIndexSet, NonEmptyIterator, neim, neis};
+use std::hash::{BuildHasher, BuildHasherDefault, FoldHasher, Hash, Hasher};
+use std::num::NonZeroUsize;
+use std::test::Fail;
+
+// Hashes as the default hasher does.
+#[derive(Clone, Copy, Drop)]
+struct Marked {
+    mark: u32,
+    hashing: BuildHasherDefault<FoldHasher>,
+}
+
+impl Marked {
+    fn new(mark: u32) -> Self {
+        Marked {
+            mark,
+            hashing: BuildHasherDefault::new(),
+        }
+    }
+}
+
+impl BuildHasher for Marked {
+    ghost use Rattle.std.specs.Hash.BuildHasherDefault.{initial_hasher};
+
+    type Hasher = FoldHasher;
+
+    ghost build_hasher = { λ s. initial_hasher s.hashing };
+
+    fn build_hasher(&self) -> FoldHasher {
+        self.hashing.build_hasher()
+    }
+}
+
+// A number with a name, of which equality and the hash look at the number alone.
+#[derive(Clone, Copy, Debug, Drop)]
+struct Named(u32, char);
+
+impl PartialEq for Named {
+    ghost use Rattle.std.specs.Ordering.{on};
+    ghost use Rattle.std.specs.Prelude.{nat_eq};
+    ghost use Rattle.std.specs.Cmp.Rules.{comparing};
+    ghost use Rattle.std.proofs.Common.{rules};
+
+    ghost eq = { on (λ x. x.0) nat_eq };
+
+    ghost laws = { Prim.search (comparing, rules) };
+
+    fn eq(&self, other: &Named) -> bool {
+        self.0 == other.0
+    }
+}
+
+impl Eq for Named {
+    ghost use Rattle.std.specs.Cmp.Rules.{comparing};
+    ghost use Rattle.std.proofs.Common.{rules};
+
+    ghost laws = { Prim.search (comparing, rules) };
+}
+
+impl Hash for Named {
+    ghost use Rattle.std.specs.Hash as fed;
+    ghost use Rattle.std.specs.Cmp.Rules.{hashing};
+    ghost use Rattle.std.proofs.Common.{rules};
+
+    ghost hash_input = { λ x. fed.u32 x.0 };
+
+    ghost respects_eq = { Prim.search (hashing, rules) };
+
+    fn hash<H: Hasher>(&self, state: &mut H) {
+        state.write_u32(self.0);
+    }
+}
+
+#[test]
+fn map_keeps_its_hasher(rt: HostRuntime) -> Result<(), Fail> {
+    let alloc = rt.alloc();
+    let four = NonZeroUsize::new(4).ok_or("zero")?;
+    let map = NEIndexMap::with_hasher(alloc, Marked::new(5), 1, 'x')?;
+    prints(alloc, &map, "{1: 'x'}")?;
+    is(map.hasher().mark, 5)?;
+    let inner: IndexMap<u32, char, Marked> = IndexMap::from(map);
+    let mut map = NEIndexMap::try_from_map(inner).ok_or("empty")?;
+    map.insert(2, 'b')?;
+    map.extend([(3, 'c')])?;
+    map.shrink_to_fit()?;
+    map.swap_indices(0, 2);
+    is(map.hasher().mark, 5)?;
+    is(map.clone()?.hasher().mark, 5)?;
+    let other = NEIndexMap::with_capacity_and_hasher(alloc, four, Marked::new(6), 1, 'x')?;
+    prints(alloc, &other, "{1: 'x'}")?;
+    is(other.hasher().mark, 6)?;
+    is(other.capacity().get() >= 4, true)?;
+    is(map == other, false)?;
+    let other = NEIndexMap::with_capacity(alloc, four, 1, 'x')?;
+    is(other.capacity().get() >= 4, true)?;
+    prints(alloc, &other, "{1: 'x'}")
+}
+
+#[test]
+fn set_keeps_its_hasher(rt: HostRuntime) -> Result<(), Fail> {
+    let alloc = rt.alloc();
+    let four = NonZeroUsize::new(4).ok_or("zero")?;
+    let mut set = NEIndexSet::with_hasher(alloc, Marked::new(5), 1)?;
+    prints(alloc, &set, "{1}")?;
+    set.extend([2, 1])?;
+    set.reserve(10)?;
+    set.replace(2)?;
+    is(set.hasher().mark, 5)?;
+    let inner: IndexSet<u32, Marked> = IndexSet::from(set);
+    let set = NEIndexSet::try_from_set(inner).ok_or("empty")?;
+    is(set.hasher().mark, 5)?;
+    is(set.clone()?.hasher().mark, 5)?;
+    let other = NEIndexSet::with_capacity_and_hasher(alloc, four, Marked::new(6), 1)?;
+    prints(alloc, &other, "{1}")?;
+    is(other.hasher().mark, 6)?;
+    is(set.union(&other).count().get(), 2)?;
+    let other = NEIndexSet::with_capacity(alloc, four, 1)?;
+    is(other.capacity().get() >= 4, true)?;
+    prints(alloc, &other, "{1}")
+}
+
+#[test]
+fn equal_by_a_part(rt: HostRuntime) -> Result<(), Fail> {
+    let alloc = rt.alloc();
+    let (a, b, c) = (Named(1, 'a'), Named(2, 'b'), Named(1, 'c'));
+    let map = neim![alloc; a => 10, b => 20, c => 30]?;
+    prints(alloc, &map, "{Named(1, 'a'): 30, Named(2, 'b'): 20}")?;
+    is(map.get_index_of(&Named(2, 'z')), Some(1))?;
+    is(map == neim![alloc; b => 20, c => 30]?, true)?;
+    let mut set = neis![alloc; a, b, c]?;
+    prints(alloc, &set, "{Named(1, 'a'), Named(2, 'b')}")?;
+    prints(alloc, &set.replace(c)?, "Some(Named(1, 'a'))")?;
+    prints(alloc, &set, "{Named(1, 'c'), Named(2, 'b')}")?;
+    is(set == neis![alloc; b, a]?, true)
+}
