@@ -1,0 +1,9 @@
+pub mod Places
+pub mod ProductFronts
+pub mod ProductLists
+pub mod ProductProgress
+pub mod ProductRuns
+pub mod ProductSteps
+pub mod Restarted
+pub mod SideRuns
+pub mod Uniques

@@ -1,0 +1,62 @@
+-- The pairs that came of a product, where no clone is refused and each equals its original.
+use Rattle.std.proofs.Common.{arith, ap, sym, append_assoc, ◌∙◌}
+use Rattle.std.proofs.lemmas.Grind.{flat_map-append}
+use Rattle.std.proofs.lemmas.List.{length-append, length-map, map-append, nil_from_length}
+use Rattle.std.specs.Prelude.{◌≡◌, Bool, true, ◌&&◌, List, [], ◌∷◌, ◌++◌, map, length, is_ok, refl}
+use Rattle.std.specs.Prelude.{Result, Ok, Err}
+use Rattle.std.specs.List.{list_all}
+use Rattle.std.specs.Result.{result_map_both}
+use Rattle.ne_vec.specs.Fronts.{AreFirst}
+use Rattle.ne_iter.specs.Collected.{values_or_first_err}
+use Rattle.ne_products.specs.Pairs.{cartesian_product, ClonedPairs}
+
+pub all_values : {T E : Type 0} (values : List T)
+    → values_or_first_err {E = E} (map Ok values) ≡ Ok values
+all_values [] = refl
+all_values (v ∷ vs) = ap (result_map_both (λ xs. v ∷ xs) (λ e. e)) (all_values vs)
+
+module _ {A B E : Type 0} (clones : A → A → Type 0) (refused : Type 0)
+    (exact : (x y : A) → clones x y → y ≡ x) (never : refused → ⊥) where
+  -- what came is a front of the pairs, and all of it is in `Ok`
+  in_ok : (ps : List (A × B)) (zs : List (Result (A × B) E)) → ClonedPairs clones refused ps zs
+      → (more : List (Result (A × B) E)) × (map Ok ps ≡ zs ++ more)
+      × (list_all is_ok zs ≡ true)
+  in_ok ps [] h = (map Ok ps, refl, refl)
+  in_ok ps (Err e ∷ zs) h = absurd (never h.1)
+  in_ok [] (Ok q ∷ zs) h = absurd h
+  in_ok (p ∷ ps) (Ok q ∷ zs) h =
+      let rest = in_ok ps zs h.2 in
+      let first = exact p.0 q.0 h.0 in
+      let second = h.1 in
+      let same : p ≡ q = ap (λ a. (a, p.1)) (sym first) ∙ ap (λ b. (q.0, b)) (sym second) in
+      let others = rest.1 in
+      (rest.0, cc, rest.2)
+
+  pub product_front : (whole : Bool) (xs us : List A) (ys : List B)
+      (zs : List (Result (A × B) E)) → AreFirst (whole && list_all is_ok zs) xs us
+      → ClonedPairs clones refused (cartesian_product us ys) zs
+      → ((whole && list_all is_ok zs) ≡ true → length zs ≡ length (cartesian_product us ys))
+      → AreFirst whole (map Ok (cartesian_product xs ys)) zs
+  product_front whole xs us ys zs front paired all =
+      let ps = cartesian_product us ys in
+      let rest = in_ok ps zs paired in
+      let later = map Ok (cartesian_product front.0 ys) in (
+        rest.0 ++ later,
+        ap (λ l. map Ok (cartesian_product l ys)) front.1
+            ∙ ap (map Ok) (flat_map-append (λ x. map (λ y. (x, y)) ys) us front.0)
+            ∙ map-append Ok ps (cartesian_product front.0 ys)
+            ∙ ap (λ l. l ++ later) rest.1 ∙ append_assoc zs rest.0 later,
+        λ w.
+            let both : (whole && list_all is_ok zs) ≡ true = rw (w, rest.2) refl in
+            let long = ap length rest.1 in
+            let none = nil_from_length rest.0
+            (omega (
+              arith,
+              long,
+              length-map {B = Result (A × B) E} ps Ok,
+              length-append zs rest.0,
+              all both,
+            )) in
+            ap (λ l. rest.0 ++ map Ok (cartesian_product l ys)) (front.2 both)
+            ∙ ap (λ l. l ++ []) none,
+      )

@@ -1,0 +1,77 @@
+-- From the lists that two sources give to the pairs that their product gives.
+use Rattle.std.proofs.Common.{inl, inr, refl}
+use Rattle.std.specs.Prelude.{List, Ok, Option, Result, map}
+use Rattle.std.specs.declared.alloc.AllocError.{AllocError}
+use Rattle.ne_vec.specs.Fronts.{Lists}
+use Rattle.ne_vec.specs.FrontLaws.{marked}
+use Rattle.ne_iter.specs.Gives.{GivesList}
+use Rattle.ne_iter.specs.SourceLists.{BecomesList}
+use Rattle.ne_iter.specs.Sources.{Reads, SameLists}
+use Rattle.ne_products.specs.Pairs.{cartesian_product, CanRefuse}
+use Rattle.ne_products.specs.Restarts.{HasExactClones, PairsListed, PairsLists, ProductGives}
+use Rattle.ne_products.proofs.ProductFronts.{all_values, product_front}
+
+module _ {U S A : Type 0} (becomes : U → S → Type 0) (steps : S → Option A → S → Type 0) where
+  pub lists_read : (u : U) (xs : List A) → Lists becomes steps u xs
+      → GivesList (Reads becomes steps) u xs
+  unfolding Lists
+  lists_read u xs lists whole ys read = lists read.it read.made whole ys read.given
+
+  becomes_read : {W R : Type 0} (meets : W → R → Type 0) (other : R → Option A → R → Type 0)
+      (makes : W → U → Type 0) → SameLists meets other makes becomes steps → (w : W) (xs : List A)
+      → BecomesList makes becomes steps w xs → GivesList (Reads meets other) w xs
+  becomes_read meets other makes same w xs lists whole ys read =
+      let there = (same w whole ys).0 read in
+      lists_read there.0 xs (lists there.0 there.1) whole ys there.2
+
+never_refused : {A J : Type 0} (clones : A → A → Type 0) (infallible : A → Type 0)
+    (certain : J → Type 0) → HasExactClones clones infallible → ((j : J) → certain j)
+    → CanRefuse infallible certain → ⊥
+never_refused clones infallible certain exact sure (inl item) = item.1 (exact.0 item.0)
+never_refused clones infallible certain exact sure (inr clone) = clone.1 (sure clone.0)
+
+module _ {U W V S R T J A B : Type 0} (becomes : U → S → Type 0) (steps : S → Option A → S → Type 0)
+    (meets : W → R → Type 0) (other : R → Option B → R → Type 0) (made : V → T → Type 0)
+    (next : T → Option (Result (A × B) AllocError) → T → Type 0) (again : Type 0)
+    (clones : A → A → Type 0) (infallible : A → Type 0) (certain : J → Type 0)
+    (u : U) (w : W) (v : V)
+    (gives : ProductGives (Reads becomes steps) (Reads meets other) again clones
+    (CanRefuse infallible certain) (Reads made next) u w v) where
+  abbrev Exact : Type 0
+  Exact = HasExactClones clones infallible × ((j : J) → certain j) × again
+
+  pairs_given : (xs : List A) (ys : List B) → GivesList (Reads becomes steps) u xs
+      → GivesList (Reads meets other) w ys → Exact
+      → Lists made next v (map Ok (cartesian_product xs ys))
+  unfolding Lists
+  pairs_given xs ys first second exact it m whole zs given =
+      let p = gives ys second exact.2 whole zs (record { it = it; made = m; given = given }) in
+      product_front clones (CanRefuse infallible certain) exact.0.1
+      (never_refused clones infallible certain exact.0 exact.1) whole xs p.items ys zs
+      (first _ p.items p.read) p.paired p.all
+
+  listed : (xs : List A) (ys : List B) → GivesList (Reads becomes steps) u xs
+      → GivesList (Reads meets other) w ys → PairsListed made next Exact v xs ys
+  listed xs ys first second exact = (
+    all_values (cartesian_product xs ys),
+    (marked v (map Ok (cartesian_product xs ys)), pairs_given xs ys first second exact),
+  )
+
+  pub pairs_lists : {X Y : Type 0} (makes : W → X → Type 0) (made' : X → Y → Type 0)
+      (next' : Y → Option B → Y → Type 0) → SameLists meets other makes made' next'
+      → PairsLists (Lists becomes steps) (Lists meets other) (BecomesList makes made' next')
+      (PairsListed made next Exact v) u w
+  pairs_lists makes made' next' same = (
+    (λ xs first. (
+      marked u xs,
+      λ ys second. (
+        marked w ys,
+        listed xs ys (lists_read becomes steps u xs first) (lists_read meets other w ys second),
+      ),
+    )),
+    λ xs ys. (
+      refl,
+      λ first second. listed xs ys (lists_read becomes steps u xs first)
+          (becomes_read made' next' meets other makes same w ys second),
+    ),
+  )

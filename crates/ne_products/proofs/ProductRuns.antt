@@ -1,0 +1,252 @@
+-- What a run of a product's iterator says of the run of its left side.
+use Rattle.std.proofs.Common.{rules, arith, subst, sym, ap, inl, inr, refl, ◌∙◌}
+use Rattle.std.proofs.lemmas.Bool.{MatchBool-at_true, MatchBool-at_false}
+use Rattle.std.proofs.lemmas.Option.{MatchOption-at_none, MatchOption-at_some, none-some}
+use Rattle.std.specs.Prelude.{◌≡◌, Bool, true, false, ◌&&◌, List, [], ◌∷◌, ◌++◌, map, length}
+use Rattle.std.specs.Prelude.{Option, Some, None, MatchOption, Result, Ok, Err, is_ok}
+use Rattle.std.specs.Iterator.{AlwaysYields, DrainsIf}
+use Rattle.std.specs.List.{list_all}
+use Rattle.ne_iter.specs.Sources.{HasFirst}
+use Rattle.ne_products.specs.Pairs.{cartesian_product, CanRefuse, ClonedPairs}
+use Rattle.ne_products.specs.Product.{left_of, right_of, row_of, restart_of, is_over, RowItem}
+use Rattle.ne_products.specs.Product.{RowEnds, GivesPair, EndsPairs, PairsNext, RefusesClone}
+use Rattle.ne_products.specs.declared.products.ProductIter.{ProductIter}
+
+both_true : (a b : Bool) → (a && b) ≡ true → (a ≡ true) × (b ≡ true)
+both_true true b e = (refl, e)
+both_true false b e = let e = e in search rules
+
+same_item : {A : Type 0} {x y : A} → Some x ≡ Some y → x ≡ y
+same_item e = search rules
+
+module _ {I J A B : Type 0} (E : Type 0) (lefts : I → Option A → I → Type 0)
+    (rights : J → Option B → J → Type 0) (clones : A → A → Type 0) (infallible : A → Type 0)
+    (copies : J → J → Type 0) (certain : J → Type 0) (whole : Bool) where
+  abbrev State : Type 0
+  State = ProductIter I J A
+
+  abbrev Next : State → Option (Result (A × B) E) → State → Type 0
+  Next = PairsNext lefts rights clones infallible copies certain
+
+  abbrev Ends : State → Type 0
+  Ends = EndsPairs lefts rights clones infallible copies certain
+
+  abbrev Pair : State → A × B → State → Type 0
+  Pair = GivesPair lefts rights clones infallible copies certain
+
+  abbrev Of : State → A → I → Type 0
+  Of = RowItem lefts rights clones infallible copies certain
+
+  abbrev Refused : Type 0
+  Refused = CanRefuse infallible certain
+
+  -- the right side gives bs and no other
+  abbrev Gives : J → List B → Type 0
+  Gives = AlwaysYields rights (λ b. b)
+
+  -- each further row gives bs
+  abbrev Ready : List B → State → Type 0
+  Ready bs s = MatchOption (restart_of s) Refused (λ c. (d : J) → copies c d → Gives d bs)
+
+  -- zs came where the left side stood at l and the pairs qs were left of the row
+  abbrev Came : List B → I → List (A × B) → List (Result (A × B) E) → Type 0
+  Came bs l qs zs = (xs : List A) × DrainsIf lefts ((whole && list_all is_ok zs) ≡ true) l xs
+      × ClonedPairs clones Refused (qs ++ cartesian_product xs bs) zs
+      × ((whole && list_all is_ok zs) ≡ true
+      → length zs ≡ length (qs ++ cartesian_product xs bs))
+
+  silent : (W : Type 0) (s : State) (zs : List (Result (A × B) E)) → is_over s ≡ true
+      → DrainsIf Next W s zs → zs ≡ []
+  silent W s [] over run = refl
+  silent W s (z ∷ zs) over (t, (j, st, rest), fin) =
+      absurd (none-some z (sym (MatchBool-at_true _ _ over st).0))
+
+  why : (bs : List B) (s : State) → Ready bs s
+      → RefusesClone lefts rights clones infallible copies certain s → Refused
+  why bs s ready (inl none) = MatchOption-at_none _ _ none ready
+  why bs s ready (inr (inl item)) = inl item
+  why bs s ready (inr (inr clone)) = inr (clone.0, clone.2)
+
+  -- a clone is refused
+  stops : (bs : List B) (s j : State) (l : I) (qs : List (A × B)) (e : E)
+      (zs : List (Result (A × B) E)) → is_over s ≡ false → Ready bs s
+      → Next s (Some (Err e)) j → DrainsIf Next (whole ≡ true) j zs → Came bs l qs (Err e ∷ zs)
+  stops bs s j l qs e zs live ready st run =
+      let refused = MatchBool-at_false _ _ live st in
+      let never : (whole && false) ≡ true → ⊥ =
+      λ w. let f = (both_true whole false w).1 in search rules in (
+        [],
+        (l, refl, λ w. absurd (never w)),
+        (silent _ j zs refused.1 run, why bs s ready refused.0),
+        λ w. absurd (never w),
+      )
+
+  -- the end, where nothing more comes
+  at_end : (s t : State) → is_over s ≡ false → s ≡ t
+      → (whole ≡ true → (u : State) × Next t None u) → (whole && true) ≡ true → Ends s
+  at_end s t live e fin w =
+      let over = fin (both_true whole true w).0 in
+      let there = subst (λ q. is_over q ≡ false) e live in
+      subst Ends (sym e) (MatchBool-at_false _ _ there over.1).0
+
+  ready_on : (bs : List B) (s t : State) → restart_of t ≡ restart_of s → Ready bs s → Ready bs t
+  ready_on bs s t same ready =
+      subst (λ o. MatchOption o Refused (λ c. (d : J) → copies c d → Gives d bs)) (sym same) ready
+
+  -- the right side has no item, though its first call is not `None`: nothing comes
+  none_came : (s : State) (zs : List (Result (A × B) E)) → is_over s ≡ false → row_of s ≡ None
+      → Ready [] s → Gives (right_of s) [] → HasFirst rights (right_of s)
+      → DrainsIf Next (whole ≡ true) s zs → Came [] (left_of s) [] zs
+  none_came s [] live at ready right has (t, e, fin) =
+      ([], (left_of s, refl, λ w. ended (at_end s t live e fin w)), tt, λ w. refl)
+    where
+      ended : Ends s → (u : I) × lefts (left_of s) None u
+      ended (inl e) = (e.0, e.2)
+      ended (inr (inl e)) = absurd (has e.2 e.5)
+      ended (inr (inr e)) = absurd (has e.5.1 e.5.4)
+  none_came s (Err e ∷ zs) live at ready right has (t, (j, st, rest), fin) =
+      stops [] s j (left_of s) [] e zs live ready st (t, rest, fin)
+  none_came s (Ok p ∷ zs) live at ready right has (t, (j, st, rest), fin) =
+      absurd (pair (MatchBool-at_false _ _ live st))
+    where
+      pair : Pair s p j → ⊥
+      pair (w, now, same, on, kept, inl g) = right p.1 (right_of j) g.1
+      pair (w, now, same, on, kept, inr g) = has g.2.1 g.2.4
+
+  module _ (y : B) (ys : List B) where
+    abbrev Behind : State → List (Result (A × B) E) → Type 0
+    Behind j zs = (x : A) (bs : List B) → is_over j ≡ false → row_of j ≡ Some x
+        → Ready (y ∷ ys) j → Gives (right_of j) bs
+        → Came (y ∷ ys) (left_of j) (map (λ b. (x, b)) bs) zs
+
+    more : (l : I) (x : A) (b : B) (qs : List (A × B)) (p : A × B) (zs : List (Result (A × B) E))
+        → clones x p.0 → p.1 ≡ b → Came (y ∷ ys) l qs zs
+        → Came (y ∷ ys) l ((x, b) ∷ qs) (Ok p ∷ zs)
+    more l x b qs p zs same next came =
+        (came.0, came.1, (same, next, came.2), λ w. omega (arith, came.3 w))
+
+    begun : (l u : I) (x : A) (zs : List (Result (A × B) E)) → lefts l (Some x) u
+        → Came (y ∷ ys) u (map (λ b. (x, b)) (y ∷ ys)) zs → Came (y ∷ ys) l [] zs
+    begun l u x zs st came =
+        (x ∷ came.0, (came.1.0, (u, st, came.1.1), came.1.2), came.2, came.3)
+
+    -- the item of a row that is held, or the first one
+    of_held : (s : State) (x w : A) (l : I) → row_of s ≡ Some x → Of s w l
+        → (w ≡ x) × (l ≡ left_of s)
+    of_held s x w l at (inl h) = (same_item (sym h.0 ∙ at), h.1)
+    of_held s x w l at (inr h) = absurd (none-some x (sym h.0 ∙ at))
+
+    first_of : (s : State) (w : A) (l : I) → row_of s ≡ None → Of s w l
+        → lefts (left_of s) (Some w) l
+    first_of s w l at (inl h) = absurd (none-some w (sym at ∙ h.0))
+    first_of s w l at (inr h) = h.1
+
+    restarted : (s : State) (l : I) (d : J) → Ready (y ∷ ys) s
+        → RowEnds lefts rights clones infallible copies certain s l d → Gives d (y ∷ ys)
+    restarted s l d ready ends = MatchOption-at_some _ _ ends.2 ends.5 ready d ends.6
+
+    -- the end, within a row
+    ends_row : (s : State) (x : A) (bs : List B) → row_of s ≡ Some x → Ready (y ∷ ys) s
+        → Gives (right_of s) bs → Ends s → ((u : I) × lefts (left_of s) None u) × (bs ≡ [])
+    ends_row s x bs at ready right (inl e) = absurd (none-some x (sym e.1 ∙ at))
+    ends_row s x [] at ready right (inr (inl e)) =
+        ((e.3, subst (λ q. lefts q None e.3) (of_held s x e.0 e.1 at e.4).1 e.6), refl)
+    ends_row s x (b ∷ bs) at ready right (inr (inl e)) = absurd (right.0 e.2 e.5)
+    ends_row s x bs at ready right (inr (inr e)) =
+        absurd ((restarted s e.0 e.1 ready e.5).0 e.4 e.7)
+
+    -- the end, before the first row
+    ends_fresh : (s : State) → row_of s ≡ None → Ready (y ∷ ys) s
+        → Gives (right_of s) (y ∷ ys) → Ends s → (u : I) × lefts (left_of s) None u
+    ends_fresh s at ready right (inl e) = (e.0, e.2)
+    ends_fresh s at ready right (inr (inl e)) = absurd (right.0 e.2 e.5)
+    ends_fresh s at ready right (inr (inr e)) =
+        absurd ((restarted s e.0 e.1 ready e.5).0 e.4 e.7)
+
+    -- a pair within a row, and one that begins a row
+    within : (s j : State) (x w : A) (bs : List B) (p : A × B) (zs : List (Result (A × B) E))
+        → Gives (right_of s) bs → rights (right_of s) (Some p.1) (right_of j)
+        → (w ≡ x) × (left_of j ≡ left_of s) → clones w p.0 → row_of j ≡ Some w
+        → is_over j ≡ false → Ready (y ∷ ys) j → Behind j zs
+        → Came (y ∷ ys) (left_of s) (map (λ b. (x, b)) bs) (Ok p ∷ zs)
+    within s j x w [] p zs none g h same now on ready ih = absurd (none p.1 (right_of j) g)
+    within s j x w (b ∷ bs) p zs some g h same now on ready ih =
+        let next = some.1 p.1 (right_of j) g in
+        more (left_of s) x b (map (λ b. (x, b)) bs) p zs (subst (λ q. clones q p.0) h.0 same)
+        next.0
+        (subst (λ q. Came (y ∷ ys) q (map (λ b. (x, b)) bs) zs) h.1
+        (ih x bs on (now ∙ ap Some h.0) ready next.1))
+
+    begins : (l : I) (j : State) (w : A) (d : J) (p : A × B) (zs : List (Result (A × B) E))
+        → Gives d (y ∷ ys) → rights d (Some p.1) (right_of j) → lefts l (Some w) (left_of j)
+        → clones w p.0 → row_of j ≡ Some w → is_over j ≡ false → Ready (y ∷ ys) j → Behind j zs
+        → Came (y ∷ ys) l [] (Ok p ∷ zs)
+    begins l j w d p zs some g st same now on ready ih =
+        let first = some.1 p.1 (right_of j) g in
+        begun l (left_of j) w (Ok p ∷ zs) st
+        (more (left_of j) w y (map (λ b. (w, b)) ys) p zs same first.0
+        (ih w ys on now ready first.1))
+
+    behind : (s j : State) (x : A) (bs : List B) (p : A × B) (zs : List (Result (A × B) E))
+        → row_of s ≡ Some x → Ready (y ∷ ys) s → Gives (right_of s) bs → Pair s p j → Behind j zs
+        → Came (y ∷ ys) (left_of s) (map (λ b. (x, b)) bs) (Ok p ∷ zs)
+    behind s j x bs p zs at ready right (w, now, same, on, kept, inl g) ih =
+        within s j x w bs p zs right g.1 (of_held s x w (left_of j) at g.0) same now on
+        (ready_on (y ∷ ys) s j kept ready) ih
+    behind s j x (b ∷ bs) p zs at ready right (w, now, same, on, kept, inr g) ih =
+        absurd (right.0 g.2.1 g.2.4)
+    behind s j x [] p zs at ready right (w, now, same, on, kept, inr g) ih =
+        begins (left_of s) j w g.1 p zs (restarted s g.0 g.1 ready g.2) g.4
+        (subst (λ q. lefts q (Some w) (left_of j)) (of_held s x g.2.0 g.0 at g.2.3).1 g.3)
+        same now on (ready_on (y ∷ ys) s j kept ready) ih
+
+    first : (s j : State) (p : A × B) (zs : List (Result (A × B) E)) → row_of s ≡ None
+        → Ready (y ∷ ys) s → Gives (right_of s) (y ∷ ys) → Pair s p j → Behind j zs
+        → Came (y ∷ ys) (left_of s) [] (Ok p ∷ zs)
+    first s j p zs at ready right (w, now, same, on, kept, inl g) ih =
+        begins (left_of s) j w (right_of s) p zs right g.1 (first_of s w (left_of j) at g.0)
+        same now on (ready_on (y ∷ ys) s j kept ready) ih
+    first s j p zs at ready right (w, now, same, on, kept, inr g) ih =
+        absurd (right.0 g.2.1 g.2.4)
+
+    in_row : (s : State) (x : A) (bs : List B) (zs : List (Result (A × B) E))
+        → is_over s ≡ false → row_of s ≡ Some x → Ready (y ∷ ys) s → Gives (right_of s) bs
+        → DrainsIf Next (whole ≡ true) s zs
+        → Came (y ∷ ys) (left_of s) (map (λ b. (x, b)) bs) zs
+    in_row s x bs [] live at ready right (t, e, fin) =
+        let ended = λ (w : (whole && true) ≡ true).
+        ends_row s x bs at ready right (at_end s t live e fin w) in (
+          [],
+          (left_of s, refl, λ w. (ended w).0),
+          tt,
+          λ w. ap (λ q. length {A = A × B} (map (λ b. (x, b)) q ++ [])) (sym (ended w).1),
+        )
+    in_row s x bs (Err e ∷ zs) live at ready right (t, (j, st, rest), fin) =
+        stops (y ∷ ys) s j (left_of s) _ e zs live ready st (t, rest, fin)
+    in_row s x bs (Ok p ∷ zs) live at ready right (t, (j, st, rest), fin) =
+        behind s j x bs p zs at ready right (MatchBool-at_false _ _ live st)
+        (λ w cs on now on_ready gives. in_row j w cs zs on now on_ready gives (t, rest, fin))
+
+    -- from before the first pair
+    some_came : (s : State) (zs : List (Result (A × B) E)) → is_over s ≡ false → row_of s ≡ None
+        → Ready (y ∷ ys) s → Gives (right_of s) (y ∷ ys) → DrainsIf Next (whole ≡ true) s zs
+        → Came (y ∷ ys) (left_of s) [] zs
+    some_came s [] live at ready right (t, e, fin) = (
+      [],
+      (left_of s, refl, λ w. ends_fresh s at ready right (at_end s t live e fin w)),
+      tt,
+      λ w. refl,
+    )
+    some_came s (Err e ∷ zs) live at ready right (t, (j, st, rest), fin) =
+        stops (y ∷ ys) s j (left_of s) [] e zs live ready st (t, rest, fin)
+    some_came s (Ok p ∷ zs) live at ready right (t, (j, st, rest), fin) =
+        first s j p zs at ready right (MatchBool-at_false _ _ live st)
+        (λ w cs on now on_ready gives. in_row j w cs zs on now on_ready gives (t, rest, fin))
+
+  pub DrainsIf-product : (bs : List B) (s : State) (zs : List (Result (A × B) E))
+      → is_over s ≡ false → row_of s ≡ None → Ready bs s → Gives (right_of s) bs
+      → HasFirst rights (right_of s) → DrainsIf Next (whole ≡ true) s zs
+      → Came bs (left_of s) [] zs
+  DrainsIf-product [] s zs live at ready right has run = none_came s zs live at ready right has run
+  DrainsIf-product (y ∷ ys) s zs live at ready right has run =
+      some_came y ys s zs live at ready right run

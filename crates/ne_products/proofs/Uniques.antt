@@ -1,0 +1,92 @@
+-- What an insertion says of the items so far, and what they say of the source's list.
+use Rattle.std.proofs.Common.{rules, ap, append-nil, append_assoc, subst, sym, true≢false, ◌∙◌}
+use Rattle.std.proofs.lemmas.List.Folds.{list_any-append}
+use Rattle.std.proofs.lemmas.Map.Keys.{IsDistinct-head, IsDistinct-tail}
+use Rattle.std.specs.Cmp.{IsEquivalence}
+use Rattle.std.specs.Iterator.{Yields}
+use Rattle.std.specs.List.{AllByRecursion, IsDistinct}
+use Rattle.std.specs.Prelude.{◌≡◌, ◌↔◌, refl, Bool, true, false, not, cond, List, [], ◌∷◌, ◌++◌}
+use Rattle.std.specs.Prelude.{◌||◌, IsTrue, Option, Some}
+use Rattle.std.specs.Set.{is_member}
+use Rattle.ne_vec.specs.Fronts.{Lists}
+use Rattle.ne_vec.specs.FrontLaws.{marked}
+use Rattle.ne_iter.specs.Gives.{GivesList}
+use Rattle.ne_iter.specs.SourceLists.{EachList}
+use Rattle.ne_iter.specs.Sources.{Reads}
+use Rattle.ne_products.specs.Unique.{TellsUnique}
+use Rattle.ne_products.proofs.ProductLists.{lists_read}
+
+pub was_there : (b n : Bool) → n ≡ not b → n ≡ false → b ≡ true
+was_there true n e f = refl
+was_there false n e f = let h = sym e ∙ f in search rules
+
+pub was_not : (b n : Bool) → n ≡ not b → n ≡ true → b ≡ false
+was_not false n e f = refl
+was_not true n e f = let h = sym e ∙ f in search rules
+
+put : (a b m : Bool) → a ≡ b → cond a true m ≡ (m || (b || false))
+put true b true e = refl
+put true b false e = rw (sym e) refl
+put false b true e = refl
+put false b false e = rw (sym e) refl
+
+yields_more : {S A : Type 0} (steps : S → Option A → S → Type 0) (xs : List A) (x : A) (s t u : S)
+    → Yields steps s xs t → steps t (Some x) u → Yields steps s (xs ++ x ∷ []) u
+yields_more steps [] x s t u run last =
+    subst (λ q. Yields steps q (x ∷ []) u) (sym run) (u, last, refl)
+yields_more steps (y ∷ xs) x s t u run last =
+    (run.0, run.1, yields_more steps xs x run.0 t u run.2 last)
+
+pub Reads-up_to : {U S A : Type 0} {becomes : U → S → Type 0} {steps : S → Option A → S → Type 0}
+    {source : U} (it : S) (xs : List A) (t : S) (x : A) (u : S) → becomes source it
+    → Yields steps it xs t → steps t (Some x) u → Reads becomes steps false source (xs ++ x ∷ [])
+Reads-up_to {steps = steps} it xs t x u made run last =
+    record {
+      it = it;
+      made = made;
+      given = (u, yields_more steps xs x it t u run last, λ w. absurd (true≢false (sym w)));
+    }
+
+module _ {K : Type 0} {eq : K → K → Bool} (laws : IsEquivalence eq) where
+  pub is_member-push : (xs : List K) (x q : K) (m : Bool) → m ≡ is_member eq xs q
+      → cond (eq x q) true m ≡ is_member eq (xs ++ x ∷ []) q
+  is_member-push xs x q m e = put (eq x q) (eq q x) m (laws.symm x q)
+      ∙ rw e (sym (list_any-append (eq q) xs (x ∷ [])))
+
+  apart : (x : K) (cs ks : List K) (k : K) → AllByRecursion (λ y. eq x y ≡ false) (cs ++ k ∷ ks)
+      → eq x k ≡ false
+  apart x [] ks k h = h.0
+  apart x (c ∷ cs) ks k h = apart x cs ks k h.1
+
+  -- where keys differ, one is not among those before it
+  absent : (before ks : List K) (k : K) → IsDistinct eq (before ++ k ∷ ks)
+      → is_member eq before k ≡ false
+  absent [] ks k d = refl
+  absent (b ∷ bs) ks k d =
+      let first : eq k b ≡ false = laws.symm k b
+      ∙ apart b bs ks k (IsDistinct-head eq b (bs ++ k ∷ ks) d) in
+      rw first (absent bs ks k (IsDistinct-tail eq b (bs ++ k ∷ ks) d))
+
+  tells_list : {U : Type 0} (reads : Bool → U → List K → Type 0) (source : U) (unique : Bool)
+      (xs : List K) → TellsUnique reads eq source unique → GivesList reads source xs
+      → IsTrue unique ↔ IsDistinct eq xs
+  tells_list reads source true xs told list =
+      let f = list true told.0 told.2 in
+      let all : xs ≡ told.0 = f.1 ∙ ap (λ l. told.0 ++ l) (f.2 refl) ∙ append-nil told.0 in
+      ((λ _. subst (IsDistinct eq) (sym all) told.1), λ _. search rules)
+  tells_list reads source false xs told list =
+      let us = told.0 in
+      let x = told.2.0 in
+      let f = list false (us ++ x ∷ []) told.2.1 in
+      let all = f.1 ∙ append_assoc us (x ∷ []) f.0 in (
+        (λ no. let no = no in search rules),
+        λ distinct. absurd (true≢false (sym told.2.2
+            ∙ absent us f.0 x (subst (IsDistinct eq) all distinct))),
+      )
+
+  pub tells_lists : {U S : Type 0} (becomes : U → S → Type 0) (steps : S → Option K → S → Type 0)
+      (source : U) (unique : Bool) → TellsUnique (Reads becomes steps) eq source unique
+      → EachList (Lists becomes steps) source (λ xs. IsTrue unique ↔ IsDistinct eq xs)
+  tells_lists becomes steps source unique told xs lists =
+      let list = lists_read becomes steps source xs lists in
+      (marked source xs, tells_list (Reads becomes steps) source unique xs told list)

@@ -1,0 +1,34 @@
+-- The pairs of a product, as lists.
+use Rattle.std.specs.Prelude.{◌≡◌, Bool, true, ◌&&◌, ⊤, List, [], ◌∷◌, map, length, is_ok}
+use Rattle.std.specs.Prelude.{Result, Ok, Err}
+use Rattle.std.specs.List.{flat_map, list_all}
+use Rattle.std.proofs.Common.{◌⊎◌}
+
+-- Each item of xs with each item of ys, a row for each item of xs: the pair of item i and item j
+-- stands at place i * length ys + j.
+abbrev pub cartesian_product : {A B : Type 0} → List A → List B → List (A × B)
+cartesian_product xs ys = flat_map (λ x. map (λ y. (x, y)) ys) xs
+
+-- Clones of some item of the left side, or of some iterator of the right side, can be refused.
+abbrev pub CanRefuse : {A J : Type 0} → (A → Type 0) → (J → Type 0) → Type 0
+CanRefuse {A} {J} infallible certain = ((x : A) × (infallible x → ⊥)) ⊎ ((j : J) × (certain j → ⊥))
+
+-- zs are the first of the pairs ps, each in `Ok` and with a clone of its first part; or they end
+-- with an `Err`, and then refused holds.
+abbrev pub ClonedPairs : {A B E : Type 0} → (A → A → Type 0) → Type 0 → List (A × B)
+    → List (Result (A × B) E) → Type 0
+ClonedPairs clones refused ps [] = ⊤
+ClonedPairs clones refused ps (Err e ∷ zs) = (zs ≡ []) × refused
+ClonedPairs clones refused [] (Ok q ∷ zs) = ⊥
+ClonedPairs clones refused (p ∷ ps) (Ok q ∷ zs) = clones p.0 q.0 × (q.1 ≡ p.1)
+    × ClonedPairs clones refused ps zs
+
+-- zs are the first of the pairs of the source's items and the items ys. What came to the end is all
+-- of them; the source had then ended too, where no clone was refused.
+pub record IsProduct {U A B E : Type 0} (reads : Bool → U → List A → Type 0)
+    (clones : A → A → Type 0) (refused : Type 0) (source : U) (ys : List B) (whole : Bool)
+    (zs : List (Result (A × B) E)) : Type 0 where
+  pub items : List A
+  pub read : reads (whole && list_all is_ok zs) source items
+  pub paired : ClonedPairs clones refused (cartesian_product items ys) zs
+  pub all : (whole && list_all is_ok zs) ≡ true → length zs ≡ length (cartesian_product items ys)

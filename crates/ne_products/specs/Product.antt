@@ -1,0 +1,123 @@
+-- The parts of a product, and what a call of its iterator does.
+use Rattle.std.proofs.Common.{◌⊎◌}
+use Rattle.std.specs.Prelude.{◌≡◌, ℕ, ◌+◌, ◌*◌, ◌≤◌, Bool, true, false, ⊤, Option, None, Some}
+use Rattle.std.specs.Prelude.{MatchOption, Result, MatchResult}
+use Rattle.std.specs.Bool.{MatchBool}
+use Rattle.std.specs.Option.{option_len}
+use Rattle.std.specs.Iterator.{Count, IsFinite, size, count_map, count_unless}
+use Rattle.ne_products.specs.declared.products.Product.{Product}
+use Rattle.ne_products.specs.declared.products.ProductIter.{ProductIter}
+
+-- the two sources of a `Product`
+abbrev pub product_first : {I J : Type 0} → Product I J → I
+product_first s = s.a
+
+abbrev pub product_second : {I J : Type 0} → Product I J → J
+product_second s = s.b
+
+-- the two iterators of a `ProductIter`, the item of this row, what the rows after the first are
+-- walked by, and whether nothing more comes
+abbrev pub left_of : {I J X : Type 0} → ProductIter I J X → I
+left_of s = s.left
+
+abbrev pub right_of : {I J X : Type 0} → ProductIter I J X → J
+right_of s = s.right
+
+abbrev pub row_of : {I J X : Type 0} → ProductIter I J X → Option X
+row_of s = s.row
+
+abbrev pub restart_of : {I J X : Type 0} → ProductIter I J X → Option J
+restart_of s = s.restart
+
+abbrev pub is_over : {I J X : Type 0} → ProductIter I J X → Bool
+is_over s = s.is_over
+
+-- A clone of c may be called, and no more items come of it than of c.
+abbrev pub Restarts : {J : Type 0} → (J → Type 0) → (J → Count) → (J → J → Type 0) → J → Type 0
+Restarts {J} can left clones c = IsFinite (left c)
+    × ((d : J) → clones c d → can d × IsFinite (left d) × (size (left d) ≤ size (left c)))
+
+-- A `ProductIter` may be called: both sides may, the right one ends, and so does each clone of it.
+abbrev pub CanPair : {I J X : Type 0} → (I → Type 0) → (J → Type 0) → (J → Count)
+    → (J → J → Type 0) → ProductIter I J X → Type 0
+CanPair can_left can_right left clones s = is_over s ≡ false
+    → can_left (left_of s) × can_right (right_of s) × IsFinite (left (right_of s))
+    × MatchOption (restart_of s) ⊤ (Restarts can_right left clones)
+
+-- how many items a row after the first has, at most
+abbrev pub row_size : {J : Type 0} → (J → Count) → Option J → ℕ
+row_size left None = 0
+row_size left (Some c) = size (left c)
+
+-- what is left of this row, a whole row for each item that the left side has left, and an `Err`
+abbrev pub pairs_left : {I J X : Type 0} → (I → Count) → (J → Count) → ProductIter I J X → Count
+pairs_left lefts rights s = count_unless (is_over s)
+    (count_map (λ n. (n + option_len (row_of s)) * row_size rights (restart_of s)
+    + size (rights (right_of s)) + 1) (lefts (left_of s)))
+
+-- A `Product` becomes a `ProductIter` that stands before both sides. Its clone of the right side is
+-- there, or was refused.
+abbrev pub MakesProduct : {U V I J X : Type 0} → (U → I → Type 0) → (V → J → Type 0)
+    → (J → J → Type 0) → (J → Type 0) → Product U V → ProductIter I J X → Type 0
+MakesProduct lefts rights clones infallible s it = lefts (product_first s) (left_of it)
+    × rights (product_second s) (right_of it)
+    × MatchOption (restart_of it) (infallible (right_of it) → ⊥) (clones (right_of it))
+    × (row_of it ≡ None) × (is_over it ≡ false)
+
+module _ {I J A B : Type 0} (lefts : I → Option A → I → Type 0)
+    (rights : J → Option B → J → Type 0) (clones : A → A → Type 0) (infallible : A → Type 0)
+    (copies : J → J → Type 0) (certain : J → Type 0) where
+  -- x is the item of this row, and l the left side then: it was held, or is drawn.
+  abbrev pub RowItem : ProductIter I J A → A → I → Type 0
+  RowItem s x l = ((row_of s ≡ Some x) × (l ≡ left_of s))
+      ⊎ ((row_of s ≡ None) × lefts (left_of s) (Some x) l)
+
+  -- The right side has ended behind the last pair of this row, and d is a clone of it, as it began.
+  abbrev pub RowEnds : ProductIter I J A → I → J → Type 0
+  RowEnds s l d = (w : A) × (j : J) × (c : J) × RowItem s w l × rights (right_of s) None j
+      × (restart_of s ≡ Some c) × copies c d
+
+  -- A pair: a clone of the item x of the row, and the next item of the right side; or x is the next
+  -- item of the left side, and the other the first item of the right side, which begins again.
+  abbrev pub GivesPair : ProductIter I J A → A × B → ProductIter I J A → Type 0
+  GivesPair s p t = (x : A) × (row_of t ≡ Some x) × clones x p.0 × (is_over t ≡ false)
+      × (restart_of t ≡ restart_of s)
+      × ((RowItem s x (left_of t) × rights (right_of s) (Some p.1) (right_of t))
+      ⊎ ((l : I) × (d : J) × RowEnds s l d × lefts l (Some x) (left_of t)
+      × rights d (Some p.1) (right_of t)))
+
+  -- The end: the left side has ended, before a row or behind one; or the right side, which began
+  -- again, has no item.
+  abbrev pub EndsPairs : ProductIter I J A → Type 0
+  EndsPairs s = ((u : I) × (row_of s ≡ None) × lefts (left_of s) None u)
+      ⊎ (((w : A) × (l : I) × (j : J) × (u : I) × RowItem s w l × rights (right_of s) None j
+      × lefts l None u)
+      ⊎ ((l : I) × (d : J) × (x : A) × (u : I) × (k : J) × RowEnds s l d × lefts l (Some x) u
+      × rights d None k))
+
+  -- A clone was refused: the one that was made beforehand, or one of an item, or of the right side.
+  abbrev pub RefusesClone : ProductIter I J A → Type 0
+  RefusesClone s = (restart_of s ≡ None) ⊎ (((x : A) × (infallible x → ⊥))
+      ⊎ ((c : J) × (restart_of s ≡ Some c) × (certain c → ⊥)))
+
+  -- One call. After the end, and after an `Err`, it answers `None` and draws nothing.
+  abbrev pub PairsNext : {E : Type 0} → ProductIter I J A → Option (Result (A × B) E)
+      → ProductIter I J A → Type 0
+  PairsNext s r t = MatchBool (is_over s) ((r ≡ None) × (t ≡ s))
+      (MatchOption r (EndsPairs s × (is_over t ≡ true)) (λ z. MatchResult z (λ p. GivesPair s p t)
+      (λ _. RefusesClone s × (is_over t ≡ true))))
+
+-- A clone of the item x of the row is paired with y, and x is held for the pairs to come; or the
+-- clone was refused.
+abbrev pub PairsItems : {I J A B E : Type 0} → (A → A → Type 0) → (A → Type 0) → ProductIter I J A
+    → A → B → Result (A × B) E → ProductIter I J A → Type 0
+PairsItems clones infallible s x y r t = MatchResult r
+    (λ p. clones x p.0 × (p.1 ≡ y) × (t ≡ record s { row = Some x; is_over = false }))
+    (λ _. (infallible x → ⊥) × (t ≡ s))
+
+-- What a further row begins with: a clone of what was cloned beforehand; or one of the two clones
+-- was refused.
+abbrev pub TriesRestart : {J E : Type 0} → (J → J → Type 0) → (J → Type 0) → Option J → Result J E
+    → Type 0
+TriesRestart {J} copies certain o r = MatchResult r (λ d. (c : J) × (o ≡ Some c) × copies c d)
+    (λ _. (o ≡ None) ⊎ ((c : J) × (o ≡ Some c) × (certain c → ⊥)))

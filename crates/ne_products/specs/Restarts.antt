@@ -1,0 +1,46 @@
+-- What a source has to have, for a product to walk it once a row.
+use Rattle.std.specs.Prelude.{◌≡◌, ◌≤◌, Bool, List, Option, Result, Ok, map}
+use Rattle.std.specs.Iterator.{Count, size}
+use Rattle.std.specs.declared.alloc.AllocError.{AllocError}
+use Rattle.ne_vec.specs.Fronts.{Listed}
+use Rattle.ne_iter.specs.Collected.{values_or_first_err}
+use Rattle.ne_iter.specs.Gives.{GivesList}
+use Rattle.ne_iter.specs.SourceLists.{EachList}
+use Rattle.ne_products.specs.Pairs.{cartesian_product, IsProduct}
+
+-- A clone of an iterator that the source u becomes is one that u may become too, with no more items
+-- left: a cloned iterator gives what its original gives.
+abbrev pub ClonesAgain : {U J : Type 0} → (U → J → Type 0) → (J → Count) → (J → J → Type 0) → U
+    → Type 0
+ClonesAgain {J = J} becomes left copies u = (j c : J) → becomes u j → copies j c
+    → becomes u c × (size (left c) ≤ size (left j))
+
+-- No clone is refused, and each equals its original.
+abbrev pub HasExactClones : {A : Type 0} → (A → A → Type 0) → (A → Type 0) → Type 0
+HasExactClones {A} clones infallible =
+    ((x : A) → infallible x) × ((x y : A) → clones x y → y ≡ x)
+
+-- `cartesian_product`, where the other side gives the list ys, and so do clones of its iterator
+abbrev pub ProductGives : {U W V A B E : Type 0} → (Bool → U → List A → Type 0)
+    → (Bool → W → List B → Type 0) → Type 0 → (A → A → Type 0) → Type 0
+    → (Bool → V → List (Result (A × B) E) → Type 0) → U → W → V → Type 0
+ProductGives {A = A} {B = B} {E = E} reads others again clones refused paired source other result =
+    (ys : List B) → GivesList others other ys → again
+    → (whole : Bool) (zs : List (Result (A × B) E)) → paired whole result zs
+    → IsProduct reads clones refused source ys whole zs
+
+-- The product v of xs and ys is known to the check's search, if `exact` holds.
+abbrev pub PairsListed : {V T A B : Type 0} → (V → T → Type 0)
+    → (T → Option (Result (A × B) AllocError) → T → Type 0) → Type 0 → V → List A → List B → Type 0
+PairsListed {A = A} {B = B} made next exact v xs ys = exact
+    → (values_or_first_err {E = AllocError} (map Ok (cartesian_product xs ys))
+    ≡ Ok (cartesian_product xs ys))
+    × Listed made next v (map Ok (cartesian_product xs ys))
+
+-- The product of the lists that two sources give. The second may be one that no call speaks of.
+abbrev pub PairsLists : {U W A B : Type 0} → (U → List A → Type 0) → (W → List B → Type 0)
+    → (W → List B → Type 0) → (List A → List B → Type 0) → U → W → Type 0
+PairsLists {A = A} {B = B} lists others meets gives u w =
+    EachList lists u (λ xs. EachList others w (λ ys. gives xs ys))
+    × ((xs : List A) (ys : List B) → (cartesian_product xs ys ≡ cartesian_product xs ys)
+    × (lists u xs → meets w ys → gives xs ys))

@@ -1,0 +1,247 @@
+//! Products of two sources, and whether the items of one differ.
+ghost use Rattle.std.specs.Prelude.{◌≡◌, ◌↔◌, IfOk, IsTrue};
+ghost use Rattle.std.specs.List.{IsDistinct};
+ghost use Rattle.ne_iter.specs.SourceLists.{BecomesList, EachList};
+ghost use Rattle.ne_products.specs.Pairs.{CanRefuse};
+ghost use Rattle.ne_products.specs.Product.{product_first, product_second, restart_of, PairsItems};
+ghost use Rattle.ne_products.specs.Product.{PairsNext, TriesRestart};
+ghost use Rattle.ne_products.specs.Restarts.{ClonesAgain, HasExactClones, PairsListed, PairsLists};
+ghost use Rattle.ne_products.specs.Restarts.{ProductGives};
+ghost use Rattle.ne_products.specs.Unique.{TellsUnique};
+
+use ne_iter::iter::SourceWords;
+use ne_iter::{IntoNonEmptyIterator, NonEmptyIterator};
+use std::alloc::{AllocError, Global};
+use std::collections::HashSet;
+use std::hash::Hash;
+
+/// Further methods of sources that give at least one item: every [`NonEmptyIterator`] has them.
+pub trait NonEmptyItertools: NonEmptyIterator {
+    /// Each item of this source with each item of `other`, in `Ok`: a row of pairs for each item
+    /// here. The pair of item i here and item j there stands at place i * m + j, if m items come
+    /// there.
+    ///
+    /// An item here is cloned for each of its pairs. The iterator of `other` is cloned once when
+    /// the product becomes an iterator, and that clone again for each row after the first; the
+    /// first row draws the iterator itself. So what `other` becomes has to have an iterator that
+    /// can be cloned: a vector goes in by reference. Where one of these clones was refused, an
+    /// `Err` comes in the place of a pair; `None` comes after it, and nothing more is drawn.
+    ///
+    /// It takes no memory of its own. In the Rust crate the items are plain, as clones cannot be
+    /// refused there, and the iterator is that of `itertools`.
+    ///
+    /// The product of `[0, 1]` and `['a', 'b']` is (0, 'a'), (0, 'b'), (1, 'a') and (1, 'b').
+    final fn cartesian_product<J: IntoNonEmptyIterator>(
+        self,
+        other: J,
+    ) -> Product<Self, J::IntoNEIter>
+    where
+        Self: Sized,
+        Self::Item: Clone + Drop,
+        J::Item: Drop,
+        <J::IntoNEIter as IntoIterator>::IntoIter: Clone,
+        ensures holds { (product_first result ≡ self)
+            × J.into_nonempty_iter_gives other (product_second result) }
+        ensures ends { ⟦<Self as SourceWords>⟧.ends self
+            → ⟦<J::IntoNEIter as SourceWords>⟧.ends (product_second result)
+            → ClonesAgain J.IntoNEIter.into_iter_gives J.IntoNEIter.IntoIter.remaining
+            J.IntoNEIter.IntoIter.is_clone (product_second result)
+            → ⟦<Product<Self, J::IntoNEIter> as SourceWords>⟧.ends result }
+        ensures gives { ProductGives (⟦<Self as SourceWords>⟧.reads) (⟦<J as SourceWords>⟧.reads)
+            (ClonesAgain J.IntoNEIter.into_iter_gives J.IntoNEIter.IntoIter.remaining
+            J.IntoNEIter.IntoIter.is_clone (product_second result))
+            Self.Item.is_clone
+            (CanRefuse Self.Item.is_infallible J.IntoNEIter.IntoIter.is_infallible)
+            (⟦<Product<Self, J::IntoNEIter> as SourceWords>⟧.reads) self other result }
+        ensures lists { PairsLists (⟦<Self as SourceWords>⟧.lists) (⟦<J as SourceWords>⟧.lists)
+            (BecomesList J.into_nonempty_iter_gives J.IntoNEIter.into_iter_gives
+            J.IntoNEIter.IntoIter.next_gives)
+            (PairsListed (⟦<Product<Self, J::IntoNEIter> as IntoIterator>⟧.into_iter_gives)
+            (PairsNext Self.IntoIter.next_gives J.IntoNEIter.IntoIter.next_gives
+            Self.Item.is_clone Self.Item.is_infallible
+            J.IntoNEIter.IntoIter.is_clone J.IntoNEIter.IntoIter.is_infallible)
+            (HasExactClones Self.Item.is_clone Self.Item.is_infallible
+            × ((j : J.IntoNEIter.IntoIter) → J.IntoNEIter.IntoIter.is_infallible j)
+            × ClonesAgain J.IntoNEIter.into_iter_gives J.IntoNEIter.IntoIter.remaining
+            J.IntoNEIter.IntoIter.is_clone (product_second result)) result)
+            self other }
+    {
+        Product {
+            a: self,
+            b: other.into_nonempty_iter(),
+        }
+    }
+
+    /// Whether no two items are equal. It stops at the first item that equals one before it.
+    ///
+    /// Returns `AllocError` if there is no memory for the items that were seen, which std's
+    /// [`HashSet`] holds; they are then dropped.
+    final fn all_unique(self, alloc: Global) -> Result<bool, AllocError>
+    where
+        Self: Sized,
+        Self::Item: Eq + Hash + Drop,
+        requires { ⟦<Self as SourceWords>⟧.ends self }
+        ensures gives { IfOk result
+            (TellsUnique (⟦<Self as SourceWords>⟧.reads) Self.Item.eq self) }
+        ensures lists { IfOk result (λ unique. EachList (⟦<Self as SourceWords>⟧.lists) self (λ xs.
+            IsTrue unique ↔ IsDistinct Self.Item.eq xs)) }
+    {
+        let mut seen = HashSet::new(alloc);
+        for item in self {
+            let Ok(is_new) = seen.insert(item) else {
+                return Err(AllocError);
+            };
+            if !is_new {
+                return Ok(false);
+            }
+        }
+        Ok(true)
+    }
+}
+
+impl<T: NonEmptyIterator> NonEmptyItertools for T {}
+
+/// Each item of a source with each item of another: see [`NonEmptyItertools::cartesian_product`].
+///
+/// In the Rust crate it holds the iterators; here it holds what they are made of, and clones
+/// neither the left side's iterator nor the right side's items.
+#[derive(Drop)]
+pub struct Product<I, J> {
+    a: I,
+    b: J,
+}
+
+impl<I: NonEmptyIterator, J: NonEmptyIterator> IntoIterator for Product<I, J>
+where
+    I::Item: Clone + Drop,
+    J::Item: Drop,
+    J::IntoIter: Clone,
+{
+    ghost use Rattle.ne_products.specs.Product.{MakesProduct};
+
+    type Item = Result<(I::Item, J::Item), AllocError>;
+
+    type IntoIter = ProductIter<I::IntoIter, J::IntoIter>;
+
+    ghost into_iter_gives = { MakesProduct I.into_iter_gives J.into_iter_gives J.IntoIter.is_clone
+        J.IntoIter.is_infallible };
+
+    fn into_iter(self) -> ProductIter<I::IntoIter, J::IntoIter> {
+        let right = self.b.into_iter();
+        let restart = match right.clone() {
+            Ok(restart) => Some(restart),
+            Err(_) => None,
+        };
+        ProductIter {
+            left: self.a.into_iter(),
+            row: None,
+            right,
+            restart,
+            is_over: false,
+        }
+    }
+}
+
+impl<I: NonEmptyIterator, J: NonEmptyIterator> NonEmptyIterator for Product<I, J>
+where
+    I::Item: Clone + Drop,
+    J::Item: Drop,
+    J::IntoIter: Clone,
+{
+    ghost use Rattle.ne_products.specs.Product.{left_of, right_of};
+    ghost use Rattle.ne_products.specs.ProductLaws.{HasFirst-product};
+
+    ghost not_empty = { λ s it made. HasFirst-product I.IntoIter.next_gives J.IntoIter.next_gives
+        I.Item.is_clone I.Item.is_infallible J.IntoIter.is_clone J.IntoIter.is_infallible _ it
+        made.3 made.4 (I.not_empty (product_first s) (left_of it) made.0)
+        (J.not_empty (product_second s) (right_of it) made.1) };
+}
+
+/// The iterator of a [`Product`]: the pairs, each in `Ok`, or an `Err` where a clone was refused.
+/// After its end, and after an `Err`, it answers `None`, and draws nothing more.
+///
+/// If the clone that was made beforehand was refused, the first call answers the `Err`. The Rust
+/// crate has the iterator of `itertools` here, whose clones cannot be refused.
+#[derive(Drop)]
+pub struct ProductIter<I: Iterator, J>
+where
+    I::Item: Drop,
+{
+    left: I,
+    // The item that the pairs of this row begin with.
+    row: Option<I::Item>,
+    // The others of this row.
+    right: J,
+    // Where each row after the first begins; `None` where that clone was refused.
+    restart: Option<J>,
+    is_over: bool,
+}
+
+impl<I: Iterator, J: Iterator + Clone> Iterator for ProductIter<I, J>
+where
+    I::Item: Clone + Drop,
+    J::Item: Drop,
+{
+    ghost use Rattle.ne_products.specs.Product.{CanPair, pairs_left};
+
+    type Item = Result<(I::Item, J::Item), AllocError>;
+
+    ghost can_next = { CanPair I.can_next J.can_next J.remaining J.is_clone };
+
+    ghost next_gives = { PairsNext I.next_gives J.next_gives I.Item.is_clone I.Item.is_infallible
+        J.is_clone J.is_infallible };
+
+    ghost remaining = { pairs_left I.remaining J.remaining };
+
+    fn next(&mut self) -> Option<Result<(I::Item, J::Item), AllocError>> {
+        if self.is_over {
+            return None;
+        }
+        // It goes on only where a pair comes.
+        self.is_over = true;
+        if self.restart.is_none() {
+            return Some(Err(AllocError));
+        }
+        let row = match self.row.take() {
+            Some(row) => row,
+            None => self.left.next()?,
+        };
+        if let Some(right) = self.right.next() {
+            return Some(self.pair(row, right));
+        }
+        let next_row = self.left.next()?;
+        let Ok(restarted) = self.restart() else {
+            return Some(Err(AllocError));
+        };
+        self.right = restarted;
+        let right = self.right.next()?;
+        Some(self.pair(next_row, right))
+    }
+}
+
+impl<I: Iterator, J: Iterator + Clone> ProductIter<I, J>
+where
+    I::Item: Clone + Drop,
+    J::Item: Drop,
+{
+    // A pair of the row that begins with `row`, and what more comes.
+    fn pair(&mut self, row: I::Item, right: J::Item) -> Result<(I::Item, J::Item), AllocError>
+        ensures { PairsItems I.Item.is_clone I.Item.is_infallible self.old row right result
+            self.new }
+    {
+        let left = row.clone()?;
+        self.row = Some(row);
+        self.is_over = false;
+        Ok((left, right))
+    }
+
+    // The right side, as it stood before it was drawn from.
+    fn restart(&self) -> Result<J, AllocError>
+        ensures { TriesRestart J.is_clone J.is_infallible (restart_of self.now) result }
+    {
+        match &self.restart {
+            Some(restart) => restart.clone(),
+            None => Err(AllocError),
+        }
+    }
+}

@@ -1,0 +1,77 @@
+//! A value of one of two types, and a source that is one of two.
+ghost use Rattle.std.specs.Prelude.{◌≡◌};
+ghost use Rattle.ne_vec.specs.Fronts.{mark};
+ghost use Rattle.ne_iter.specs.SourceLists.{BecomesList, EachList};
+ghost use Rattle.ne_products.specs.Sides.{MakesSide, MatchSide, SideLists};
+
+use either::Either;
+use ne_iter::iter::SourceWords;
+use ne_iter::{IntoNonEmptyIterator, NonEmptyIterator};
+
+/// One of two values.
+///
+/// Where both sides are sources with items of one type it is a source: it gives the items of the
+/// side that is there.
+#[derive(Copy, Clone, PartialEq, Eq, PartialOrd, Ord, Hash, Debug, Drop)]
+pub enum NEEither<L, R> {
+    /// A value of the first type.
+    Left(L),
+    /// A value of the second type.
+    Right(R),
+}
+
+impl<L: IntoNonEmptyIterator, R: IntoNonEmptyIterator<Item = L::Item>> NEEither<L, R> {
+    /// The source of the side that is there. It takes no memory.
+    ///
+    /// Of `Left([0])` it gives 0.
+    pub fn into_nonempty_iter(self) -> NEEither<L::IntoNEIter, R::IntoNEIter>
+        ensures makes { MakesSide L.into_nonempty_iter_gives R.into_nonempty_iter_gives
+            self result }
+        ensures ends { MatchSide result
+            (λ s. ⟦<L::IntoNEIter as SourceWords>⟧.ends s
+            → ⟦<NEEither<L::IntoNEIter, R::IntoNEIter> as SourceWords>⟧.ends result)
+            (λ t. ⟦<R::IntoNEIter as SourceWords>⟧.ends t
+            → ⟦<NEEither<L::IntoNEIter, R::IntoNEIter> as SourceWords>⟧.ends result) }
+        ensures lists { MatchSide result
+            (λ s. EachList (⟦<L::IntoNEIter as SourceWords>⟧.lists) s
+            (⟦<NEEither<L::IntoNEIter, R::IntoNEIter> as SourceWords>⟧.lists result))
+            (λ t. EachList (⟦<R::IntoNEIter as SourceWords>⟧.lists) t
+            (⟦<NEEither<L::IntoNEIter, R::IntoNEIter> as SourceWords>⟧.lists result)) }
+        ensures side { SideLists
+            (BecomesList L.into_nonempty_iter_gives L.IntoNEIter.into_iter_gives
+            L.IntoNEIter.IntoIter.next_gives)
+            (BecomesList R.into_nonempty_iter_gives R.IntoNEIter.into_iter_gives
+            R.IntoNEIter.IntoIter.next_gives)
+            (λ xs. (mark result xs ≡ 0)
+            × ⟦<NEEither<L::IntoNEIter, R::IntoNEIter> as SourceWords>⟧.lists result xs) self }
+    {
+        match self {
+            NEEither::Left(left) => NEEither::Left(left.into_nonempty_iter()),
+            NEEither::Right(right) => NEEither::Right(right.into_nonempty_iter()),
+        }
+    }
+}
+
+impl<L: IntoIterator, R: IntoIterator<Item = L::Item>> IntoIterator for NEEither<L, R> {
+    ghost use Rattle.ne_products.specs.Sides.{BecomesSide};
+
+    type Item = L::Item;
+
+    type IntoIter = Either<L::IntoIter, R::IntoIter>;
+
+    ghost into_iter_gives = { BecomesSide L.into_iter_gives R.into_iter_gives };
+
+    fn into_iter(self) -> Either<L::IntoIter, R::IntoIter> {
+        match self {
+            NEEither::Left(left) => Either::Left(left.into_iter()),
+            NEEither::Right(right) => Either::Right(right.into_iter()),
+        }
+    }
+}
+
+impl<L: NonEmptyIterator, R: NonEmptyIterator<Item = L::Item>> NonEmptyIterator for NEEither<L, R> {
+    ghost use Rattle.ne_products.specs.SideLaws.{HasFirst-side};
+
+    ghost not_empty = { HasFirst-side L.into_iter_gives L.IntoIter.next_gives R.into_iter_gives
+        R.IntoIter.next_gives L.not_empty R.not_empty };
+}
