@@ -4,9 +4,11 @@ use Rattle.std.specs.Prelude.{◌≡◌, ℕ, ◌<◌, ◌≤◌, Bool, All, Con
 use Rattle.std.specs.Prelude.{sum, refl}
 use Rattle.std.specs.Bool.{beq}
 use Rattle.ne_vec.specs.Divisions.{IsDivision, by_first, by_previous}
+use Rattle.ne_iter.specs.KeyList.{key_list}
 use Rattle.ne_runs.specs.Modes.{AreRows, ends_of, is_even, is_near}
 use Rattle.ne_runs.specs.declared.mode.Mode.{Mode}
-use Rattle.ne_runs.specs.declared.mode.Mode.TheVariants.{Ends, Stats, Equal, Parity, Near, Chain}
+use Rattle.ne_runs.specs.declared.mode.Mode.TheVariants.{Ends, Stats, Equal, Parity, Distinct}
+use Rattle.ne_runs.specs.declared.mode.Mode.TheVariants.{Near, Chain}
 
 module _ (exists : (goes_on : List ℕ → ℕ → Bool) (xs : List ℕ)
     → (rs : List (List ℕ)) × IsDivision goes_on xs rs)
@@ -25,6 +27,7 @@ module _ (exists : (goes_on : List ℕ → ℕ → Bool) (xs : List ℕ)
   has_rows Ends numbers some = (ends_of numbers ∷ [], refl)
   has_rows Equal numbers some = exists (by_first nat_eq) numbers
   has_rows Parity numbers some = exists (by_first (λ m n. beq (is_even m) (is_even n))) numbers
+  has_rows Distinct numbers some = (key_list nat_eq numbers ∷ [], refl)
   has_rows Near numbers some = exists (by_first is_near) numbers
   has_rows Chain numbers some = exists (by_previous is_near) numbers
   has_rows Stats [] some = absurd (omega (arith, some))
@@ -42,6 +45,7 @@ module _ (exists : (goes_on : List ℕ → ℕ → Bool) (xs : List ℕ)
   only_rows Equal numbers rows others a b = unique (by_first nat_eq) numbers rows others a b
   only_rows Parity numbers rows others a b = unique (by_first (λ m n. beq (is_even m) (is_even n)))
       numbers rows others a b
+  only_rows Distinct numbers rows others a b = a ∙ sym b
   only_rows Near numbers rows others a b = unique (by_first is_near) numbers rows others a b
   only_rows Chain numbers rows others a b = unique (by_previous is_near) numbers rows others a b
   only_rows Stats numbers rows others a b =

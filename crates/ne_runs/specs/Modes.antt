@@ -8,8 +8,10 @@ use Rattle.std.specs.Fmt.{decimal}
 use Rattle.std.specs.Int.{abs_diff}
 use Rattle.std.specs.Str.{bytes_eq}
 use Rattle.ne_vec.specs.Divisions.{IsDivision, by_first, by_previous}
+use Rattle.ne_iter.specs.KeyList.{key_list}
 use Rattle.ne_runs.specs.declared.mode.Mode.{Mode}
-use Rattle.ne_runs.specs.declared.mode.Mode.TheVariants.{Ends, Stats, Equal, Parity, Near, Chain}
+use Rattle.ne_runs.specs.declared.mode.Mode.TheVariants.{Ends, Stats, Equal, Parity, Distinct}
+use Rattle.ne_runs.specs.declared.mode.Mode.TheVariants.{Near, Chain}
 
 -- the word that names a mode
 abbrev pub word_of : Mode → List ℕ
@@ -17,6 +19,7 @@ word_of Ends = codes "ends"
 word_of Stats = codes "stats"
 word_of Equal = codes "equal"
 word_of Parity = codes "parity"
+word_of Distinct = codes "distinct"
 word_of Near = codes "near"
 word_of Chain = codes "chain"
 
@@ -27,6 +30,7 @@ mode_of word =
     else if bytes_eq word (word_of Stats) then Some Stats
     else if bytes_eq word (word_of Equal) then Some Equal
     else if bytes_eq word (word_of Parity) then Some Parity
+    else if bytes_eq word (word_of Distinct) then Some Distinct
     else if bytes_eq word (word_of Near) then Some Near
     else if bytes_eq word (word_of Chain) then Some Chain
     else None
@@ -60,6 +64,7 @@ AreRows Stats numbers rows =
 AreRows Equal numbers rows = IsDivision (by_first nat_eq) numbers rows
 AreRows Parity numbers rows = IsDivision (by_first (λ m n. beq (is_even m) (is_even n))) numbers
     rows
+AreRows Distinct numbers rows = rows ≡ key_list nat_eq numbers ∷ []
 AreRows Near numbers rows = IsDivision (by_first is_near) numbers rows
 AreRows Chain numbers rows = IsDivision (by_previous is_near) numbers rows
 

@@ -17,7 +17,7 @@ use nonempty_collections::laws::{
     has_one_division, numbers_have_one_greatest, numbers_have_one_least,
     slice_runs_are_the_division,
 };
-use nonempty_collections::{NESlice, NEVec, NonEmptyIterator};
+use nonempty_collections::{NEIndexSet, NESlice, NEVec, NonEmptyIterator};
 use std::alloc::{AllocError, Global};
 use std::convert::AsSlice;
 
@@ -32,6 +32,8 @@ pub enum Mode {
     Equal,
     /// The runs of numbers that are all even or all odd, a line each.
     Parity,
+    /// Each number once, in the order in which they come first, on one line.
+    Distinct,
     /// The runs of numbers that differ from their run's first by at most 1, a line each.
     Near,
     /// The runs of numbers that differ from the one before by at most 1, a line each.
@@ -39,7 +41,7 @@ pub enum Mode {
 }
 
 /// How many bytes the longest word of a mode has.
-pub const LONGEST_WORD: usize = 6;
+pub const LONGEST_WORD: usize = 8;
 
 /// Each mode has a word that names it, of at most [`LONGEST_WORD`] bytes, and no other word does.
 pub fn modes_have_words()
@@ -71,6 +73,7 @@ impl Mode {
             "stats" => Some(Mode::Stats),
             "equal" => Some(Mode::Equal),
             "parity" => Some(Mode::Parity),
+            "distinct" => Some(Mode::Distinct),
             "near" => Some(Mode::Near),
             "chain" => Some(Mode::Chain),
             _ => None,
@@ -89,6 +92,7 @@ impl Mode {
             Mode::Stats => stats_text(alloc, numbers),
             Mode::Equal => equal_text(alloc, numbers),
             Mode::Parity => parity_text(alloc, numbers),
+            Mode::Distinct => distinct_text(alloc, numbers),
             Mode::Near => near_text(alloc, numbers),
             Mode::Chain => chain_text(alloc, numbers),
         }
@@ -131,6 +135,16 @@ fn parity_text(alloc: Global, numbers: &NEVec<u32>) -> Result<String, AllocError
     ensures { IfOk result (λ text. IsText Mode.Parity numbers.now (string_bytes text)) }
 {
     text_by_first(alloc, numbers, |a, b| (*a % 2 == 0) == (*b % 2 == 0))
+}
+
+// Each number once, in the order in which they come first.
+fn distinct_text(alloc: Global, numbers: &NEVec<u32>) -> Result<String, AllocError>
+    ensures { IfOk result (λ text. IsText Mode.Distinct numbers.now (string_bytes text)) }
+{
+    let distinct: NEIndexSet<u32> = numbers.nonempty_iter().copied().collect(alloc)?;
+    let mut text = String::new(alloc);
+    push_set(&mut text, &distinct)?;
+    Ok(text)
 }
 
 // The runs of numbers that differ from their run's first by at most 1.
@@ -221,6 +235,19 @@ fn push_row(text: &mut String, first: u64, rest: &[u64]) -> Result<(), AllocErro
     ensures { OnOk result (string_bytes text.new ≡ string_bytes text.old
         ++ row_text (first ∷ rest.now)) }
 {
+    write!(text, "{first}")?;
+    for number in rest {
+        write!(text, " {number}")?;
+    }
+    text.push('\n')
+}
+
+// Adds the numbers of a set to a text, as a row in their order.
+fn push_set(text: &mut String, numbers: &NEIndexSet<u32>) -> Result<(), AllocError>
+    ensures { OnOk result (string_bytes text.new ≡ string_bytes text.old
+        ++ row_text numbers.now.keys) }
+{
+    let (first, rest) = numbers.nonempty_iter().next();
     write!(text, "{first}")?;
     for number in rest {
         write!(text, " {number}")?;

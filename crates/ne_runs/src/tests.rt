@@ -109,6 +109,21 @@ fn rows_of_parity_runs(rt: HostRuntime) -> Result<(), Fail> {
 }
 
 #[test]
+fn rows_of_distinct_numbers(rt: HostRuntime) -> Result<(), Fail> {
+    let rows: [(&[u8], Result<(), Fault>, &[u8]); 8] = [
+        (b"3\n1\n3\n2\n1\n", Ok(()), b"3 1 2\n"),
+        (b"5\n4\n3\n", Ok(()), b"5 4 3\n"),
+        (b"1\n1\n1\n", Ok(()), b"1\n"),
+        (b"07\n7\n007\n", Ok(()), b"7\n"),
+        (b"0\n999999999\n0\n", Ok(()), b"0 999999999\n"),
+        (b"7", Ok(()), b"7\n"),
+        (b"1\n1\nx\n", Err(Fault::BadLine(3)), b""),
+        (b"", Err(Fault::Empty), b""),
+    ];
+    check_rows(rt.alloc(), "distinct", &rows)
+}
+
+#[test]
 fn rows_of_near_runs(rt: HostRuntime) -> Result<(), Fail> {
     let rows: [(&[u8], Result<(), Fault>, &[u8]); 8] = [
         (b"1\n2\n3\n", Ok(()), b"1 2\n3\n"),
@@ -141,8 +156,24 @@ fn rows_of_chain_runs(rt: HostRuntime) -> Result<(), Fail> {
 #[test]
 fn words_that_name_no_mode(rt: HostRuntime) -> Result<(), Fail> {
     for word in [
-        "runs", "end", "endss", "stat", "statss", "", "ENDS", "Stats", "ends ", "stats\n", "Equal",
-        "equals", "parit", "nears", "Chain", "distinct",
+        "runs",
+        "end",
+        "endss",
+        "stat",
+        "statss",
+        "",
+        "ENDS",
+        "Stats",
+        "ends ",
+        "stats\n",
+        "Equal",
+        "equals",
+        "parit",
+        "nears",
+        "Chain",
+        "distinc",
+        "Distinct",
+        "distincts",
     ] {
         let mut reader = reader_of(b"1\n", 1);
         let mut writer = empty_tape(rt.alloc(), 1);

@@ -1,14 +1,20 @@
 //! Non-empty collections and iterators: a port of the Rust crate of this name.
 //!
-//! A vector, a slice or a source of this crate always has an item, so that what asks for one always
-//! has an answer. This crate has no code of its own: it shows those of the port under the Rust
-//! crate's names, modules and macro included, and their laws in [`laws`].
+//! A vector, a slice, a map, a set or a source of this crate always has an item, so that what asks
+//! for one always has an answer. This crate has no code of its own: it shows those of the port
+//! under the Rust crate's names, modules and macros included, and their laws in [`laws`].
 #![tactic(auto)]
 
+pub mod either;
+pub mod itertools;
 pub mod laws;
 
+pub use ne_hash::{NEMap, NESet, map, nem, nes, set};
+pub use ne_index::{NEIndexMap, NEIndexSet, index_map, index_set, ne_indexmap, neim, neis};
 pub use ne_iter::{
     ArrayNonEmptyIterator, Error, FromNonEmptyIterator, IntoIteratorExt, IntoNonEmptyIterator,
     NonEmptyArrayExt, NonEmptyIterator, Singleton, array, iter,
 };
+pub use ne_products::{NEEither, NonEmptyItertools};
+pub use ne_tree::{NEBTreeMap, NEBTreeSet, btree_map, btree_set, nebtm, nebts};
 pub use ne_vec::{NESlice, NEVec, nev, slice, vector};

@@ -1,0 +1,4 @@
+pub mod CallsSoFar
+pub mod MapCalls
+pub mod TreeMaps
+pub mod VectorCalls

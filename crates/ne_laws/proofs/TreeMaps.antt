@@ -1,0 +1,19 @@
+-- A tree map by the equality of its keys, which holds exactly where `cmp` is `Equal`.
+use Rattle.std.proofs.Common.{◌≡◌, ◌<◌, Bool, subst, sym}
+use mathlib.Core.Path.{fun_ext}
+use Rattle.std.specs.BTreeMap.{BTreeMap, IsOrdered, btree_map_len, keys}
+use Rattle.std.specs.Ordering.{eq_by_cmp}
+use Rattle.std.specs.declared.cmp.Ordering.{Ordering}
+use Rattle.std.proofs.lemmas.Map.Keys.{IsDistinct-from_sorted}
+use Rattle.ne_laws.specs.Maps.{IsMap}
+
+module _ {K : Type 0} (eq : K → K → Bool) (cmp : K → K → Ordering)
+    (same : (x y : K) → eq x y ≡ eq_by_cmp cmp x y) where
+  -- what holds by the comparison holds by the equality
+  pub by_eq : (P : (K → K → Bool) → Type 0) → P (eq_by_cmp cmp) → P eq
+  by_eq P p = subst P (sym (fun_ext (λ x. fun_ext (λ y. same x y)))) p
+
+  pub is_map : {V : Type 0} (m : BTreeMap K V) → IsOrdered cmp m → 0 < btree_map_len m
+      → IsMap eq m.entries
+  is_map m ordered some =
+      by_eq (λ e. IsMap e m.entries) (IsDistinct-from_sorted cmp (keys m) ordered, some)

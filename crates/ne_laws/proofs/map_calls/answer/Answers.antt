@@ -1,0 +1,6 @@
+use Rattle.std.proofs.Common.{refl}
+use Rattle.ne_laws.proofs.map_calls.answer.Goals as goal
+
+pub returns-in-Len-clause-step : goal.returns-in-Len-clause-step
+returns-in-Len-clause-step g c =
+    rw c.in-Len.is (c.size.result, refl, c.size.ensures.size, refl)

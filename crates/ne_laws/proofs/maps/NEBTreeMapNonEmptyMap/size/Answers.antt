@@ -1,0 +1,7 @@
+use Rattle.ne_laws.proofs.TreeMaps.{is_map}
+use Rattle.ne_laws.proofs.maps.NEBTreeMapNonEmptyMap.size.Goals as goal
+
+pub returns-clause-map : goal.returns-clause-map
+returns-clause-map g c =
+    is_map g.K.PartialEq.eq g.K.Ord.cmp g.met.K.Ord.matches_eq c.args.self.now
+    c.len.ensures.ordered c.len.ensures.nonempty

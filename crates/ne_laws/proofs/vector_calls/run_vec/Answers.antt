@@ -1,0 +1,31 @@
+use Rattle.std.proofs.Common.{rules, ◌<◌, ◌∷◌, [], ◌++◌, length, sym}
+use Rattle.std.specs.Vec.Iter.{into_iter_items}
+use Rattle.ne_laws.proofs.CallsSoFar.{as_many, left_after, on_err}
+use Rattle.ne_laws.proofs.VectorCalls.{one_more}
+use Rattle.ne_laws.proofs.vector_calls.run_vec.Goals as goal
+
+pub loop-call-preserved : goal.loop-call-preserved
+loop-call-preserved g c =
+    let some : 0 < length c.answer.new.v = let n = c.len-after.result.ok in search rules in
+    record {
+      run = rw c.in_ok-push.ensures.items (one_more _ c.loop-call.yielded
+          c.loop-call.replies.items _ c.in-Some.call c.in_ok-reply.reply _
+          c.loop-call.invariant.run c.in_ok-reply.ensures.step some);
+      some = some;
+      one_each = rw c.in_ok-push.ensures.items (as_many _ _ _ _ c.loop-call.invariant.one_each);
+      left = left_after c.loop-call.yielded c.in-Some.call _ _ _ c.in-Some.ensures.steps.0
+          c.loop-call.invariant.left;
+    }
+
+pub returns-in_err-push-clause-refused : goal.returns-in_err-push-clause-refused
+returns-in_err-push-clause-refused g c =
+    let some : 0 < length c.answer.new.v = let n = c.len-after.result.ok in search rules in
+    on_err c.from_residual-in_err-push.result _ (
+      c.loop-call.yielded ++ c.in-Some.call ∷ [],
+      into_iter_items c.next.new.self,
+      c.loop-call.replies.items ++ c.in_ok-reply.reply ∷ [],
+      sym (left_after c.loop-call.yielded c.in-Some.call _ _ _ c.in-Some.ensures.steps.0
+          c.loop-call.invariant.left),
+      one_more _ c.loop-call.yielded c.loop-call.replies.items _ c.in-Some.call
+          c.in_ok-reply.reply _ c.loop-call.invariant.run c.in_ok-reply.ensures.step some,
+    )

@@ -1,0 +1,3 @@
+pub mod MapCalls
+pub mod Maps
+pub mod VectorCalls

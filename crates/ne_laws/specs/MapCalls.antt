@@ -1,0 +1,31 @@
+-- What a list of calls on a map replies, and what it leaves.
+use Rattle.std.specs.Prelude.{◌≡◌, Bool, List, [], ◌∷◌, ◌++◌, length, is_some}
+use Rattle.std.specs.Int.NonZero.{non_zero_usize_get}
+use Rattle.std.specs.Map.{lookup}
+use Rattle.std.specs.declared.num.NonZeroUsize.{NonZeroUsize}
+use Rattle.ne_laws.specs.Maps.{IsMap, Puts, Writes}
+use Rattle.ne_laws.specs.declared.map_calls.MapCall.{MapCall}
+use Rattle.ne_laws.specs.declared.map_calls.MapCall.TheVariants.{Insert, Write, Has, Len}
+use Rattle.ne_laws.specs.declared.map_calls.MapReply.{MapReply}
+use Rattle.ne_laws.specs.declared.map_calls.MapReply.TheVariants as reply
+
+module _ {K V : Type 0} (eq : K → K → Bool) where
+  -- The call is answered by the reply, and takes the map es to the map fs.
+  abbrev pub Answers : List (K × V) → MapCall K V → MapReply V → List (K × V) → Type 0
+  Answers es (Insert k v) r fs = (r ≡ reply.Old (lookup (eq k) es)) × Puts eq es k v fs
+  Answers es (Write k v) r fs = (r ≡ reply.Old (lookup (eq k) es)) × Writes eq es k v fs
+  Answers es (Has k) r fs = (r ≡ reply.Has (is_some (lookup (eq k) es))) × (fs ≡ es)
+  Answers es Len r fs = (n : NonZeroUsize) × (r ≡ reply.Len n)
+      × (non_zero_usize_get n ≡ length es) × (fs ≡ es)
+
+  -- The calls are answered by the replies in turn, each from the map that the one before left; es
+  -- has a key, and so has each map that a call leaves.
+  abbrev pub RunsTo : List (K × V) → List (MapCall K V) → List (MapReply V) → List (K × V) → Type 0
+  RunsTo es [] rs fs = IsMap eq es × (rs ≡ []) × (fs ≡ es)
+  RunsTo es (c ∷ cs) rs fs = IsMap eq es × ((r : MapReply V) × (rest : List (MapReply V))
+      × (mid : List (K × V)) × (rs ≡ r ∷ rest) × Answers es c r mid × RunsTo mid cs rest fs)
+
+  -- Some first calls of cs were carried out, and no other.
+  abbrev pub RunsSome : List (K × V) → List (MapCall K V) → List (K × V) → Type 0
+  RunsSome es cs fs = (done : List (MapCall K V)) × (later : List (MapCall K V))
+      × (rs : List (MapReply V)) × (cs ≡ done ++ later) × RunsTo es done rs fs

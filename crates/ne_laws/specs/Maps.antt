@@ -1,0 +1,20 @@
+-- A map with at least one key, as the list of its entries in some order.
+use Rattle.std.specs.Prelude.{◌≡◌, ◌+◌, ◌<◌, Bool, cond, List, length, Some, is_some, MatchOption}
+use Rattle.std.specs.Prelude.{if◌then◌else◌}
+use Rattle.std.specs.List.{IsDistinct}
+use Rattle.std.specs.Map.{keys_of, lookup}
+
+module _ {K V : Type 0} (eq : K → K → Bool) where
+  -- No two keys are equal, and there is a key.
+  abbrev pub IsMap : List (K × V) → Type 0
+  IsMap es = IsDistinct eq (keys_of es) × (0 < length es)
+
+  -- fs has v at the key k, and at each other key what es has; it has one key more than es if k is
+  -- new, and as many if it is not.
+  abbrev pub Puts : List (K × V) → K → V → List (K × V) → Type 0
+  Puts es k v fs = ((q : K) → lookup (eq q) fs ≡ cond (eq k q) (Some v) (lookup (eq q) es))
+      × (length fs ≡ length es + (if is_some (lookup (eq k) es) then 0 else 1))
+
+  -- The same if es has the key k; if it has not, nothing changes.
+  abbrev pub Writes : List (K × V) → K → V → List (K × V) → Type 0
+  Writes es k v fs = MatchOption (lookup (eq k) es) (fs ≡ es) (λ _. Puts es k v fs)

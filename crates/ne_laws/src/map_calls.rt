@@ -1,0 +1,81 @@
+//! A list of calls on a map, carried out one after another.
+ghost use Rattle.std.specs.Prelude.{◌≡◌, length, IfOk, OnErr};
+ghost use Rattle.ne_laws.specs.MapCalls.{Answers, RunsSome, RunsTo};
+ghost use Rattle.ne_laws.specs.Maps.{IsMap};
+
+use crate::maps::NonEmptyMap;
+use std::alloc::{AllocError, Global};
+use std::num::NonZeroUsize;
+
+/// A call on a map.
+#[derive(Drop)]
+pub enum MapCall<K, V> {
+    /// Puts the value at the key: [`NonEmptyMap::put`].
+    Insert(K, V),
+    /// Writes the value to the key if it is there: [`NonEmptyMap::set`].
+    Write(K, V),
+    /// Whether the key is there: [`NonEmptyMap::has`].
+    Has(K),
+    /// How many keys there are: [`NonEmptyMap::size`].
+    Len,
+}
+
+/// What a call on a map replies.
+#[derive(Debug, Drop)]
+pub enum MapReply<V> {
+    /// The old value of the key, `None` if it was not there: `Insert` and `Write`.
+    Old(Option<V>),
+    /// Whether the key is there.
+    Has(bool),
+    /// How many keys there are.
+    Len(NonZeroUsize),
+}
+
+/// Carries out the calls in turn, and returns a reply to each. The map has a key before and after
+/// each of them, whatever they are.
+///
+/// Returns `AllocError` if there is no memory for a key or for the replies. A first part of the
+/// calls was carried out then; the other calls and the replies are dropped.
+///
+/// Of `{1: 'a'}`, the calls `Insert(2, 'b')`, `Write(1, 'c')` and `Write(3, 'z')` reply
+/// `Old(None)`, `Old(Some('a'))` and `Old(None)`, and leave `{1: 'c', 2: 'b'}`.
+pub fn run_map<K: Eq + Drop, V: Drop, M: NonEmptyMap<K, V>>(
+    alloc: Global,
+    m: &mut M,
+    calls: Vec<MapCall<K, V>>,
+) -> Result<Vec<MapReply<V>>, AllocError>
+    ensures run { IfOk result (λ replies. RunsTo K.eq (M.entries m.old) calls.items replies.items
+        (M.entries m.new)) }
+    ensures refused { OnErr result (RunsSome K.eq (M.entries m.old) calls.items
+        (M.entries m.new)) }
+    ensures one_each { IfOk result (λ replies. length replies.items ≡ length calls.items) }
+    ensures map { IsMap K.eq (M.entries m.new) }
+{
+    // `size` says that there is a key.
+    let _size = m.size();
+    let mut replies = Vec::new(alloc);
+    for call in calls {
+        let reply = answer(m, call)?;
+        replies.push(reply)?;
+    }
+    Ok(replies)
+}
+
+// Carries out one call.
+fn answer<K: Eq + Drop, V: Drop, M: NonEmptyMap<K, V>>(
+    m: &mut M,
+    call: MapCall<K, V>,
+) -> Result<MapReply<V>, AllocError>
+    requires { IsMap K.eq (M.entries m.old) }
+    ensures step { IfOk result (λ reply. Answers K.eq (M.entries m.old) call reply
+        (M.entries m.new)) }
+    ensures unchanged { OnErr result (M.entries m.new ≡ M.entries m.old) }
+    ensures map { IsMap K.eq (M.entries m.new) }
+{
+    match call {
+        MapCall::Insert(k, v) => Ok(MapReply::Old(m.put(k, v)?)),
+        MapCall::Write(k, v) => Ok(MapReply::Old(m.set(&k, v))),
+        MapCall::Has(k) => Ok(MapReply::Has(m.has(&k))),
+        MapCall::Len => Ok(MapReply::Len(m.size())),
+    }
+}

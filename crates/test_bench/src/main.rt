@@ -1,0 +1,54 @@
+//! Runs a workload over the collections, and prints a checksum of what came of it.
+//!
+//! `bench WORKLOAD SIZE` is timed beside a twin in Rust, over the Rust crate: see `compare/bench`.
+//! The checksum is there so that both can be compared, and that nothing is left out as unused.
+#![tactic(auto)]
+
+mod input;
+mod keyed;
+mod workloads;
+
+use std::alloc::AllocError;
+use std::convert::AsSlice;
+use std::env;
+use std::num::NonZeroUsize;
+use std::process::ExitCode;
+
+// The greatest size that is taken.
+const MOST: usize = 10_000_000;
+
+fn main(rt: HostRuntime) -> ExitCode {
+    match told(&rt) {
+        Ok(Some(checksum)) => match println!(rt; "{checksum}") {
+            Ok(()) => ExitCode::SUCCESS,
+            Err(_) => ExitCode::from(3),
+        },
+        Ok(None) => {
+            let _ = rt.eprintln("usage: test_bench WORKLOAD SIZE");
+            ExitCode::from(2)
+        }
+        Err(_) => ExitCode::from(4),
+    }
+}
+
+// The checksum of the workload that the command line names; `None` where it names none, or no size.
+fn told(rt: &HostRuntime) -> Result<Option<u64>, AllocError> {
+    let Ok(words) = env::args(rt) else {
+        return Ok(None);
+    };
+    let words: Vec<String> = words.skip(1).collect(rt.alloc())?;
+    match words.as_slice() {
+        [workload, size] => match sized(size.as_str()) {
+            Some(n) => workloads::checksum(rt.alloc(), workload.as_str(), n),
+            None => Ok(None),
+        },
+        _ => Ok(None),
+    }
+}
+
+fn sized(word: &str) -> Option<NonZeroUsize> {
+    match word.parse::<usize>() {
+        Ok(n) if n <= MOST => NonZeroUsize::new(n),
+        _ => None,
+    }
+}

@@ -1,0 +1,165 @@
+//! Tree maps and sets whose keys, items and values own a token, which tells whether each is dropped
+//! once.
+//!
+//! A node holds fifteen keys. For one more it becomes two, below a third: two requests.
+
+mod changes;
+mod looks;
+mod makes;
+mod written;
+
+use super::tell;
+use nonempty_collections::{NEBTreeMap, NEBTreeSet, Singleton};
+use std::alloc::{AllocError, Global};
+use std::rc::Rc;
+use std::test::Fail;
+
+// An owner of the token. Its clones take memory, though it takes none itself: so the calls are all
+// that asks.
+#[derive(Drop, PartialEq, Eq, PartialOrd, Ord)]
+struct Owner {
+    token: Rc<u32>,
+    room: Vec<u8>,
+}
+
+impl Clone for Owner {
+    fn clone(&self) -> Result<Owner, AllocError> {
+        let room = Vec::with_capacity(*self.room.allocator(), 1)?;
+        let token = self.token.clone()?;
+        Ok(Owner { token, room })
+    }
+}
+
+// One more owner of the token. It takes no memory.
+fn one_more(alloc: Global, token: &Rc<u32>) -> Result<Owner, AllocError> {
+    let token = token.clone()?;
+    Ok(Owner {
+        token,
+        room: Vec::new(alloc),
+    })
+}
+
+type Key = (u32, Owner);
+
+type Map = NEBTreeMap<Key, Owner>;
+
+type Set = NEBTreeSet<Key>;
+
+// Collections of numbers, each of which owns the token as often.
+trait Numbers: Singleton + Drop {
+    // The item of this number. It takes no memory.
+    fn item(alloc: Global, token: &Rc<u32>, number: u32) -> Result<Self::Item, AllocError>;
+
+    // How many owners an item has.
+    fn owners_of_one() -> usize;
+
+    // How many numbers there are, or 0 where they are not those from 1 on.
+    fn count(&self) -> usize;
+}
+
+impl Numbers for Map {
+    fn item(alloc: Global, token: &Rc<u32>, number: u32) -> Result<(Key, Owner), AllocError> {
+        let key = (number, one_more(alloc, token)?);
+        Ok((key, one_more(alloc, token)?))
+    }
+
+    fn owners_of_one() -> usize {
+        2
+    }
+
+    fn count(&self) -> usize {
+        let mut next = 1u32..;
+        let rises = self.iter().all(|(key, _)| next.next() == Some(key.0));
+        if rises { self.len().get() } else { 0 }
+    }
+}
+
+impl Numbers for Set {
+    fn item(alloc: Global, token: &Rc<u32>, number: u32) -> Result<Key, AllocError> {
+        Ok((number, one_more(alloc, token)?))
+    }
+
+    fn owners_of_one() -> usize {
+        1
+    }
+
+    fn count(&self) -> usize {
+        let mut next = 1u32..;
+        let rises = self.iter().all(|key| next.next() == Some(key.0));
+        if rises { self.len().get() } else { 0 }
+    }
+}
+
+// The token, which is one request.
+fn token(alloc: Global) -> Result<Rc<u32>, AllocError> {
+    Ok(Rc::new(alloc, 7)?)
+}
+
+// The numbers from 1 to `last`: one request, if there are at most fifteen.
+fn up_to<C: Numbers>(alloc: Global, token: &Rc<u32>, last: u32) -> Result<C, AllocError>
+where
+    C::Item: Drop,
+{
+    let mut made = C::singleton(alloc, C::item(alloc, token, 1)?)?;
+    for number in 2..=last {
+        made.extend_one(C::item(alloc, token, number)?)?;
+    }
+    Ok(made)
+}
+
+// Fails unless the token has so many owners besides the one that is asked.
+fn owned(call: &str, token: &Rc<u32>, count: usize) -> Result<(), Fail> {
+    if Rc::strong_count(token) - 1 == count {
+        return Ok(());
+    }
+    Err(Fail::new(format_args!("{call}: an item is lost, or dropped twice")))
+}
+
+// Of a call that makes a collection: with memory it has the numbers from 1 to `last`, and without
+// it there is none. Besides, the token has as many owners as `others` says.
+fn gives<C: Numbers>(
+    rt: &impl Print,
+    call: &str,
+    answer: Result<C, AllocError>,
+    token: &Rc<u32>,
+    last: usize,
+    others: usize,
+) -> Result<(), Fail> {
+    let Ok(made) = answer else {
+        owned(call, token, others)?;
+        return tell(rt, "refused", call);
+    };
+    if made.count() != last {
+        return Err(Fail::new(format_args!("{call}: other numbers than those up to {last}")));
+    }
+    owned(
+        call,
+        token,
+        last.wrapping_mul(C::owners_of_one()).wrapping_add(others),
+    )?;
+    tell(rt, "made", call)
+}
+
+// Of a call that adds to a collection: with memory it has the numbers from 1 to `after`, and
+// without it those up to some number that is at least `before` and less than `after`.
+fn leaves<C: Numbers>(
+    rt: &impl Print,
+    call: &str,
+    answer: Result<(), AllocError>,
+    token: &Rc<u32>,
+    numbers: &C,
+    before: usize,
+    after: usize,
+) -> Result<(), Fail> {
+    let count = numbers.count();
+    let stands = if answer.is_ok() {
+        count == after
+    } else {
+        before <= count && count < after
+    };
+    if !stands {
+        return Err(Fail::new(format_args!("{call}: {count} numbers stand")));
+    }
+    owned(call, token, count.wrapping_mul(C::owners_of_one()))?;
+    tell(rt, if answer.is_ok() { "made" } else { "refused" }, call)
+}

@@ -1,0 +1,85 @@
+//! A call, as a line of a script writes it: a name and numbers.
+
+use crate::key::Key;
+use nonempty_collections::NEVec;
+use std::alloc::{AllocError, Global};
+use std::num::NonZeroUsize;
+
+/// A call.
+#[derive(Drop)]
+pub struct Call<'t> {
+    /// Which call it is.
+    pub name: &'t str,
+    numbers: Vec<u32>,
+}
+
+impl<'t> Call<'t> {
+    /// The call that a line writes.
+    pub fn parsed(alloc: Global, line: &'t str) -> Result<Call<'t>, AllocError> {
+        let mut words = line.split(' ');
+        let name = words.next().unwrap_or("");
+        let mut numbers = Vec::new(alloc);
+        for word in words {
+            if let Ok(number) = word.parse::<u32>() {
+                numbers.push(number)?;
+            }
+        }
+        Ok(Call { name, numbers })
+    }
+
+    /// Its number at a place, which is 0 where it has none.
+    pub fn number(&self, place: usize) -> u32 {
+        self.numbers.get(place).copied().unwrap_or(0)
+    }
+
+    /// The key of its number at a place.
+    pub fn key(&self, place: usize) -> Key {
+        Key::new(self.number(place))
+    }
+
+    /// Its last number as a size.
+    pub fn size(&self) -> usize {
+        self.numbers.last().copied().unwrap_or(0) as usize
+    }
+
+    /// Its last number as a size, which is at least 1.
+    pub fn room(&self) -> NonZeroUsize {
+        NonZeroUsize::new(self.size()).unwrap_or(NonZeroUsize::MIN)
+    }
+
+    /// Its numbers as keys, of which there may be none.
+    pub fn items(&self, alloc: Global) -> Result<Vec<Key>, AllocError> {
+        let mut items = Vec::new(alloc);
+        for number in self.numbers.as_slice() {
+            items.push(Key::new(*number))?;
+        }
+        Ok(items)
+    }
+
+    /// Its numbers as keys, and the key of 0 where it has none.
+    pub fn some_items(&self, alloc: Global) -> Result<NEVec<Key>, AllocError> {
+        match NEVec::try_from_vec(self.items(alloc)?) {
+            Some(items) => Ok(items),
+            None => NEVec::new(alloc, self.key(0)),
+        }
+    }
+
+    /// Its numbers two by two as keys and values, of which there may be none.
+    pub fn pairs(&self, alloc: Global) -> Result<Vec<(Key, u32)>, AllocError> {
+        let mut pairs = Vec::new(alloc);
+        for pair in self.numbers.as_slice().chunks(2) {
+            let key = pair.first().copied().unwrap_or(0);
+            let value = pair.get(1).copied().unwrap_or(0);
+            pairs.push((Key::new(key), value))?;
+        }
+        Ok(pairs)
+    }
+
+    /// Its numbers two by two as keys and values, and the key and the value 0 where it has none.
+    pub fn some_pairs(&self, alloc: Global) -> Result<NEVec<(Key, u32)>, AllocError> {
+        match NEVec::try_from_vec(self.pairs(alloc)?) {
+            Some(pairs) => Ok(pairs),
+            None => NEVec::new(alloc, (self.key(0), 0)),
+        }
+    }
+}

@@ -1,0 +1,140 @@
+//! Towers over slices, arrays, references, texts and structs.
+ghost use Rattle.std.specs.Prelude.{
+  ◌≡◌,
+  ◌/◌,
+  ◌+◌,
+  ◌<◌,
+  ◌^◌,
+  ◌++◌,
+  map,
+  take,
+  drop,
+  length,
+  nat_eq,
+  IfOk,
+};
+ghost use Rattle.std.specs.List.{enumerate_from, flat_map, zip};
+ghost use Rattle.std.specs.Int.NonZero.{non_zero_usize_get};
+ghost use Rattle.ne_iter.specs.Collected.{IsMapOf};
+
+use nonempty_collections::{IntoNonEmptyIterator, NESlice, NEVec, NonEmptyIterator};
+use std::alloc::{AllocError, Global};
+use std::collections::BTreeMap;
+use std::num::NonZeroUsize;
+
+/// A job that takes some minutes.
+#[derive(Clone, Copy, Debug, PartialEq, Eq)]
+pub struct Job {
+    pub name: u32,
+    pub minutes: u32,
+}
+
+/// The names of the first jobs, from references.
+pub fn first_names(
+    alloc: Global,
+    jobs: &NEVec<Job>,
+    n: NonZeroUsize,
+) -> Result<NEVec<u32>, AllocError>
+    ensures { IfOk result (λ v. v ≡ map (λ job. job.name) (take (non_zero_usize_get n) jobs.now)) }
+{
+    jobs.nonempty_iter()
+        .take(n)
+        .map(|job| job.name)
+        .collect(alloc)
+}
+
+/// How many items two vectors have: `chain`, `copied`, `enumerate` and `count`.
+pub fn how_many_numbered(items: &NEVec<u32>, others: &NEVec<u32>) -> NonZeroUsize
+    requires { length items.now + length others.now < 2 ^ 64 }
+    ensures { non_zero_usize_get result ≡ length items.now + length others.now }
+{
+    items
+        .nonempty_iter()
+        .chain(others.nonempty_iter())
+        .copied()
+        .enumerate()
+        .count()
+}
+
+/// A slice: `enumerate`, `map`, `take`.
+pub fn first_numbered_halves(
+    alloc: Global,
+    items: &NESlice<u32>,
+    n: NonZeroUsize,
+) -> Result<NEVec<(usize, u32)>, AllocError>
+    ensures { IfOk result (λ v. v ≡ take (non_zero_usize_get n)
+        (map (λ p. (p.0, p.1 / 2)) (enumerate_from 0 items.now))) }
+{
+    items
+        .nonempty_iter()
+        .copied()
+        .enumerate()
+        .map(|(place, x)| (place, x / 2))
+        .take(n)
+        .collect(alloc)
+}
+
+/// Texts: `copied`, `take`, `map`, `chain`.
+pub fn first_lengths_and_more(
+    alloc: Global,
+    names: &NEVec<&str>,
+    more: Vec<usize>,
+    n: NonZeroUsize,
+) -> Result<NEVec<usize>, AllocError>
+    ensures { IfOk result (λ v. v
+        ≡ map (λ t. length t.now) (take (non_zero_usize_get n) names.now) ++ more.items) }
+{
+    names
+        .nonempty_iter()
+        .copied()
+        .take(n)
+        .map(|t| t.len())
+        .chain(more)
+        .collect(alloc)
+}
+
+/// `peekable`, `map`, `skip`.
+pub fn later_halves(alloc: Global, items: NEVec<u32>) -> Result<Vec<u32>, AllocError>
+    ensures { IfOk result (λ v. v.items ≡ drop 2 (map (λ x. x / 2) items)) }
+{
+    items
+        .into_nonempty_iter()
+        .peekable()
+        .map(|x| x / 2)
+        .skip(2)
+        .collect(alloc)
+}
+
+/// Vectors in a vector: `flatten`, `map`, `take`.
+pub fn first_halves_of_all(
+    alloc: Global,
+    vectors: NEVec<NEVec<u32>>,
+    n: NonZeroUsize,
+) -> Result<NEVec<u32>, AllocError>
+    ensures { IfOk result (λ v. v ≡ take (non_zero_usize_get n)
+        (map (λ x. x / 2) (flat_map (λ items. items) vectors))) }
+{
+    vectors
+        .into_nonempty_iter()
+        .flatten()
+        .map(|x| x / 2)
+        .take(n)
+        .collect(alloc)
+}
+
+/// An array by reference and a vector: `copied`, `zip`, `take` into a map.
+pub fn table_of_first(
+    alloc: Global,
+    keys: &[u32; 4],
+    values: NEVec<u32>,
+    n: NonZeroUsize,
+) -> Result<BTreeMap<u32, u32>, AllocError>
+    ensures { IfOk result (λ m. IsMapOf nat_eq
+        (take (non_zero_usize_get n) (zip keys.now values)) m.entries) }
+{
+    keys.into_nonempty_iter()
+        .copied()
+        .zip(values)
+        .take(n)
+        .collect(alloc)
+}

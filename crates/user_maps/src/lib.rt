@@ -1,0 +1,13 @@
+//! Lists of calls on maps, as a user writes them, and a map of a user's own.
+//!
+//! This crate is no part of the library. It stands for a user's: what is proved here, a user of the
+//! library can prove.
+#![tactic(auto)]
+
+mod callers;
+mod own;
+
+pub use callers::{
+    any_calls, count_and_put, no_calls, put_and_ask, put_twice, write_and_ask, write_there,
+};
+pub use own::PairMap;

@@ -1,0 +1,115 @@
+//! Towers over inner sources and over two sources, into one collection and into two.
+ghost use Rattle.std.specs.Prelude.{◌≡◌, ◌^◌, ◌<◌, ◌∷◌, [], IfOk, flat_map, take};
+ghost use Rattle.std.specs.Iterator.{IsFinite, IsFiniteIterable, CallableOnAll, size};
+ghost use Rattle.std.specs.Int.NonZero.{non_zero_usize_get};
+ghost use Rattle.std.specs.List.{enumerate_from};
+ghost use Rattle.user_towers.specs.Own.{counted_down, start_of};
+ghost use Rattle.user_towers.specs.Wide.{IsSpread, IsSpreadOfPairs, IsParted};
+
+use crate::Countdown;
+use nonempty_collections::iter::{FromNonEmptyIterator, NonEmptyIterator, SourceWords};
+use nonempty_collections::laws::{
+    arrays_give_their_items, calls_of_a_function, first_items_stay_first, lists_follow_one_another,
+    sources_give_what_is_left,
+};
+use nonempty_collections::{IntoNonEmptyIterator, NEVec, Singleton};
+use std::alloc::{AllocError, Global};
+use std::num::NonZeroUsize;
+
+/// The items of what `f` answers on the items of `source`, with their places: the first `n` of
+/// them, collected. The first item is looked at on the way.
+pub fn spread<
+    U: Drop,
+    W: IntoNonEmptyIterator<Item = U>,
+    S: NonEmptyIterator,
+    F: FnMut(S::Item) -> W,
+    B: FromNonEmptyIterator<(usize, U)>,
+>(alloc: Global, source: S, f: F, n: NonZeroUsize) -> Result<B, AllocError>
+    requires ends { IsFiniteIterable S.into_iter_gives S.IntoIter.can_next S.IntoIter.remaining
+        source }
+    requires callable { (it : S.IntoIter) → S.into_iter_gives source it
+        → CallableOnAll S.IntoIter.next_gives F.FnMut it f }
+    requires inner_ends { (inner : W) (it : W.IntoIter) → W.into_iter_gives inner it
+        → W.IntoIter.can_next it × IsFinite (W.IntoIter.remaining it)
+        × (size (W.IntoIter.remaining it) < 2 ^ 64) }
+    ensures { IfOk result (IsSpread (⟦<S as SourceWords>⟧.reads) F.FnMut
+        (⟦<W as SourceWords>⟧.reads) B.is_complete B.collected source f (non_zero_usize_get n)) }
+{
+    source
+        .flat_map(f)
+        .peekable()
+        .take(n)
+        .enumerate()
+        .collect(alloc)
+}
+
+/// The same over the pairs of two sources.
+pub fn spread_pairs<
+    U: Drop,
+    W: IntoNonEmptyIterator<Item = U>,
+    S: NonEmptyIterator,
+    O: IntoNonEmptyIterator,
+    F: FnMut((S::Item, O::Item)) -> W,
+    B: FromNonEmptyIterator<(usize, U)>,
+>(alloc: Global, source: S, other: O, f: F, n: NonZeroUsize) -> Result<B, AllocError>
+where
+    S::Item: Drop,
+    requires ends { IsFiniteIterable S.into_iter_gives S.IntoIter.can_next S.IntoIter.remaining
+        source }
+    requires other_ends { IsFiniteIterable O.into_iter_gives O.IntoIter.can_next
+        O.IntoIter.remaining other }
+    requires callable { F.IsAlwaysCallable f }
+    requires inner_ends { (inner : W) (it : W.IntoIter) → W.into_iter_gives inner it
+        → W.IntoIter.can_next it × IsFinite (W.IntoIter.remaining it)
+        × (size (W.IntoIter.remaining it) < 2 ^ 64) }
+    ensures { IfOk result (IsSpreadOfPairs (⟦<S as SourceWords>⟧.reads) (⟦<O as SourceWords>⟧.reads)
+        F.FnMut (⟦<W as SourceWords>⟧.reads) B.is_complete B.collected source other f
+        (non_zero_usize_get n)) }
+{
+    spread(alloc, source.zip(other), f, n)
+}
+
+/// The numbers of a countdown, each twice: its list is written out.
+pub fn spread_countdown(
+    alloc: Global,
+    source: Countdown,
+    n: NonZeroUsize,
+) -> Result<NEVec<(usize, u32)>, AllocError>
+    ensures { IfOk result (λ v. v ≡ take (non_zero_usize_get n)
+        (enumerate_from 0 (flat_map (λ x. x ∷ x ∷ []) (counted_down (start_of source))))) }
+{
+    let twice = |x: u32| -> [u32; 2]
+        ensures { result ≡ x ∷ x ∷ [] }
+    { [x, x] };
+    arrays_give_their_items::<u32, 2>();
+    sources_give_what_is_left::<Countdown>();
+    calls_of_a_function(&twice);
+    lists_follow_one_another::<[u32; 2]>();
+    first_items_stay_first::<u32, [u32; 2]>();
+    first_items_stay_first::<(usize, u32), u32>();
+    spread(alloc, source, twice, n)
+}
+
+/// The answers of `f` on the items of `source` in pairs with the items of `other`: the first `n` of
+/// them, parted into two collections.
+pub fn parted<
+    U: Drop,
+    D: Drop,
+    S: NonEmptyIterator,
+    F: FnMut(S::Item) -> U,
+    O: IntoNonEmptyIterator<Item = D>,
+    R: Singleton<Item = U> + Drop,
+    Q: Singleton<Item = D> + Drop,
+>(alloc: Global, source: S, f: F, other: O, n: NonZeroUsize) -> Result<(R, Q), AllocError>
+    requires ends { IsFiniteIterable S.into_iter_gives S.IntoIter.can_next S.IntoIter.remaining
+        source }
+    requires other_ends { IsFiniteIterable O.into_iter_gives O.IntoIter.can_next
+        O.IntoIter.remaining other }
+    requires callable { (it : S.IntoIter) → S.into_iter_gives source it
+        → CallableOnAll S.IntoIter.next_gives F.FnMut it f }
+    ensures { IfOk result (IsParted (⟦<S as SourceWords>⟧.reads) F.FnMut
+        (⟦<O as SourceWords>⟧.reads) R.collected Q.collected source f other
+        (non_zero_usize_get n)) }
+{
+    source.map(f).zip(other).take(n).unzip(alloc)
+}
