@@ -1,7 +1,8 @@
-// The workloads of `crates/bench` over the Rust crate `nonempty-collections`: what the port's speed is compared with. The steps and the
+// The workloads of `crates/test_bench` over the Rust crate `nonempty-collections`: what the port's speed is compared with. The steps and the
 // numbers are those of the port.
-use nonempty_collections::{IntoNonEmptyIterator, NEVec, NonEmptyIterator};
+use nonempty_collections::{IntoNonEmptyIterator, NEBTreeMap, NEBTreeSet, NEIndexMap, NEIndexSet, NEMap, NESet, NEVec, NonEmptyIterator};
 use std::collections::{BTreeMap, HashMap};
+use std::hash::{BuildHasherDefault, Hasher, RandomState};
 use std::num::NonZeroUsize;
 use std::process::ExitCode;
 
@@ -120,7 +121,7 @@ fn checksum(name: &str, n: NonZeroUsize) -> Option<u64> {
         "scan" => scan(n),
         "hash_map" => hash_map(n),
         "tree_map" => tree_map(n),
-        _ => return None,
+        _ => return keyed(name, n),
     })
 }
 
@@ -301,3 +302,184 @@ fn tree_map(n: NonZeroUsize) -> u64 {
     }
     checksum
 }
+
+// Maps and sets: `hash_*` and `index_*` with the hashes of the port's default hasher, and with `_default` behind the name with those of
+// the Rust crate's own.
+
+type Folding = BuildHasherDefault<Fold>;
+
+// The port's default hasher, of keys of eight bytes.
+struct Fold(u64);
+
+impl Default for Fold {
+    fn default() -> Fold {
+        Fold(0x243f_6a88_85a3_08d3)
+    }
+}
+
+impl Hasher for Fold {
+    fn finish(&self) -> u64 {
+        self.0
+    }
+    fn write(&mut self, bytes: &[u8]) {
+        let mut word = [0; 8];
+        word.copy_from_slice(bytes);
+        let product = u128::from(self.0 ^ u64::from_le_bytes(word)) * u128::from(0x9e37_79b9_7f4a_7c15 ^ 16u64);
+        self.0 = product as u64 ^ (product >> 64) as u64;
+    }
+}
+
+fn keyed(name: &str, n: NonZeroUsize) -> Option<u64> {
+    let (kind, step) = name.split_once('_')?;
+    match (kind, step.strip_suffix("_default")) {
+        ("tree", None) => of::<NEBTreeMap<u64, u64>, NEBTreeSet<u64>>(step, n),
+        ("hash", None) => of::<NEMap<u64, u64, Folding>, NESet<u64, Folding>>(step, n),
+        ("hash", Some(step)) => of::<NEMap<u64, u64>, NESet<u64>>(step, n),
+        ("index", None) => of::<NEIndexMap<u64, u64, Folding>, NEIndexSet<u64, Folding>>(step, n),
+        ("index", Some(step)) => of::<NEIndexMap<u64, u64, RandomState>, NEIndexSet<u64, RandomState>>(step, n),
+        _ => None,
+    }
+}
+
+fn of<M: Table, S: Bag>(step: &str, n: NonZeroUsize) -> Option<u64> {
+    let half = n.get() as u64 / 2;
+    Some(match step {
+        "insert" => inserted::<M>(n).length(),
+        "collect" => M::of_all(paired(n)).length(),
+        "look_up" => look_up(&M::of_all(paired(n)), n),
+        "walk" => M::of_all(paired(n)).combined(),
+        "maps" => mixed(M::of_all(paired(n)).length(), M::of_all(paired(n)).length()),
+        "equal" => u64::from(M::of_all(paired(n)).is_same(&M::of_all(paired(n)))),
+        "sets" => mixed(numbers::<S>(n, 0).length(), numbers::<S>(n, half).length()),
+        "union" => numbers::<S>(n, 0).united(&numbers::<S>(n, half)),
+        "set_equal" => u64::from(numbers::<S>(n, 0).is_same(&numbers::<S>(n, 0))),
+        _ => return None,
+    })
+}
+
+fn inserted<M: Table>(n: NonZeroUsize) -> M {
+    let mut map = M::of_one(0, 0);
+    for (key, value) in paired(n) {
+        map.put(key, value);
+    }
+    map
+}
+
+fn look_up<M: Table>(map: &M, n: NonZeroUsize) -> u64 {
+    let mut state = 1u64;
+    let mut checksum = 0u64;
+    for _ in 0..n.get() {
+        state = next(state);
+        checksum = mixed(checksum, map.found((state >> 11) % n.get() as u64));
+    }
+    checksum
+}
+
+fn numbers<S: Bag>(n: NonZeroUsize, least: u64) -> S {
+    let mut items = scrambled(n);
+    for x in &mut items {
+        *x = (*x % n.get() as u64).wrapping_add(least);
+    }
+    S::of_all(items)
+}
+
+trait Table {
+    fn of_one(key: u64, value: u64) -> Self;
+    fn of_all(pairs: NEVec<(u64, u64)>) -> Self;
+    fn put(&mut self, key: u64, value: u64);
+    fn found(&self, key: u64) -> u64;
+    fn length(&self) -> u64;
+    fn combined(&self) -> u64;
+    fn is_same(&self, other: &Self) -> bool;
+}
+
+trait Bag {
+    fn of_all(items: NEVec<u64>) -> Self;
+    fn length(&self) -> u64;
+    fn united(&self, other: &Self) -> u64;
+    fn is_same(&self, other: &Self) -> bool;
+}
+
+// How a checksum and a pair, or an item, make one: in their order, or so that it tells nothing of that.
+fn in_order(checksum: u64, x: u64) -> u64 {
+    mixed(checksum, x)
+}
+
+fn in_any(checksum: u64, x: u64) -> u64 {
+    checksum.wrapping_add(x)
+}
+
+macro_rules! table {
+    ($map:ty, $one:expr, $pair:expr) => {
+        impl Table for $map {
+            fn of_one(key: u64, value: u64) -> Self {
+                $one(key, value)
+            }
+            fn of_all(pairs: NEVec<(u64, u64)>) -> Self {
+                pairs.into_nonempty_iter().collect()
+            }
+            fn put(&mut self, key: u64, value: u64) {
+                self.insert(key, value);
+            }
+            fn found(&self, key: u64) -> u64 {
+                self.get(&key).copied().unwrap_or(1)
+            }
+            fn length(&self) -> u64 {
+                self.len().get() as u64
+            }
+            fn combined(&self) -> u64 {
+                let mut checksum = 0u64;
+                for (key, value) in self {
+                    checksum = $pair(checksum, *key, *value);
+                }
+                checksum
+            }
+            fn is_same(&self, other: &Self) -> bool {
+                *self == *other
+            }
+        }
+    };
+}
+
+fn pair_in_order(checksum: u64, key: u64, value: u64) -> u64 {
+    mixed(mixed(checksum, key), value)
+}
+
+fn pair_in_any(checksum: u64, key: u64, value: u64) -> u64 {
+    checksum.wrapping_add(mixed(key, value))
+}
+
+table!(NEBTreeMap<u64, u64>, NEBTreeMap::new, pair_in_order);
+table!(NEMap<u64, u64>, NEMap::new, pair_in_any);
+table!(NEMap<u64, u64, Folding>, |k, v| NEMap::with_hasher(Folding::default(), k, v), pair_in_any);
+table!(NEIndexMap<u64, u64, RandomState>, NEIndexMap::new, pair_in_order);
+table!(NEIndexMap<u64, u64, Folding>, |k, v| NEIndexMap::with_hasher(Folding::default(), k, v), pair_in_order);
+
+macro_rules! bag {
+    ($set:ty, $item:expr) => {
+        impl Bag for $set {
+            fn of_all(items: NEVec<u64>) -> Self {
+                items.into_nonempty_iter().collect()
+            }
+            fn length(&self) -> u64 {
+                self.len().get() as u64
+            }
+            fn united(&self, other: &Self) -> u64 {
+                let mut checksum = 0u64;
+                for x in self.union(other) {
+                    checksum = $item(checksum, *x);
+                }
+                checksum
+            }
+            fn is_same(&self, other: &Self) -> bool {
+                *self == *other
+            }
+        }
+    };
+}
+
+bag!(NEBTreeSet<u64>, in_order);
+bag!(NESet<u64>, in_any);
+bag!(NESet<u64, Folding>, in_any);
+bag!(NEIndexSet<u64>, in_order);
+bag!(NEIndexSet<u64, Folding>, in_order);

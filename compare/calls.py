@@ -8,6 +8,7 @@ from collections import namedtuple
 
 from program import HERE
 
+CRATE, TWIN = "test_replay", "replay"
 GREATEST = 2**32 - 1
 EDGES = sorted({x for power in range(33) for x in (2**power - 1, 2**power, 2**power + 1) if x <= GREATEST} | {0})
 # The closures, the simplest first. Those of PURE answer by the number that they are shown alone, the others by their state too.
@@ -234,9 +235,115 @@ def long_scripts(chance):
         yield [setting(items), *a_call(chance, name, items)]
 
 
+# Worked rows of a vector's calls, in front of the sample: each is what its name says in small.
+ROWS = """
+new 7
+push 8
+from_elem 3 1
+with_capacity 5 1
+from_parts 1 2 3 4 5
+try_from_slice
+try_from_slice 1 2
+try_from_vec
+try_from
+try_from 1 2
+into_vec
+new 1
+split
+split_first
+first
+last
+len
+is_empty
+pop
+remove 7
+swap_remove 7
+try_from_vec 1 2 3 4
+swap_remove 1
+swap_remove 2
+remove 0
+pop
+push 5
+pop
+try_from_vec 1 2 3
+insert 1 4
+insert 4 5
+insert 0 42
+new 1
+append 2 3
+extend 4 5 6
+truncate 2
+truncate 9
+reverse
+try_from_vec 1 3
+retain
+retain_mut
+try_from_vec 0 1 2 3
+retain tens
+retain
+try_from_vec 10 20 30
+contains 20
+contains 25
+get 2
+get 3
+index 1
+capacity
+as_ref
+first_mut 11
+last_mut 31
+index_mut 1 21
+get_mut 1 22
+get_mut 3 9
+as_mut_slice
+try_from_vec 1 5 4 3 2 1
+sort
+try_from_vec 10 20 21 30 20
+dedup_by_key tens
+try_from_vec 1 2
+into_iter
+into_nonempty_iter
+eq 1 2
+eq 1 2 0
+lt 1 2 0
+cmp 1 2
+cmp 1 1
+partial_cmp 1 3
+hash 1 2
+hash 2 1
+try_from_vec 1 2 3
+find
+any
+try_from_vec 2 1 3
+all
+try_from_vec 2 4 7 8 9
+skip_while
+take_while
+try_from_vec 7 5 6
+map total
+try_from_vec 7 5
+flat_map total
+"""
+
+
+def rows():
+    """A script of the worked rows."""
+    split = [row.split() for row in ROWS.strip().splitlines()]
+    named = [(name, [it for it in words if not it.isdigit()], words) for name, *words in split]
+    return [(name, "".join(closure), tuple(it for it in words if it.isdigit())) for name, closure, words in named]
+
+
+def scripts(chance, count):
+    return {"small": small_scripts(), "random": random_scripts(chance, count), "long": long_scripts(chance)}
+
+
+def counted(script):
+    """What is counted of a script: its calls, without the line that it begins with."""
+    return [("vector", name) for name, _, _ in script[1:]]
+
+
 def sample():
-    """A script with each call twice, each time but for those that make a vector over the same one."""
-    script = []
+    """The worked rows, and then each call twice, each time but for those that make a vector over the same one."""
+    script = rows()
     for turn, items in enumerate([(3, 1, 4, 1, 5, 9, 2, 6), (7, 7, 0, 12, 12, 35, GREATEST)]):
         is_set = False
         for name, row in CALLS.items():
@@ -256,12 +363,17 @@ def text(scripts):
     return "".join(f"{line(call)}\n" for script in scripts for call in script).encode()
 
 
-def unlisted():
-    """The names that either the program or this table lacks."""
+def arms(crate):
+    """The names of calls in a program's arms."""
     named = set()
-    for path in glob.glob(os.path.join(HERE, os.pardir, "crates", "replay", "src", "*.rt")):
+    for path in glob.glob(os.path.join(HERE, os.pardir, "crates", crate, "src", "*.rt")):
         if os.path.basename(path) != "closure.rt":
             with open(path) as it:
                 for arm in re.findall(r'^ *(".*?)=>|call\.name [!=]= ("\w+")', it.read(), re.M):
                     named.update(re.findall(r'"(\w+)"', "".join(arm)))
-    return sorted(named ^ set(NAMES))
+    return named
+
+
+def unlisted():
+    """The names that either the program or this table lacks."""
+    return sorted(arms(CRATE) ^ set(NAMES))

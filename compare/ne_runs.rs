@@ -1,4 +1,5 @@
 // `ne_runs` in plain Rust, with its modes, checks and faults: what the port's speed is compared with.
+use std::collections::HashSet;
 use std::fmt::{self, Display, Write as _};
 use std::io::{self, Read, Write};
 use std::process::ExitCode;
@@ -42,6 +43,7 @@ enum Mode {
     Stats,
     Equal,
     Parity,
+    Distinct,
     Near,
     Chain,
 }
@@ -55,6 +57,7 @@ impl Mode {
             "stats" => Mode::Stats,
             "equal" => Mode::Equal,
             "parity" => Mode::Parity,
+            "distinct" => Mode::Distinct,
             "near" => Mode::Near,
             "chain" => Mode::Chain,
             _ => return None,
@@ -73,10 +76,17 @@ impl Mode {
             }
             Mode::Equal => rows(numbers.chunk_by(|m, n| m == n)),
             Mode::Parity => rows(numbers.chunk_by(|m, n| m % 2 == n % 2)),
+            Mode::Distinct => rows(std::iter::once(distinct(numbers).as_slice())),
             Mode::Near => rows(NearRuns(numbers)),
             Mode::Chain => rows(numbers.chunk_by(|m, n| m.abs_diff(*n) <= 1)),
         })
     }
+}
+
+// Each number once, in the order in which they come first.
+fn distinct(numbers: &[u32]) -> Vec<u32> {
+    let mut seen = HashSet::new();
+    numbers.iter().copied().filter(|number| seen.insert(*number)).collect()
 }
 
 // The runs of numbers that differ from their run's first by at most 1.

@@ -70,6 +70,10 @@ def parity(numbers):
     return runs(numbers, lambda m, n: m % 2 == n % 2)
 
 
+def distinct(numbers):
+    return [list(dict.fromkeys(numbers))]
+
+
 def is_near(m, n):
     return abs(m - n) <= 1
 
@@ -87,6 +91,7 @@ MODES = {
     "stats": stats,
     "equal": equal,
     "parity": parity,
+    "distinct": distinct,
     "near": near,
     "chain": chain,
 }

@@ -1,4 +1,4 @@
-// The calls of `crates/replay` over the Rust crate `nonempty-collections`, which the port is compared with. What it reads and prints is
+// The calls of `crates/test_replay` over the Rust crate `nonempty-collections`, which the port is compared with. What it reads and prints is
 // the same, and its functions are named after the port's.
 #![allow(deprecated)]
 use nonempty_collections::iter::once;

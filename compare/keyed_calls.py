@@ -1,0 +1,215 @@
+"""The calls on maps and sets that `compare/replay` makes, and its scripts of them, in the form of `calls.py`. A script begins with the kind
+of the map or the set, and its numbers: of a map keys and values by turns. Two keys are equal where their halves are."""
+
+import itertools
+from collections import namedtuple
+
+from calls import CHANGES, EDGES, GREATEST, MAKES, READS, Kind, a_place, an_item, arms, lists, single
+
+CRATE, TWIN = "test_replay_keyed", "replay_keyed"
+MAPS = ["tree_map", "hashed_map", "indexed_map"]
+SETS = ["tree_set", "hashed_set", "indexed_set"]
+SUBJECTS = MAPS + SETS
+
+
+def valued(keys):
+    """A map's numbers: each key has its place for a value."""
+    return tuple(itertools.chain(*((key, place) for place, key in enumerate(keys, 1))))
+
+
+def some_keys(chance, keys):
+    return tuple(an_item(chance, keys) for _ in range(chance.choice([0, 1, 2, 3, 5, len(keys)])))
+
+
+def like_keys(chance, keys):
+    """All keys, or almost, the first ones or some, in any order; as they are or each as the key that equals it."""
+    keys = chance.choice([keys, keys[: len(keys) // 2 + 1], (*keys, an_item(chance, keys)), some_keys(chance, keys)])
+    keys = [key ^ chance.choice([0, 0, 1]) for key in keys] or [an_item(chance, [0])]
+    return tuple(chance.sample(keys, len(keys)) if chance.random() < 0.5 else keys)
+
+
+def same_pairs(chance, keys):
+    """Pairs that make the same map, or almost."""
+    pairs = list(enumerate(keys, 1))
+    chance.shuffle(pairs)
+    pairs = pairs if chance.random() < 0.5 else pairs[1:] + [(chance.randrange(9), an_item(chance, keys))]
+    return tuple(itertools.chain(*((key, value) for value, key in pairs)))
+
+
+SMALL_MAPS = [valued(it) for it in lists(0, 2, range(3))]
+# What a call's numbers may be, as in `calls.py`; those by chance are made beside the keys.
+KINDS = {
+    "key": Kind(single(range(4)), single([0, 3]), single([8, 5]), lambda chance, keys: (an_item(chance, keys),)),
+    "value": Kind(single([7]), single([7]), single([50, 60]), lambda chance, keys: (chance.choice([0, 1, 7, GREATEST]),)),
+    "place": Kind(single(range(3)), single([0, 1]), single([1, 7]), lambda chance, keys: (a_place(chance, keys),)),
+    # a size of what is made: never far above the length, as EXCUSED says
+    "size": Kind(single(range(1, 3)), single([2]), single([3, 9]), lambda chance, keys: (chance.randrange(len(keys) + 2),)),
+    "keys": Kind(lists(0, 2, range(3)), [(), (1, 4)], [(9, 4, 20), (5, 11)], some_keys),
+    "pairs": Kind(SMALL_MAPS, [(), (1, 8, 4, 9)], [(9, 1, 4, 2, 20, 3), (5, 1, 11, 2)], lambda *made: valued(some_keys(*made))),
+    "other": Kind(lists(1, 2, range(4)), [(1, 4)], [(3, 1, 4, 15, 9), (13, 0, 2, 9, 7)], like_keys),
+    "map": Kind(SMALL_MAPS[1:], [(1, 8)], [(9, 2, 3, 1), (13, 6, 0, 4, 2, 2, 9, 7, 7, 5)], same_pairs),
+}
+
+# Names of calls, the kinds that have them, the kinds of their numbers, and what they do. A new call is a new name.
+ROWS = [
+    ("new singleton written_one", MAPS, "key value", MAKES),
+    ("written_two", MAPS, "key value key value", MAKES),
+    ("collect try_from_map", MAPS, "pairs", MAKES),
+    ("try_from", MAPS[:2], "pairs", MAKES),
+    ("with_hasher", MAPS[1:], "key value", MAKES),
+    ("with_capacity with_capacity_and_hasher", MAPS[1:], "key value size", MAKES),
+    ("insert get_mut", MAPS, "key value", CHANGES),
+    ("extend", MAPS, "pairs", CHANGES),
+    ("iter_mut nonempty_iter_mut mut_into_iter", MAPS[:2], "value", CHANGES),
+    ("swap_indices", MAPS[2:], "place place", CHANGES),
+    ("shrink_to_fit", MAPS[1:] + SETS[1:], "", CHANGES),
+    ("len as_ref debug clone", SUBJECTS, "", READS),
+    ("is_empty capacity", MAPS[1:] + SETS[1:], "", READS),
+    ("iter nonempty_iter ref_into_iter ref_into_nonempty_iter into_iter into_nonempty_iter", SUBJECTS, "", READS),
+    ("keys values into_map", MAPS, "", READS),
+    ("contains_key get get_key_value", MAPS, "key", READS),
+    ("eq", MAPS, "map", READS),
+    ("first last nonempty_iter_clone keys_clone values_clone", MAPS[2:], "", READS),
+    ("get_index_of", MAPS[2:], "key", READS),
+    ("index", MAPS[2:], "place", READS),
+    ("new singleton written_one", SETS, "key", MAKES),
+    ("written_two", SETS, "key key", MAKES),
+    ("collect try_from_set try_from", SETS, "keys", MAKES),
+    ("with_hasher", SETS[1:], "key", MAKES),
+    ("with_capacity with_capacity_and_hasher", SETS[1:], "key size", MAKES),
+    ("insert replace", SETS, "key", CHANGES),
+    ("extend", SETS, "keys", CHANGES),
+    ("reserve", SETS[1:], "size", CHANGES),
+    ("into_set", SETS, "", READS),
+    ("contains get", SETS, "key", READS),
+    ("eq is_disjoint is_subset is_superset difference intersection union union_next", SETS, "other", READS),
+]
+Row = namedtuple("Row", "kinds does")
+CALLS = {
+    (subject, name): Row([KINDS[kind] for kind in kinds.split()], does)
+    for names, subjects, kinds, does in ROWS
+    for subject in subjects
+    for name in names.split()
+}
+# All that is left out on purpose, and why.
+EXCUSED = [
+    (
+        "with_capacity, with_capacity_and_hasher, reserve: sizes far above the length",
+        "where there is no memory the Rust crate ends the process, and the port answers AllocError",
+    ),
+    (
+        "index, swap_indices: places out of range",
+        "the Rust crate panics; in the port that they are in range is a condition of the call. Both programs say so and make no call",
+    ),
+    (
+        "intersection of tree sets, where one has 16 times the items of the other, or its set is not known",
+        "where the first set is so much larger Rust's std may give the second set's one of two equal items; the port gives the first set's",
+    ),
+    ("capacity: how much", "the standard library's affair; told is that it is at least the length"),
+    ("hashed maps and sets: the order of walks and of what is printed", "it is open in both; told is what they give, sorted"),
+    ("hasher", "a hasher has no equality; tests of the crates hold that the one that was given is kept"),
+    ("as_mut, values_mut and writing walks of index maps, Debug of walks", "the port leaves them out"),
+]
+
+
+def counted(script):
+    """What is counted of a script: its calls, without the line that it begins with."""
+    return [(script[0][0], name) for name, _, _ in script[1:]]
+
+
+def is_open(script, call):
+    """Whether the call behind this script is an intersection of tree sets that EXCUSED names. No change stands before one that is not."""
+    if (script[0][0], call[0]) != ("tree_set", "intersection"):
+        return False
+    mine, other = ({key // 2 for key in numbers or (0,)} for numbers in (script[0][2], call[2]))
+    is_changed = any(CALLS[made].does != READS for made in counted(script))
+    return is_changed or len(mine) >= 16 * len(other) or len(other) >= 16 * len(mine)
+
+
+def is_allowed(script):
+    """Whether a script begins with its map or set, and makes calls that it has, none of which is open."""
+    if script[0][0] not in SUBJECTS or not script[0][2] or not all(call in CALLS for call in counted(script)):
+        return False
+    return not any(is_open(script[:place], script[place]) for place in range(1, len(script)))
+
+
+def setting(subject, keys):
+    return subject, "", valued(keys) if subject in MAPS else tuple(keys)
+
+
+def names_of(subject, *does):
+    return [name for (it, name), row in CALLS.items() if it == subject and (row.does in does or not does)]
+
+
+def each_call(subject, name, values):
+    """Every call of this name, at these values of each kind of number."""
+    for numbers in itertools.product(*map(values, CALLS[subject, name].kinds)):
+        yield name, "", tuple(itertools.chain(*numbers))
+
+
+def small_scripts():
+    """Each call over each map and set of one to three small keys, and each pair of two that change it over each of one or two."""
+    for subject in SUBJECTS:
+        single_calls = [call for name in names_of(subject) for call in each_call(subject, name, lambda kind: kind.small)]
+        for keys, call in itertools.product(lists(1, 3, range(4)), single_calls):
+            yield [setting(subject, keys), call]
+        changes = [call for name in names_of(subject, CHANGES, MAKES) for call in each_call(subject, name, lambda kind: kind.few)]
+        for keys, *pair in itertools.product(lists(1, 2, range(3)), changes, changes):
+            yield [setting(subject, keys), *pair]
+
+
+def a_call(chance, subject, name, keys):
+    return name, "", tuple(itertools.chain(*(kind.random(chance, keys) for kind in CALLS[subject, name].kinds)))
+
+
+def random_scripts(chance, count):
+    """So many calls by chance of each kind."""
+    for subject in SUBJECTS:
+        left, names = count, names_of(subject)
+        while left > 0:
+            size = min(left, chance.randint(1, 12))
+            pool = chance.choice([range(10), range(10), range(100), EDGES, [chance.randrange(2**32) for _ in range(30)]])
+            keys = tuple(chance.choices(pool, k=chance.randint(1, 40)))
+            script = [setting(subject, keys)]
+            while len(script) <= size:
+                call = a_call(chance, subject, chance.choice(names), keys)
+                script += [] if is_open(script, call) else [call]
+            yield script
+            left -= size
+
+
+def long_scripts(chance):
+    """Each call over maps and sets of 1, 2, 10 and 10,000 keys in rising, falling and scrambled order."""
+    for length, subject in itertools.product((1, 2, 10, 10_000), SUBJECTS):
+        rising = [2 * place + chance.randrange(2) for place in range(length)]
+        for keys in rising, rising[::-1], chance.sample(rising, length):
+            keys = tuple(keys)
+            made = [setting(subject, keys)]
+            looks = [a_call(chance, subject, name, keys) for name in names_of(subject, READS)]
+            yield made + [call for call in looks if not is_open(made, call)]
+            for name in names_of(subject, CHANGES, MAKES):
+                yield [setting(subject, keys), a_call(chance, subject, name, keys)]
+
+
+def scripts(chance, count):
+    return {"small": small_scripts(), "random": random_scripts(chance, count), "long": long_scripts(chance)}
+
+
+def sample():
+    """A script with each call, twice where one kind alone has it. Those that make a map or a set come last."""
+    script = []
+    for turn, subject in enumerate(SUBJECTS):
+        script.append(setting(subject, (6, 3, 8, 1, 7, 12, 9)))
+        for does in READS, CHANGES, MAKES:
+            for name in names_of(subject, does):
+                is_single = sum(it == name for _, it in CALLS) == 1
+                for again in range(1 + is_single):
+                    kinds = CALLS[subject, name].kinds
+                    numbers = (it.telling[(turn + again + kinds[:place].count(it)) % 2] for place, it in enumerate(kinds))
+                    script.append((name, "", tuple(itertools.chain(*numbers))))
+    return script
+
+
+def unlisted():
+    """The names that either the program or this table lacks."""
+    return sorted(arms(CRATE) ^ {*SUBJECTS, *(name for _, name in CALLS)})
