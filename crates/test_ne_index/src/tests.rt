@@ -9,6 +9,7 @@ mod sets;
 use nonempty_collections::{NEIndexMap, NEIndexSet, neim};
 use std::alloc::{AllocError, Global};
 use std::fmt::Debug;
+use std::hash::BuildHasher;
 use std::test::Fail;
 
 // Fails if the two values differ, and says what both are.
@@ -24,6 +25,20 @@ fn is<T: PartialEq + Debug + Drop>(given: T, wanted: T) -> Result<(), Fail> {
 fn prints<T: Debug>(alloc: Global, value: &T, wanted: &str) -> Result<(), Fail> {
     let text = format!(in alloc; "{value:?}")?;
     is(text.as_str(), wanted)
+}
+
+// Exchanges the pairs at two places, and fails if one of them is not there.
+fn exchange<V: Drop, S: BuildHasher + Drop>(
+    map: &mut NEIndexMap<u32, V, S>,
+    a: usize,
+    b: usize,
+) -> Result<(), Fail> {
+    if a < map.len().get() && b < map.len().get() {
+        map.swap_indices(a, b);
+        Ok(())
+    } else {
+        Err("no such place")?
+    }
 }
 
 // A map of scores, as the rows have it.

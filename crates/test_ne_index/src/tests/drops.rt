@@ -1,7 +1,7 @@
 //! Which of two equal keys or items stands, and what is dropped: by tokens that count their owners.
 //! Two tokens of the same number are equal.
 
-use super::is;
+use super::{exchange, is};
 use nonempty_collections::{NEIndexMap, NEIndexSet, NonEmptyIterator};
 use std::alloc::Global;
 use std::rc::Rc;
@@ -45,7 +45,7 @@ fn values_come_back(rt: HostRuntime) -> Result<(), Fail> {
     left(&a, &b, (1, 1))?;
     drop(old);
     map.insert(2, another(&b)?)?;
-    map.swap_indices(0, 1);
+    exchange(&mut map, 0, 1)?;
     left(&a, &b, (0, 2))?;
     drop(map);
     left(&a, &b, (0, 0))

@@ -1,7 +1,7 @@
 //! Maps and sets over a hasher of one's own, which is told from others by its number, and of keys
 //! whose equality and hash look at a part alone.
 
-use super::{is, prints};
+use super::{exchange, is, prints};
 use indexmap::{IndexMap, IndexSet};
 use nonempty_collections::{NEIndexMap, NEIndexSet, NonEmptyIterator, neim, neis};
 use std::hash::{BuildHasher, BuildHasherDefault, FoldHasher, Hash, Hasher};
@@ -79,32 +79,39 @@ impl Hash for Named {
 #[test]
 fn map_keeps_its_hasher(rt: HostRuntime) -> Result<(), Fail> {
     let alloc = rt.alloc();
-    let four = NonZeroUsize::new(4).ok_or("zero")?;
     let map = NEIndexMap::with_hasher(alloc, Marked::new(5), 1, 'x')?;
     prints(alloc, &map, "{1: 'x'}")?;
     is(map.hasher().mark, 5)?;
     let inner: IndexMap<u32, char, Marked> = IndexMap::from(map);
     let mut map = NEIndexMap::try_from_map(inner).ok_or("empty")?;
+    is(map.hasher().mark, 5)?;
     map.insert(2, 'b')?;
     map.extend([(3, 'c')])?;
     map.shrink_to_fit()?;
-    map.swap_indices(0, 2);
+    exchange(&mut map, 0, 2)?;
     is(map.hasher().mark, 5)?;
-    is(map.clone()?.hasher().mark, 5)?;
-    let other = NEIndexMap::with_capacity_and_hasher(alloc, four, Marked::new(6), 1, 'x')?;
-    prints(alloc, &other, "{1: 'x'}")?;
-    is(other.hasher().mark, 6)?;
-    is(other.capacity().get() >= 4, true)?;
-    is(map == other, false)?;
-    let other = NEIndexMap::with_capacity(alloc, four, 1, 'x')?;
-    is(other.capacity().get() >= 4, true)?;
-    prints(alloc, &other, "{1: 'x'}")
+    is(map.clone()?.hasher().mark, 5)
+}
+
+#[test]
+fn maps_with_capacity(rt: HostRuntime) -> Result<(), Fail> {
+    let alloc = rt.alloc();
+    let four = NonZeroUsize::new(4).ok_or("zero")?;
+    let map = NEIndexMap::with_capacity_and_hasher(alloc, four, Marked::new(6), 1, 'x')?;
+    prints(alloc, &map, "{1: 'x'}")?;
+    is((map.hasher().mark, map.capacity().get() >= 4), (6, true))?;
+    is(
+        map == NEIndexMap::with_hasher(alloc, Marked::new(6), 1, 'x')?,
+        true,
+    )?;
+    let map = NEIndexMap::with_capacity(alloc, four, 1, 'x')?;
+    is(map.capacity().get() >= 4, true)?;
+    prints(alloc, &map, "{1: 'x'}")
 }
 
 #[test]
 fn set_keeps_its_hasher(rt: HostRuntime) -> Result<(), Fail> {
     let alloc = rt.alloc();
-    let four = NonZeroUsize::new(4).ok_or("zero")?;
     let mut set = NEIndexSet::with_hasher(alloc, Marked::new(5), 1)?;
     prints(alloc, &set, "{1}")?;
     set.extend([2, 1])?;
@@ -114,14 +121,21 @@ fn set_keeps_its_hasher(rt: HostRuntime) -> Result<(), Fail> {
     let inner: IndexSet<u32, Marked> = IndexSet::from(set);
     let set = NEIndexSet::try_from_set(inner).ok_or("empty")?;
     is(set.hasher().mark, 5)?;
-    is(set.clone()?.hasher().mark, 5)?;
-    let other = NEIndexSet::with_capacity_and_hasher(alloc, four, Marked::new(6), 1)?;
-    prints(alloc, &other, "{1}")?;
-    is(other.hasher().mark, 6)?;
+    is(set.clone()?.hasher().mark, 5)
+}
+
+#[test]
+fn sets_with_capacity(rt: HostRuntime) -> Result<(), Fail> {
+    let alloc = rt.alloc();
+    let four = NonZeroUsize::new(4).ok_or("zero")?;
+    let set = NEIndexSet::with_capacity_and_hasher(alloc, four, Marked::new(6), 1)?;
+    prints(alloc, &set, "{1}")?;
+    is((set.hasher().mark, set.capacity().get() >= 4), (6, true))?;
+    let other = NEIndexSet::with_hasher(alloc, Marked::new(5), 2)?;
     is(set.union(&other).count().get(), 2)?;
-    let other = NEIndexSet::with_capacity(alloc, four, 1)?;
-    is(other.capacity().get() >= 4, true)?;
-    prints(alloc, &other, "{1}")
+    let set = NEIndexSet::with_capacity(alloc, four, 1)?;
+    is(set.capacity().get() >= 4, true)?;
+    prints(alloc, &set, "{1}")
 }
 
 #[test]

@@ -1,50 +1,182 @@
-//! Many keys, once: those that repeat, in an order of their own.
+//! Maps and sets of 1, 2, 10 and 10,000 numbers in a scattered order: each call once.
 
-use super::is;
-use nonempty_collections::{IntoIteratorExt, NEIndexMap, NEIndexSet, NonEmptyIterator};
+use super::{exchange, is};
+use nonempty_collections::{
+    IntoNonEmptyIterator, NEIndexMap, NEIndexSet, NEVec, NonEmptyIterator, Singleton,
+};
+use std::alloc::Global;
 use std::test::Fail;
 
-const KEYS: u32 = 10_000;
+type Map = NEIndexMap<u32, u32>;
 
-// The keys in a scattered order, each once: 7919 has no divisor in common with their number.
-fn key(place: u32) -> u32 {
-    place.wrapping_mul(7919) % KEYS
+type Set = NEIndexSet<u32>;
+
+const COUNTS: [u32; 4] = [1, 2, 10, 10_000];
+
+// The numbers below `count` in a scattered order, each once: 7,919 is a prime, and divides no count.
+fn numbers(alloc: Global, count: u32) -> Result<NEVec<u32>, Fail> {
+    let mut items = Vec::new(alloc);
+    for place in 0..count {
+        items.push(place.wrapping_mul(7_919).checked_rem(count).unwrap_or(0))?;
+    }
+    Ok(NEVec::try_from_vec(items).ok_or("no number")?)
 }
 
-#[test]
-fn map_of_many(rt: HostRuntime) -> Result<(), Fail> {
-    let alloc = rt.alloc();
-    let mut map = NEIndexMap::new(alloc, key(0), 0)?;
-    for place in 1..KEYS {
-        map.insert(key(place), place)?;
-    }
-    map.extend((0..KEYS).map(|place| (key(place), place)))?;
-    is(map.len().get(), 10_000)?;
+// Fails unless the map has these keys in this order, each with itself and `more`.
+fn has(map: &Map, keys: &NEVec<u32>, more: u32) -> Result<(), Fail> {
     let mut wrong = 0u32;
-    for place in 0..KEYS {
-        if map.get_index_of(&key(place)) != Some(place as usize) {
+    let mut next = keys.iter();
+    for (key, value) in map.iter() {
+        if next.next() != Some(key) || *value != key.wrapping_add(more) {
             wrong = wrong.wrapping_add(1);
         }
     }
-    is(wrong, 0)?;
-    is(map[9_999], 9_999)?;
-    is((*map.last().0, *map.last().1), (key(9_999), 9_999))
+    is((wrong, next.next().is_none()), (0, true))?;
+    is(map.len(), keys.len())?;
+    is(map.keys().copied().last(), *keys.last())?;
+    is(map.values().copied().last(), keys.last().wrapping_add(more))
 }
 
-#[test]
-fn set_of_many(rt: HostRuntime) -> Result<(), Fail> {
-    let alloc = rt.alloc();
-    let repeated = (0..2 * KEYS).map(key);
-    let set: NEIndexSet<u32> = repeated
-        .try_into_nonempty_iter()
-        .ok_or("empty")?
-        .collect(alloc)?;
-    is(set.len().get(), 10_000)?;
+// Fails unless each key is found at its place in `keys`, with itself and `more`.
+fn finds(map: &Map, keys: &NEVec<u32>, more: u32) -> Result<(), Fail> {
     let mut wrong = 0u32;
-    for (place, x) in set.nonempty_iter().enumerate() {
-        if key(place as u32) != *x {
+    let mut place = 0usize;
+    for key in keys.iter() {
+        let value = key.wrapping_add(more);
+        if map.get_index_of(key) != Some(place) || map.get(key) != Some(&value) {
             wrong = wrong.wrapping_add(1);
         }
+        if place >= map.len().get() || map[place] != value {
+            wrong = wrong.wrapping_add(1);
+        }
+        place = place.wrapping_add(1);
     }
     is(wrong, 0)
+}
+
+fn inserted(alloc: Global, keys: &NEVec<u32>) -> Result<Map, Fail> {
+    let mut map = NEIndexMap::new(alloc, *keys.first(), 0)?;
+    for key in keys.iter() {
+        map.insert(*key, *key)?;
+    }
+    Ok(map)
+}
+
+fn extended(alloc: Global, keys: &NEVec<u32>) -> Result<Map, Fail> {
+    let mut map: Map = Singleton::singleton(alloc, (*keys.first(), 0))?;
+    map.extend(keys.iter().map(|key| (*key, *key)))?;
+    Ok(map)
+}
+
+// Each value, written through `get_mut`, is one more.
+fn add_one(map: &mut Map, keys: &NEVec<u32>) {
+    for key in keys.iter() {
+        if let Some(value) = map.get_mut(key) {
+            *value = value.wrapping_add(1);
+        }
+    }
+}
+
+// The first pair and the last are exchanged, and then exchanged back.
+fn turned(map: &mut Map, keys: &NEVec<u32>) -> Result<(), Fail> {
+    let last = map.len().get() - 1;
+    exchange(map, 0, last)?;
+    is(
+        (*map.first().0, *map.last().0),
+        (*keys.last(), *keys.first()),
+    )?;
+    exchange(map, last, 0)
+}
+
+fn map_of(alloc: Global, count: u32) -> Result<(), Fail> {
+    let keys = numbers(alloc, count)?;
+    let mut map = inserted(alloc, &keys)?;
+    has(&map, &keys, 0)?;
+    finds(&map, &keys, 0)?;
+    is(extended(alloc, &keys)? == map, true)?;
+    is(map.contains_key(&count), false)?;
+    let copy = map.clone()?;
+    add_one(&mut map, &keys);
+    is(copy == map, false)?;
+    turned(&mut map, &keys)?;
+    map.shrink_to_fit()?;
+    finds(&map, &keys, 1)?;
+    let gathered: Map = keys
+        .into_nonempty_iter()
+        .map(|key| (key, key))
+        .collect(alloc)?;
+    is(gathered == copy, true)
+}
+
+#[test]
+fn maps(rt: HostRuntime) -> Result<(), Fail> {
+    for count in COUNTS {
+        map_of(rt.alloc(), count)?;
+    }
+    Ok(())
+}
+
+// Fails unless the set has these items in this order, and finds each.
+fn holds(set: &Set, items: &NEVec<u32>) -> Result<(), Fail> {
+    let mut wrong = 0u32;
+    let mut next = items.iter();
+    for item in set.iter() {
+        if next.next() != Some(item) || set.get(item) != Some(item) {
+            wrong = wrong.wrapping_add(1);
+        }
+    }
+    is((wrong, next.next().is_none()), (0, true))?;
+    is(set.len(), items.len())
+}
+
+fn items_of(alloc: Global, items: &NEVec<u32>) -> Result<Set, Fail> {
+    let mut set: Set = Singleton::singleton(alloc, *items.first())?;
+    for item in items.iter() {
+        set.insert(*item)?;
+    }
+    Ok(set)
+}
+
+// The set, beside the one of the same items and as many more.
+fn two_together(set: &Set, both: &Set) -> Result<(), Fail> {
+    let count = set.len().get();
+    is(set.union(both).count().get(), both.len().get())?;
+    is(set.intersection(both).count(), count)?;
+    is(
+        (set.difference(both).count(), both.difference(set).count()),
+        (0, count),
+    )?;
+    is(
+        (set.is_subset(both), both.is_subset(set), set == both),
+        (true, false, false),
+    )?;
+    is(
+        (set.is_superset(both), both.is_superset(set)),
+        (false, true),
+    )?;
+    is(set.is_disjoint(both), false)
+}
+
+fn set_of(alloc: Global, count: u32) -> Result<(), Fail> {
+    let items = numbers(alloc, count)?;
+    let set = items_of(alloc, &items)?;
+    holds(&set, &items)?;
+    let mut both = set.clone()?;
+    is(both == set, true)?;
+    both.reserve(count as usize)?;
+    both.extend(items.iter().map(|item| item.wrapping_add(count)))?;
+    is(both.replace(count)?, Some(count))?;
+    both.shrink_to_fit()?;
+    is(both.contains(&count.wrapping_mul(2)), false)?;
+    two_together(&set, &both)?;
+    let gathered: Set = items.into_nonempty_iter().collect(alloc)?;
+    is(gathered == set, true)
+}
+
+#[test]
+fn sets(rt: HostRuntime) -> Result<(), Fail> {
+    for count in COUNTS {
+        set_of(rt.alloc(), count)?;
+    }
+    Ok(())
 }

@@ -1,6 +1,6 @@
 //! The calls of `NEIndexMap`, on worked rows.
 
-use super::{Scores, is, prints, scores};
+use super::{Scores, exchange, is, prints, scores};
 use indexmap::IndexMap;
 use nonempty_collections::{
     IntoNonEmptyIterator, NEIndexMap, NEVec, NonEmptyIterator, Singleton, ne_indexmap, neim,
@@ -15,7 +15,7 @@ fn written_out(rt: HostRuntime) -> Result<(), Fail> {
     prints(alloc, &keys, "[\"a\", \"b\"]")?;
     prints(alloc, &map.first(), "(\"a\", 3)")?;
     prints(alloc, &map.last(), "(\"b\", 2)")?;
-    is(map[1], 2)?;
+    is(map.len().get() > 1 && map[1] == 2, true)?;
     is(map.len().get(), 2)?;
     is(map.is_empty(), false)?;
     prints(
@@ -72,20 +72,20 @@ fn written_and_extended(rt: HostRuntime) -> Result<(), Fail> {
 fn places(rt: HostRuntime) -> Result<(), Fail> {
     let alloc = rt.alloc();
     let mut map = neim![alloc; 0 => 'a', 1 => 'b', 2 => 'c', 3 => 'd', 4 => 'e', 5 => 'f']?;
-    map.swap_indices(1, 2);
+    exchange(&mut map, 1, 2)?;
     prints(
         alloc,
         &map,
         "{0: 'a', 2: 'c', 1: 'b', 3: 'd', 4: 'e', 5: 'f'}",
     )?;
-    map.swap_indices(0, 3);
+    exchange(&mut map, 0, 3)?;
     is(map.insert(1, 'z')?, Some('b'))?;
     prints(
         alloc,
         &map,
         "{3: 'd', 2: 'c', 1: 'z', 0: 'a', 4: 'e', 5: 'f'}",
     )?;
-    map.swap_indices(4, 4);
+    exchange(&mut map, 4, 4)?;
     is(map.insert(6, 'g')?, None)?;
     prints(alloc, &map.last(), "(6, 'g')")?;
     prints(alloc, &map.first(), "(3, 'd')")
