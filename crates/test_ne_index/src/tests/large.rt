@@ -33,8 +33,16 @@ fn has(map: &Map, keys: &NEVec<u32>, more: u32) -> Result<(), Fail> {
     }
     is((wrong, next.next().is_none()), (0, true))?;
     is(map.len(), keys.len())?;
-    is(map.keys().copied().last(), *keys.last())?;
-    is(map.values().copied().last(), keys.last().wrapping_add(more))
+    is(
+        map.first(),
+        (keys.first(), &keys.first().wrapping_add(more)),
+    )?;
+    is(map.last(), (keys.last(), &keys.last().wrapping_add(more)))?;
+    is(map.keys().max(), keys.nonempty_iter().max())?;
+    is(
+        *map.values().max(),
+        keys.nonempty_iter().max().wrapping_add(more),
+    )
 }
 
 // Fails unless each key is found at its place in `keys`, with itself and `more`.
