@@ -76,79 +76,106 @@ impl Hash for Named {
     }
 }
 
-#[test]
-fn map_keeps_its_hasher(rt: HostRuntime) -> Result<(), Fail> {
-    let alloc = rt.alloc();
-    let map = NEIndexMap::with_hasher(alloc, Marked::new(5), 1, 'x')?;
-    prints(alloc, &map, "{1: 'x'}")?;
-    is(map.hasher().mark, 5)?;
-    let inner: IndexMap<u32, char, Marked> = IndexMap::from(map);
-    let mut map = NEIndexMap::try_from_map(inner).ok_or("empty")?;
-    is(map.hasher().mark, 5)?;
+type Map = NEIndexMap<u32, char, Marked>;
+
+fn map_changed(map: &mut Map) -> Result<(), Fail> {
     map.insert(2, 'b')?;
     map.extend([(3, 'c')])?;
     map.shrink_to_fit()?;
-    exchange(&mut map, 0, 2)?;
+    exchange(map, 0, 2)
+}
+
+#[test]
+fn map_keeps_its_hasher(rt: HostRuntime) -> Result<(), Fail> {
+    let map = NEIndexMap::with_hasher(rt.alloc(), Marked::new(5), 1, 'x')?;
+    prints(rt.alloc(), &map, "{1: 'x'}")?;
+    is(map.hasher().mark, 5)?;
+    let inner: IndexMap<u32, char, Marked> = IndexMap::from(map);
+    let mut map = NEIndexMap::try_from_map(inner).ok_or("empty")?;
+    map_changed(&mut map)?;
     is(map.hasher().mark, 5)?;
     is(map.clone()?.hasher().mark, 5)
 }
 
 #[test]
 fn maps_with_capacity(rt: HostRuntime) -> Result<(), Fail> {
-    let alloc = rt.alloc();
     let four = NonZeroUsize::new(4).ok_or("zero")?;
-    let map = NEIndexMap::with_capacity_and_hasher(alloc, four, Marked::new(6), 1, 'x')?;
-    prints(alloc, &map, "{1: 'x'}")?;
+    let map = NEIndexMap::with_capacity_and_hasher(rt.alloc(), four, Marked::new(6), 1, 'x')?;
+    prints(rt.alloc(), &map, "{1: 'x'}")?;
     is((map.hasher().mark, map.capacity().get() >= 4), (6, true))?;
-    is(
-        map == NEIndexMap::with_hasher(alloc, Marked::new(6), 1, 'x')?,
-        true,
-    )?;
-    let map = NEIndexMap::with_capacity(alloc, four, 1, 'x')?;
-    is(map.capacity().get() >= 4, true)?;
-    prints(alloc, &map, "{1: 'x'}")
+    let map = NEIndexMap::with_capacity(rt.alloc(), four, 1, 'x')?;
+    prints(rt.alloc(), &map, "{1: 'x'}")?;
+    is(map.capacity().get() >= 4, true)
+}
+
+type Set = NEIndexSet<u32, Marked>;
+
+fn set_changed(set: &mut Set) -> Result<(), Fail> {
+    set.extend([2, 1])?;
+    set.reserve(10)?;
+    set.replace(2)?;
+    set.shrink_to_fit()?;
+    Ok(())
 }
 
 #[test]
 fn set_keeps_its_hasher(rt: HostRuntime) -> Result<(), Fail> {
-    let alloc = rt.alloc();
-    let mut set = NEIndexSet::with_hasher(alloc, Marked::new(5), 1)?;
-    prints(alloc, &set, "{1}")?;
-    set.extend([2, 1])?;
-    set.reserve(10)?;
-    set.replace(2)?;
+    let mut set = NEIndexSet::with_hasher(rt.alloc(), Marked::new(5), 1)?;
+    prints(rt.alloc(), &set, "{1}")?;
+    set_changed(&mut set)?;
     is(set.hasher().mark, 5)?;
     let inner: IndexSet<u32, Marked> = IndexSet::from(set);
     let set = NEIndexSet::try_from_set(inner).ok_or("empty")?;
-    is(set.hasher().mark, 5)?;
     is(set.clone()?.hasher().mark, 5)
 }
 
 #[test]
 fn sets_with_capacity(rt: HostRuntime) -> Result<(), Fail> {
-    let alloc = rt.alloc();
     let four = NonZeroUsize::new(4).ok_or("zero")?;
-    let set = NEIndexSet::with_capacity_and_hasher(alloc, four, Marked::new(6), 1)?;
-    prints(alloc, &set, "{1}")?;
+    let set = NEIndexSet::with_capacity_and_hasher(rt.alloc(), four, Marked::new(6), 1)?;
+    prints(rt.alloc(), &set, "{1}")?;
     is((set.hasher().mark, set.capacity().get() >= 4), (6, true))?;
-    let other = NEIndexSet::with_hasher(alloc, Marked::new(5), 2)?;
-    is(set.union(&other).count().get(), 2)?;
-    let set = NEIndexSet::with_capacity(alloc, four, 1)?;
-    is(set.capacity().get() >= 4, true)?;
-    prints(alloc, &set, "{1}")
+    let set = NEIndexSet::with_capacity(rt.alloc(), four, 1)?;
+    prints(rt.alloc(), &set, "{1}")?;
+    is(set.capacity().get() >= 4, true)
 }
 
 #[test]
-fn equal_by_a_part(rt: HostRuntime) -> Result<(), Fail> {
-    let alloc = rt.alloc();
+fn sets_of_two_hashers(rt: HostRuntime) -> Result<(), Fail> {
+    let one = NEIndexSet::with_hasher(rt.alloc(), Marked::new(6), 1)?;
+    let two = NEIndexSet::with_hasher(rt.alloc(), Marked::new(5), 2)?;
+    is((one.union(&two).count().get(), one == two), (2, false))
+}
+
+#[test]
+fn keys_equal_by_a_part(rt: HostRuntime) -> Result<(), Fail> {
     let (a, b, c) = (Named(1, 'a'), Named(2, 'b'), Named(1, 'c'));
-    let map = neim![alloc; a => 10, b => 20, c => 30]?;
-    prints(alloc, &map, "{Named(1, 'a'): 30, Named(2, 'b'): 20}")?;
-    is(map.get_index_of(&Named(2, 'z')), Some(1))?;
-    is(map == neim![alloc; b => 20, c => 30]?, true)?;
-    let mut set = neis![alloc; a, b, c]?;
-    prints(alloc, &set, "{Named(1, 'a'), Named(2, 'b')}")?;
-    prints(alloc, &set.replace(c)?, "Some(Named(1, 'a'))")?;
-    prints(alloc, &set, "{Named(1, 'c'), Named(2, 'b')}")?;
-    is(set == neis![alloc; b, a]?, true)
+    let map = neim![rt.alloc(); a => 10, b => 20, c => 30]?;
+    prints(rt.alloc(), &map, "{Named(1, 'a'): 30, Named(2, 'b'): 20}")?;
+    is(map.get_index_of(&Named(2, 'z')), Some(1))
+}
+
+#[test]
+fn maps_equal_by_a_part(rt: HostRuntime) -> Result<(), Fail> {
+    let map = neim![rt.alloc(); Named(1, 'a') => 10, Named(2, 'b') => 20]?;
+    let other = neim![rt.alloc(); Named(2, 'c') => 20, Named(1, 'd') => 10]?;
+    is(map == other, true)
+}
+
+#[test]
+fn items_equal_by_a_part(rt: HostRuntime) -> Result<(), Fail> {
+    let (a, b, c) = (Named(1, 'a'), Named(2, 'b'), Named(1, 'c'));
+    let mut set = neis![rt.alloc(); a, b, c]?;
+    prints(rt.alloc(), &set, "{Named(1, 'a'), Named(2, 'b')}")?;
+    prints(rt.alloc(), &set.replace(c)?, "Some(Named(1, 'a'))")?;
+    prints(rt.alloc(), &set, "{Named(1, 'c'), Named(2, 'b')}")
+}
+
+#[test]
+fn sets_equal_by_a_part(rt: HostRuntime) -> Result<(), Fail> {
+    let set = neis![rt.alloc(); Named(1, 'a'), Named(2, 'b')]?;
+    is(
+        set == neis![rt.alloc(); Named(2, 'c'), Named(1, 'd')]?,
+        true,
+    )
 }

@@ -13,7 +13,8 @@ type Set = NEIndexSet<u32>;
 
 const COUNTS: [u32; 4] = [1, 2, 10, 10_000];
 
-// The numbers below `count` in a scattered order, each once: 7,919 is a prime, and divides no count.
+// The numbers below `count`, each once, in a scattered order: 7,919 is a prime, and divides no
+// count.
 fn numbers(alloc: Global, count: u32) -> Result<NEVec<u32>, Fail> {
     let mut items = Vec::new(alloc);
     for place in 0..count {
@@ -96,24 +97,29 @@ fn turned(map: &mut Map, keys: &NEVec<u32>) -> Result<(), Fail> {
     exchange(map, last, 0)
 }
 
+// The map of the keys, made in three ways.
+fn equals(alloc: Global, map: &Map, keys: &NEVec<u32>) -> Result<(), Fail> {
+    is(extended(alloc, keys)? == *map, true)?;
+    let gathered: Map = keys.nonempty_iter().map(|key| (*key, *key)).collect(alloc)?;
+    is(gathered == *map, true)
+}
+
+fn written(map: &mut Map, keys: &NEVec<u32>) -> Result<(), Fail> {
+    let copy = map.clone()?;
+    add_one(map, keys);
+    is(copy == *map, false)
+}
+
 fn map_of(alloc: Global, count: u32) -> Result<(), Fail> {
     let keys = numbers(alloc, count)?;
     let mut map = inserted(alloc, &keys)?;
     has(&map, &keys, 0)?;
-    finds(&map, &keys, 0)?;
-    is(extended(alloc, &keys)? == map, true)?;
+    equals(alloc, &map, &keys)?;
     is(map.contains_key(&count), false)?;
-    let copy = map.clone()?;
-    add_one(&mut map, &keys);
-    is(copy == map, false)?;
+    written(&mut map, &keys)?;
     turned(&mut map, &keys)?;
     map.shrink_to_fit()?;
-    finds(&map, &keys, 1)?;
-    let gathered: Map = keys
-        .into_nonempty_iter()
-        .map(|key| (key, key))
-        .collect(alloc)?;
-    is(gathered == copy, true)
+    finds(&map, &keys, 1)
 }
 
 #[test]
@@ -165,16 +171,22 @@ fn two_together(set: &Set, both: &Set) -> Result<(), Fail> {
     is(set.is_disjoint(both), false)
 }
 
+// The set, and as many more.
+fn doubled(set: &Set, count: u32) -> Result<Set, Fail> {
+    let mut both = set.clone()?;
+    is(both == *set, true)?;
+    both.reserve(count as usize)?;
+    both.extend(set.iter().map(|item| item.wrapping_add(count)))?;
+    both.shrink_to_fit()?;
+    Ok(both)
+}
+
 fn set_of(alloc: Global, count: u32) -> Result<(), Fail> {
     let items = numbers(alloc, count)?;
     let set = items_of(alloc, &items)?;
     holds(&set, &items)?;
-    let mut both = set.clone()?;
-    is(both == set, true)?;
-    both.reserve(count as usize)?;
-    both.extend(items.iter().map(|item| item.wrapping_add(count)))?;
+    let mut both = doubled(&set, count)?;
     is(both.replace(count)?, Some(count))?;
-    both.shrink_to_fit()?;
     is(both.contains(&count.wrapping_mul(2)), false)?;
     two_together(&set, &both)?;
     let gathered: Set = items.into_nonempty_iter().collect(alloc)?;

@@ -5,90 +5,129 @@ use indexmap::IndexMap;
 use nonempty_collections::{
     IntoNonEmptyIterator, NEIndexMap, NEVec, NonEmptyIterator, Singleton, ne_indexmap, neim,
 };
+use std::alloc::Global;
 use std::test::Fail;
 
-#[test]
-fn written_out(rt: HostRuntime) -> Result<(), Fail> {
-    let alloc = rt.alloc();
-    let map = scores(alloc)?;
+fn ends(alloc: Global, map: &Scores) -> Result<(), Fail> {
     let keys: NEVec<&str> = map.keys().copied().collect(alloc)?;
     prints(alloc, &keys, "[\"a\", \"b\"]")?;
     prints(alloc, &map.first(), "(\"a\", 3)")?;
     prints(alloc, &map.last(), "(\"b\", 2)")?;
-    is(map.len().get() > 1 && map[1] == 2, true)?;
-    is(map.len().get(), 2)?;
-    is(map.is_empty(), false)?;
-    prints(
-        alloc,
-        &neim![alloc; 0 => 10, 1 => 11, 2 => 12]?,
-        "{0: 10, 1: 11, 2: 12}",
-    )?;
+    is(map.len().get() > 1 && map[1] == 2, true)
+}
+
+#[test]
+fn written_out(rt: HostRuntime) -> Result<(), Fail> {
+    let map = scores(rt.alloc())?;
+    ends(rt.alloc(), &map)?;
+    is((map.len().get(), map.is_empty()), (2, false))
+}
+
+#[test]
+fn written_out_by_each_name(rt: HostRuntime) -> Result<(), Fail> {
+    let alloc = rt.alloc();
+    let map = neim![alloc; 0 => 10, 1 => 11, 2 => 12]?;
+    prints(alloc, &map, "{0: 10, 1: 11, 2: 12}")?;
     prints(alloc, &ne_indexmap![alloc; 0 => 10]?, "{0: 10}")
+}
+
+// Fails unless the map of "a" and "b" is equal to the one of these two pairs, or is not.
+fn equals(
+    alloc: Global,
+    map: &Scores,
+    pairs: [(&'static str, u32); 2],
+    wanted: bool,
+) -> Result<(), Fail> {
+    let other: Scores = pairs.into_nonempty_iter().collect(alloc)?;
+    is(*map == other, wanted)
 }
 
 #[test]
 fn order_does_not_count(rt: HostRuntime) -> Result<(), Fail> {
     let alloc = rt.alloc();
-    let there = ne_indexmap![alloc; "a" => 1, "b" => 2]?;
-    is(there == neim![alloc; "b" => 2, "a" => 1]?, true)?;
-    is(there == neim![alloc; "b" => 1, "a" => 2]?, false)?;
-    is(there == neim![alloc; "a" => 1]?, false)?;
-    is(there == neim![alloc; "a" => 1, "c" => 2]?, false)
+    let map = ne_indexmap![alloc; "a" => 1, "b" => 2]?;
+    equals(alloc, &map, [("b", 2), ("a", 1)], true)?;
+    equals(alloc, &map, [("b", 1), ("a", 2)], false)?;
+    equals(alloc, &map, [("a", 1), ("a", 1)], false)?;
+    equals(alloc, &map, [("a", 1), ("c", 2)], false)
+}
+
+// Fails unless the key is found at this place with this value, or is not there.
+fn finds(map: &Scores, key: &'static str, wanted: Option<(usize, u32)>) -> Result<(), Fail> {
+    is(map.get_index_of(&key), wanted.map(|found| found.0))?;
+    is(map.contains_key(&key), wanted.is_some())?;
+    is(map.get(&key).copied(), wanted.map(|found| found.1))?;
+    let pair = map.get_key_value(&key).map(|(k, v)| (*k, *v));
+    is(pair, wanted.map(|found| (key, found.1)))
 }
 
 #[test]
 fn looked_up(rt: HostRuntime) -> Result<(), Fail> {
-    let alloc = rt.alloc();
-    let map = scores(alloc)?;
-    is(map.get_index_of(&"b"), Some(1))?;
-    is(map.get_index_of(&"a"), Some(0))?;
-    is(map.get_index_of(&"z"), None)?;
-    is(map.contains_key(&"b"), true)?;
-    is(map.contains_key(&"z"), false)?;
-    is(map.get(&"a").copied(), Some(3))?;
-    is(map.get(&"z").copied(), None)?;
-    is(
-        map.get_key_value(&"b").map(|(k, v)| (*k, *v)),
-        Some(("b", 2)),
-    )
+    let map = scores(rt.alloc())?;
+    finds(&map, "a", Some((0, 3)))?;
+    finds(&map, "b", Some((1, 2)))?;
+    finds(&map, "z", None)
+}
+
+fn written(map: &mut Scores) -> Result<(), Fail> {
+    if let Some(place) = map.get_mut(&"a") {
+        *place = 9;
+    }
+    is(map.get_mut(&"z").is_none(), true)
 }
 
 #[test]
 fn written_and_extended(rt: HostRuntime) -> Result<(), Fail> {
     let alloc = rt.alloc();
     let mut map = scores(alloc)?;
-    if let Some(place) = map.get_mut(&"a") {
-        *place = 9;
-    }
-    is(map.get_mut(&"z").is_none(), true)?;
+    written(&mut map)?;
     map.extend([("c", 5)])?;
     prints(alloc, &map, "{\"a\": 9, \"b\": 2, \"c\": 5}")?;
-    is(map.clone()? == map, true)?;
     map.extend([("d", 1), ("b", 7), ("d", 2)])?;
     prints(alloc, &map, "{\"a\": 9, \"b\": 7, \"c\": 5, \"d\": 2}")
 }
 
 #[test]
-fn places(rt: HostRuntime) -> Result<(), Fail> {
-    let alloc = rt.alloc();
-    let mut map = neim![alloc; 0 => 'a', 1 => 'b', 2 => 'c', 3 => 'd', 4 => 'e', 5 => 'f']?;
-    exchange(&mut map, 1, 2)?;
+fn cloned(rt: HostRuntime) -> Result<(), Fail> {
+    let map = scores(rt.alloc())?;
+    is(map.clone()? == map, true)
+}
+
+// Numbers with letters, which came in the order of the numbers.
+type Letters = NEIndexMap<u32, char>;
+
+fn letters(alloc: Global) -> Result<Letters, Fail> {
+    let pairs = [(0, 'a'), (1, 'b'), (2, 'c'), (3, 'd'), (4, 'e'), (5, 'f')];
+    Ok(pairs.into_nonempty_iter().collect(alloc)?)
+}
+
+fn exchanged(alloc: Global, map: &mut Letters) -> Result<(), Fail> {
+    exchange(map, 1, 2)?;
     prints(
         alloc,
-        &map,
+        map,
         "{0: 'a', 2: 'c', 1: 'b', 3: 'd', 4: 'e', 5: 'f'}",
     )?;
-    exchange(&mut map, 0, 3)?;
-    is(map.insert(1, 'z')?, Some('b'))?;
+    exchange(map, 0, 3)?;
+    exchange(map, 4, 4)?;
     prints(
         alloc,
-        &map,
-        "{3: 'd', 2: 'c', 1: 'z', 0: 'a', 4: 'e', 5: 'f'}",
-    )?;
-    exchange(&mut map, 4, 4)?;
+        map,
+        "{3: 'd', 2: 'c', 1: 'b', 0: 'a', 4: 'e', 5: 'f'}",
+    )
+}
+
+#[test]
+fn places(rt: HostRuntime) -> Result<(), Fail> {
+    let mut map = letters(rt.alloc())?;
+    exchanged(rt.alloc(), &mut map)?;
+    is(map.insert(1, 'z')?, Some('b'))?;
     is(map.insert(6, 'g')?, None)?;
-    prints(alloc, &map.last(), "(6, 'g')")?;
-    prints(alloc, &map.first(), "(3, 'd')")
+    prints(
+        rt.alloc(),
+        &map,
+        "{3: 'd', 2: 'c', 1: 'z', 0: 'a', 4: 'e', 5: 'f', 6: 'g'}",
+    )
 }
 
 #[test]
@@ -102,47 +141,55 @@ fn converted(rt: HostRuntime) -> Result<(), Fail> {
     prints(alloc, &back, "{\"a\": 3, \"b\": 2}")
 }
 
+fn walked_by_reference(alloc: Global, map: &Scores) -> Result<(), Fail> {
+    is((map.iter().count(), map.values().copied().max()), (2, 3))?;
+    let pairs: NEVec<(&str, u32)> = map.nonempty_iter().map(|(k, v)| (*k, *v)).collect(alloc)?;
+    prints(alloc, &pairs, "[(\"a\", 3), (\"b\", 2)]")?;
+    let (first, rest) = map.into_nonempty_iter().next();
+    prints(alloc, &first, "(\"a\", 3)")?;
+    is(rest.count(), 1)
+}
+
 #[test]
 fn walked(rt: HostRuntime) -> Result<(), Fail> {
     let alloc = rt.alloc();
     let map = scores(alloc)?;
-    is(map.iter().count(), 2)?;
-    is(map.values().copied().max(), 3)?;
-    let pairs: NEVec<(&str, u32)> = map.nonempty_iter().map(|(k, v)| (*k, *v)).collect(alloc)?;
-    prints(alloc, &pairs, "[(\"a\", 3), (\"b\", 2)]")?;
-    let (first, rest) = (&map).into_nonempty_iter().next();
-    prints(alloc, &first, "(\"a\", 3)")?;
-    is(rest.count(), 1)?;
+    walked_by_reference(alloc, &map)?;
     let pairs: NEVec<(&str, u32)> = map.into_nonempty_iter().collect(alloc)?;
     prints(alloc, &pairs, "[(\"a\", 3), (\"b\", 2)]")
 }
 
 #[test]
 fn walks_are_cloned(rt: HostRuntime) -> Result<(), Fail> {
-    let alloc = rt.alloc();
-    let map = neim![alloc; 1 => 'x']?;
-    let (pairs, keys, values) = (map.nonempty_iter(), map.keys(), map.values());
-    let (pair, rest) = pairs.clone()?.next();
-    prints(alloc, &pair, "(1, 'x')")?;
-    is(rest.count(), 0)?;
+    let map = neim![rt.alloc(); 1 => 'x']?;
+    let pairs = map.nonempty_iter();
+    prints(rt.alloc(), &pairs.clone()?.next().0, "(1, 'x')")?;
+    // what it was made of is as it was
+    is(pairs.count().get(), 1)
+}
+
+#[test]
+fn walks_over_keys_and_values_are_cloned(rt: HostRuntime) -> Result<(), Fail> {
+    let map = neim![rt.alloc(); 1 => 'x']?;
+    let (keys, values) = (map.keys(), map.values());
     is(*keys.clone()?.next().0, 1)?;
     is(*values.clone()?.next().0, 'x')?;
-    // what they were made of is as it was
-    is(pairs.count().get(), 1)?;
-    is(keys.count().get(), 1)?;
-    is(values.count().get(), 1)
+    is((keys.count().get(), values.count().get()), (1, 1))
 }
 
 #[test]
 fn collected(rt: HostRuntime) -> Result<(), Fail> {
-    let alloc = rt.alloc();
     let pairs = [(2, 'a'), (1, 'b'), (2, 'c')];
-    let map: NEIndexMap<u32, char> = pairs.into_nonempty_iter().collect(alloc)?;
-    prints(alloc, &map, "{2: 'c', 1: 'b'}")?;
-    let mut one_by_one: NEIndexMap<u32, char> = Singleton::singleton(alloc, (1, 'x'))?;
-    prints(alloc, &one_by_one, "{1: 'x'}")?;
-    one_by_one.extend_one((2, 'y'))?;
-    one_by_one.shrink_to_fit()?;
-    one_by_one.extend_one((1, 'z'))?;
-    prints(alloc, &one_by_one, "{1: 'z', 2: 'y'}")
+    let map: Letters = pairs.into_nonempty_iter().collect(rt.alloc())?;
+    prints(rt.alloc(), &map, "{2: 'c', 1: 'b'}")
+}
+
+#[test]
+fn one_by_one(rt: HostRuntime) -> Result<(), Fail> {
+    let mut map: Letters = Singleton::singleton(rt.alloc(), (1, 'x'))?;
+    prints(rt.alloc(), &map, "{1: 'x'}")?;
+    map.extend_one((2, 'y'))?;
+    map.shrink_to_fit()?;
+    map.extend_one((1, 'z'))?;
+    prints(rt.alloc(), &map, "{1: 'z', 2: 'y'}")
 }
