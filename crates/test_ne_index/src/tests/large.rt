@@ -153,22 +153,19 @@ fn items_of(alloc: Global, items: &NEVec<u32>) -> Result<Set, Fail> {
 
 // The set, beside the one of the same items and as many more.
 fn two_together(set: &Set, both: &Set) -> Result<(), Fail> {
-    let count = set.len().get();
     is(set.union(both).count().get(), both.len().get())?;
-    is(set.intersection(both).count(), count)?;
-    is(
-        (set.difference(both).count(), both.difference(set).count()),
-        (0, count),
-    )?;
-    is(
-        (set.is_subset(both), both.is_subset(set), set == both),
-        (true, false, false),
-    )?;
+    is(set.intersection(both).count(), set.len().get())?;
+    is(set.difference(both).count(), 0)?;
+    is(both.difference(set).count(), set.len().get())
+}
+
+fn compared(set: &Set, both: &Set) -> Result<(), Fail> {
+    is((set.is_subset(both), both.is_subset(set)), (true, false))?;
     is(
         (set.is_superset(both), both.is_superset(set)),
         (false, true),
     )?;
-    is(set.is_disjoint(both), false)
+    is((set == both, set.is_disjoint(both)), (false, false))
 }
 
 // The set, and as many more.
@@ -189,6 +186,7 @@ fn set_of(alloc: Global, count: u32) -> Result<(), Fail> {
     is(both.replace(count)?, Some(count))?;
     is(both.contains(&count.wrapping_mul(2)), false)?;
     two_together(&set, &both)?;
+    compared(&set, &both)?;
     let gathered: Set = items.into_nonempty_iter().collect(alloc)?;
     is(gathered == set, true)
 }

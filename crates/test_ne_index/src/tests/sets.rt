@@ -39,8 +39,12 @@ fn written_out(rt: HostRuntime) -> Result<(), Fail> {
 
 #[test]
 fn written_out_with_repeats(rt: HostRuntime) -> Result<(), Fail> {
-    prints(rt.alloc(), &neis![rt.alloc(); 0]?, "{0}")?;
     prints(rt.alloc(), &neis![rt.alloc(); 3, 1, 3, 2, 1]?, "{3, 1, 2}")
+}
+
+#[test]
+fn written_out_alone(rt: HostRuntime) -> Result<(), Fail> {
+    prints(rt.alloc(), &neis![rt.alloc(); 0]?, "{0}")
 }
 
 #[test]
@@ -89,34 +93,44 @@ fn compared(a: &Set, b: &Set) -> Result<(), Fail> {
     is((*first, rest.count()), (3, 4))
 }
 
+fn together(alloc: Global, a: &Set, b: &Set) -> Result<(), Fail> {
+    united(alloc, a, b, "[1, 2, 3, 4, 5]")?;
+    united(alloc, b, a, "[3, 4, 5, 1, 2]")?;
+    left(alloc, a, b, "[1, 2]")?;
+    shared(alloc, a, b, "[3]")?;
+    compared(a, b)
+}
+
 #[test]
 fn two_together(rt: HostRuntime) -> Result<(), Fail> {
-    let alloc = rt.alloc();
-    let (a, b) = (numbers(alloc, 1, 3)?, numbers(alloc, 3, 5)?);
-    united(alloc, &a, &b, "[1, 2, 3, 4, 5]")?;
-    united(alloc, &b, &a, "[3, 4, 5, 1, 2]")?;
-    left(alloc, &a, &b, "[1, 2]")?;
-    shared(alloc, &a, &b, "[3]")?;
-    compared(&a, &b)
+    let a = numbers(rt.alloc(), 1, 3)?;
+    let b = numbers(rt.alloc(), 3, 5)?;
+    together(rt.alloc(), &a, &b)
+}
+
+fn within(some: &Set, all: &Set) -> Result<(), Fail> {
+    is((all.is_superset(some), some.is_subset(all)), (true, true))?;
+    is((all.is_subset(some), all.is_disjoint(some)), (false, false))
 }
 
 #[test]
 fn one_within_the_other(rt: HostRuntime) -> Result<(), Fail> {
-    let (all, some) = (numbers(rt.alloc(), 1, 5)?, numbers(rt.alloc(), 3, 5)?);
-    is((all.is_superset(&some), some.is_subset(&all)), (true, true))?;
-    is(
-        (all.is_subset(&some), all.is_disjoint(&some)),
-        (false, false),
-    )
+    let all = numbers(rt.alloc(), 1, 5)?;
+    let some = numbers(rt.alloc(), 3, 5)?;
+    within(&some, &all)
+}
+
+fn in_the_firsts_order(alloc: Global, a: &Set, b: &Set) -> Result<(), Fail> {
+    shared(alloc, a, b, "[5, 2]")?;
+    left(alloc, a, b, "[1, 4]")?;
+    united(alloc, a, b, "[5, 1, 4, 2, 9, 0]")
 }
 
 #[test]
 fn orders_of_the_first_set(rt: HostRuntime) -> Result<(), Fail> {
-    let alloc = rt.alloc();
-    let (a, b) = (set_of(alloc, [5, 1, 4, 2])?, set_of(alloc, [9, 2, 5, 0])?);
-    shared(alloc, &a, &b, "[5, 2]")?;
-    left(alloc, &a, &b, "[1, 4]")?;
-    united(alloc, &a, &b, "[5, 1, 4, 2, 9, 0]")
+    let a = set_of(rt.alloc(), [5, 1, 4, 2])?;
+    let b = set_of(rt.alloc(), [9, 2, 5, 0])?;
+    in_the_firsts_order(rt.alloc(), &a, &b)
 }
 
 #[test]
@@ -136,18 +150,21 @@ fn empty_is_refused(rt: HostRuntime) -> Result<(), Fail> {
     is(matches!(refused, Err(Error::Empty)), true)
 }
 
-#[test]
-fn walked(rt: HostRuntime) -> Result<(), Fail> {
-    let alloc = rt.alloc();
-    let set = neis![alloc; 3, 1, 2]?;
+fn walked_by_reference(alloc: Global, set: &Set) -> Result<(), Fail> {
     is(
         (set.iter().count(), set.nonempty_iter().copied().max()),
         (3, 3),
     )?;
-    let items: NEVec<u32> = (&set).into_nonempty_iter().copied().collect(alloc)?;
-    prints(alloc, &items, "[3, 1, 2]")?;
-    let items: NEVec<u32> = set.into_nonempty_iter().collect(alloc)?;
+    let items: NEVec<u32> = set.into_nonempty_iter().copied().collect(alloc)?;
     prints(alloc, &items, "[3, 1, 2]")
+}
+
+#[test]
+fn walked(rt: HostRuntime) -> Result<(), Fail> {
+    let set = neis![rt.alloc(); 3, 1, 2]?;
+    walked_by_reference(rt.alloc(), &set)?;
+    let items: NEVec<u32> = set.into_nonempty_iter().collect(rt.alloc())?;
+    prints(rt.alloc(), &items, "[3, 1, 2]")
 }
 
 #[test]
