@@ -1,5 +1,5 @@
 // `ne_runs` in plain Rust, with its modes, checks and faults: what the port's speed is compared with.
-use std::collections::HashSet;
+use indexmap::IndexSet;
 use std::fmt::{self, Display, Write as _};
 use std::io::{self, Read, Write};
 use std::process::ExitCode;
@@ -76,17 +76,16 @@ impl Mode {
             }
             Mode::Equal => rows(numbers.chunk_by(|m, n| m == n)),
             Mode::Parity => rows(numbers.chunk_by(|m, n| m % 2 == n % 2)),
-            Mode::Distinct => rows(std::iter::once(distinct(numbers).as_slice())),
+            Mode::Distinct => {
+                let distinct: IndexSet<u32> = numbers.iter().copied().collect();
+                let mut text = String::new();
+                push_row(&mut text, distinct.iter());
+                text
+            }
             Mode::Near => rows(NearRuns(numbers)),
             Mode::Chain => rows(numbers.chunk_by(|m, n| m.abs_diff(*n) <= 1)),
         })
     }
-}
-
-// Each number once, in the order in which they come first.
-fn distinct(numbers: &[u32]) -> Vec<u32> {
-    let mut seen = HashSet::new();
-    numbers.iter().copied().filter(|number| seen.insert(*number)).collect()
 }
 
 // The runs of numbers that differ from their run's first by at most 1.
@@ -104,19 +103,24 @@ impl<'a> Iterator for NearRuns<'a> {
     }
 }
 
-// A line for each run: its numbers, with a space between.
+// A line for each run.
 fn rows<'a>(runs: impl Iterator<Item = &'a [u32]>) -> String {
     let mut text = String::new();
     for run in runs {
-        for (place, number) in run.iter().enumerate() {
-            if place > 0 {
-                text.push(' ');
-            }
-            write!(text, "{number}").expect("a string takes every text");
-        }
-        text.push('\n');
+        push_row(&mut text, run.iter());
     }
     text
+}
+
+// A line: the numbers, with a space between.
+fn push_row<'a>(text: &mut String, numbers: impl Iterator<Item = &'a u32>) {
+    for (place, number) in numbers.enumerate() {
+        if place > 0 {
+            text.push(' ');
+        }
+        write!(text, "{number}").expect("a string takes every text");
+    }
+    text.push('\n');
 }
 
 fn read_all(reader: &mut impl Read) -> Result<Vec<u8>, Fault> {
