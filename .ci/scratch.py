@@ -1,11 +1,14 @@
 """What the scripts of the gate share: the repository's files, a scratch copy of them, checks and
-tests in it, and sweeps that refuse memory."""
+tests in it, and runs of what `rt ci` built with memory refused."""
 
+import functools
 import os
 import re
 import shutil
 import subprocess
 import sys
+import tempfile
+import time
 from concurrent.futures import ThreadPoolExecutor
 
 sys.dont_write_bytecode = True
@@ -49,12 +52,64 @@ def copy_into(folder):
         shutil.copy(os.path.join(ROOT, file), to)
 
 
+def kit():
+    """The folder of the toolchain's kit."""
+    page = subprocess.run(["rt", "doc"], capture_output=True, text=True, check=True).stdout
+    return os.path.dirname(page.strip())
+
+
+@functools.cache
+def stamps(folder):
+    """What `rt` knows the text of each crate of the scratch copy by, as its own module sums it."""
+    sys.path.insert(0, os.path.join(kit(), "bin"))
+    import rtlib
+
+    rtlib.Crate.stamp = functools.cache(rtlib.Crate.stamp)
+    return {it.name: it.stamp() for it in rtlib.crates_below(folder)}
+
+
+def libraries(crate):
+    """The repository's libraries that a crate stands on."""
+    rows = dict(re.findall(r"^(\w+): (.*)$", read("crates.txt"), re.M))
+    found, left = set(), [crate]
+    while left:
+        names = set(rows[left.pop()].split()) & set(rows) - found
+        found |= names
+        left += names
+    return found
+
+
+def wait_for(crate, log):
+    """Waits until `rt ci`, whose output is the log, has proved the crate, and tells whether it
+    has."""
+    while True:
+        said = read(log)
+        if re.search(rf"^rt: {crate} (proved|is kept)", said, re.M):
+            return True
+        if re.search(rf"^rt: {crate} NOT PROVED|^stage rt ci: ", said, re.M):
+            return False
+        time.sleep(1)
+
+
+def take_libraries(folder, crate):
+    """Gives the scratch copy the libraries of a crate that `rt ci` proves beside it, whose output
+    is in the file that the variable CI_LOG names, so that nothing is proved twice. Without one, and
+    where a text differs, a check proves them in the copy."""
+    log = os.environ.get("CI_LOG")
+    for name in libraries(crate) if log else ():
+        built, taken = (os.path.join(it, "crates", name, "out", "rlib") for it in (ROOT, folder))
+        if not os.path.exists(taken) and wait_for(name, log):
+            shutil.copytree(built, taken)
+            write(os.path.join(taken, "stamp"), stamps(folder)[name])
+
+
 def check_functions(folder, crate, functions):
-    """What a check of these functions of a crate of the scratch copy prints, over what the checks
-    before it kept."""
+    """What a check of these functions of a crate of the scratch copy prints. One job: each further
+    one would read all libraries again."""
+    take_libraries(folder, crate)
     only = [word for name in functions for word in ("--only", name)]
     how = {**QUIET, "cwd": os.path.join(folder, "crates", crate)}
-    return subprocess.run(["rt", "check", "--allow-holes", *only], **how).stdout
+    return subprocess.run(["rt", "check", "--allow-holes", "--jobs", "1", *only], **how).stdout
 
 
 def errors_of(said):
@@ -74,8 +129,28 @@ def failed_tests(folder, crate):
     return {f"{crate}::{it}" for it in re.findall(r"^test (\S+) .*FAILED", said, re.M)}
 
 
-def sweeps(sweep, first, most):
-    """Each place from the first on, and what a sweep answers there: two sweeps at a time."""
-    with ThreadPoolExecutor(2) as pairs:
-        for place in range(first, most, 2):
-            yield from enumerate(pairs.map(sweep, (place, place + 1)), place)
+class Refusals:
+    """A program that `rt ci` has built here, run with one of its requests for memory refused."""
+
+    def __init__(self, program):
+        self.program = os.path.join(ROOT, "crates", program)
+        if not os.path.exists(self.program):
+            stop(f"crates/{program} is not there: rt ci builds it")
+        self.room = tempfile.TemporaryDirectory()
+        self.refuse = os.path.join(self.room.name, "refuse.so")
+        source = os.path.join(ROOT, ".ci", "refuse.c")
+        words = ["-O1", "-shared", "-fPIC", "-nostdlib", "-o", self.refuse, source]
+        subprocess.run([os.path.join(kit(), "toolchain", "bin", "clang"), *words], check=True)
+
+    def ran(self, place, words, given=b""):
+        """What the program made of these words and this input where the request at this place, from
+        1 on, was refused; 0 refuses none."""
+        how = {"input": given, "capture_output": True, "cwd": self.room.name, "timeout": 60}
+        how["env"] = {"LD_PRELOAD": self.refuse, "REFUSE": str(place)}
+        return subprocess.run([self.program, *words], **how)
+
+
+def in_threads(call, items):
+    """What the call answers of each item, several at a time."""
+    with ThreadPoolExecutor(os.cpu_count()) as threads:
+        return list(threads.map(call, items))

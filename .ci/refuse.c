@@ -1,0 +1,25 @@
+/* Refuses one request for memory of the program that it is loaded into by LD_PRELOAD: the one whose
+   number, counted from 1, stands in the variable REFUSE; none where that is 0. The C library's own
+   allocator answers all others. */
+
+extern void *__libc_malloc(unsigned long size);
+extern void *__libc_realloc(void *block, unsigned long size);
+extern char *getenv(const char *name);
+extern int atoi(const char *text);
+
+/* How many requests there are to come up to the one that is refused; -1 before the first one. */
+static int left = -1;
+
+static int is_refused(void) {
+  if (left < 0) {
+    const char *number = getenv("REFUSE");
+    left = number ? atoi(number) : 0;
+  }
+  return left > 0 && --left == 0;
+}
+
+void *malloc(unsigned long size) { return is_refused() ? 0 : __libc_malloc(size); }
+
+void *realloc(void *block, unsigned long size) {
+  return is_refused() ? 0 : __libc_realloc(block, size);
+}
