@@ -1,6 +1,8 @@
 // The workloads of `crates/test_bench` over the Rust crate `nonempty-collections`: what the port's speed is compared with. The steps and the
 // numbers are those of the port.
-use nonempty_collections::{IntoNonEmptyIterator, NEBTreeMap, NEBTreeSet, NEIndexMap, NEIndexSet, NEMap, NESet, NEVec, NonEmptyIterator};
+use nonempty_collections::{
+    IntoNonEmptyIterator, NEBTreeMap, NEBTreeSet, NEIndexMap, NEIndexSet, NEMap, NESet, NEVec, NonEmptyIterator, NonEmptyItertools,
+};
 use std::collections::{BTreeMap, HashMap};
 use std::hash::{BuildHasherDefault, Hasher, RandomState};
 use std::num::NonZeroUsize;
@@ -121,7 +123,7 @@ fn checksum(name: &str, n: NonZeroUsize) -> Option<u64> {
         "scan" => scan(n),
         "hash_map" => hash_map(n),
         "tree_map" => tree_map(n),
-        _ => return keyed(name, n),
+        _ => return listed(name, n).or_else(|| keyed(name, n)),
     })
 }
 
@@ -303,6 +305,126 @@ fn tree_map(n: NonZeroUsize) -> u64 {
     checksum
 }
 
+// Products, whether items differ, and lists of calls. The Rust crate has none that carries out such a list, so `*_run` is `*_directly` here.
+
+fn listed(name: &str, n: NonZeroUsize) -> Option<u64> {
+    Some(match name {
+        "product" => product(n),
+        "all_unique" => u64::from(scrambled(n).into_nonempty_iter().all_unique()),
+        "vector_calls" => vector_calls(n).len() as u64,
+        "vector_run" | "vector_directly" => vector_directly(vector_calls(n)),
+        "map_calls" => map_calls(n).len() as u64,
+        "tree_run" | "tree_directly" => map_directly(NEBTreeMap::new(0, 0), map_calls(n)),
+        "hash_run" | "hash_directly" => map_directly(NEMap::with_hasher(Folding::default(), 0, 0), map_calls(n)),
+        "index_run" | "index_directly" => map_directly(NEIndexMap::with_hasher(Folding::default(), 0, 0), map_calls(n)),
+        _ => return None,
+    })
+}
+
+fn product(n: NonZeroUsize) -> u64 {
+    let rows = scrambled(n);
+    let rows = rows.nonempty_iter().copied();
+    let columns = scrambled(NonZeroUsize::MIN.saturating_add(15));
+    let columns = columns.nonempty_iter().copied();
+    let mut checksum = 0u64;
+    for (x, y) in rows.cartesian_product(columns) {
+        checksum = mixed(checksum, x ^ y);
+    }
+    checksum
+}
+
+enum VecCall {
+    Push(u64),
+    Pop,
+    Remove(usize),
+    SwapRemove(usize),
+    Insert(usize, u64),
+    Truncate(NonZeroUsize),
+    Len,
+}
+
+#[inline(never)]
+fn vector_calls(n: NonZeroUsize) -> Vec<VecCall> {
+    let mut state = 1u64;
+    let mut calls = Vec::with_capacity(n.get());
+    for _ in 0..n.get() {
+        state = next(state);
+        let (place, x) = ((state >> 40) as usize % 16, state >> 11);
+        calls.push(match (state >> 60) % 8 {
+            0 | 1 => VecCall::Push(x),
+            2 => VecCall::Pop,
+            3 => VecCall::Remove(place),
+            4 => VecCall::SwapRemove(place),
+            5 => VecCall::Insert(place, x),
+            6 => VecCall::Truncate(NonZeroUsize::MIN.saturating_add(place)),
+            _ => VecCall::Len,
+        });
+    }
+    calls
+}
+
+fn vector_directly(calls: Vec<VecCall>) -> u64 {
+    let mut items = NEVec::new(0);
+    let mut checksum = 0u64;
+    for call in calls {
+        checksum = mixed(checksum, made_directly(&mut items, call));
+    }
+    checksum
+}
+
+fn made_directly(items: &mut NEVec<u64>, call: VecCall) -> u64 {
+    let len = items.len().get();
+    match call {
+        VecCall::Push(x) => items.push(x),
+        VecCall::Pop => return items.pop().unwrap_or(2),
+        VecCall::Remove(i) if len == 1 || i < len => return items.remove(i).unwrap_or(2),
+        VecCall::SwapRemove(i) if len == 1 || i < len => return items.swap_remove(i).unwrap_or(2),
+        VecCall::Insert(i, x) if i <= len => items.insert(i, x),
+        VecCall::Remove(_) | VecCall::SwapRemove(_) | VecCall::Insert(_, _) => return 3,
+        VecCall::Truncate(n) => items.truncate(n),
+        VecCall::Len => return len as u64,
+    }
+    1
+}
+
+enum MapCall {
+    Insert(u64, u64),
+    Write(u64, u64),
+    Has(u64),
+    Len,
+}
+
+#[inline(never)]
+fn map_calls(n: NonZeroUsize) -> Vec<MapCall> {
+    let mut state = 1u64;
+    let mut calls = Vec::with_capacity(n.get());
+    for _ in 0..n.get() {
+        state = next(state);
+        let (key, value) = ((state >> 40) % 4_096, state >> 11);
+        calls.push(match (state >> 60) % 4 {
+            0 => MapCall::Insert(key, value),
+            1 => MapCall::Write(key, value),
+            2 => MapCall::Has(key),
+            _ => MapCall::Len,
+        });
+    }
+    calls
+}
+
+fn map_directly<M: Table>(mut map: M, calls: Vec<MapCall>) -> u64 {
+    let mut checksum = 0u64;
+    for call in calls {
+        let told = match call {
+            MapCall::Insert(key, value) => map.replaced(key, value).unwrap_or(2),
+            MapCall::Write(key, value) => map.written(key, value).unwrap_or(2),
+            MapCall::Has(key) => u64::from(map.has(key)),
+            MapCall::Len => map.length(),
+        };
+        checksum = mixed(checksum, told);
+    }
+    checksum
+}
+
 // Maps and sets: `hash_*` and `index_*` with the hashes of the port's default hasher, and with `_default` behind the name with those of
 // the Rust crate's own.
 
@@ -387,6 +509,9 @@ trait Table {
     fn of_one(key: u64, value: u64) -> Self;
     fn of_all(pairs: NEVec<(u64, u64)>) -> Self;
     fn put(&mut self, key: u64, value: u64);
+    fn replaced(&mut self, key: u64, value: u64) -> Option<u64>;
+    fn written(&mut self, key: u64, value: u64) -> Option<u64>;
+    fn has(&self, key: u64) -> bool;
     fn found(&self, key: u64) -> u64;
     fn length(&self) -> u64;
     fn combined(&self) -> u64;
@@ -420,6 +545,16 @@ macro_rules! table {
             }
             fn put(&mut self, key: u64, value: u64) {
                 self.insert(key, value);
+            }
+            fn replaced(&mut self, key: u64, value: u64) -> Option<u64> {
+                self.insert(key, value)
+            }
+            fn written(&mut self, key: u64, value: u64) -> Option<u64> {
+                let place = self.get_mut(&key)?;
+                Some(std::mem::replace(place, value))
+            }
+            fn has(&self, key: u64) -> bool {
+                self.contains_key(&key)
             }
             fn found(&self, key: u64) -> u64 {
                 self.get(&key).copied().unwrap_or(1)

@@ -6,6 +6,7 @@
 
 mod input;
 mod keyed;
+mod listed;
 mod workloads;
 
 use std::alloc::AllocError;

@@ -1,7 +1,7 @@
 //! The workloads, each over `n` items.
 
 use crate::input::{mixed, nested, next, paired, rising, scrambled};
-use crate::keyed;
+use crate::{keyed, listed};
 use nonempty_collections::{IntoNonEmptyIterator, NEVec, NonEmptyIterator};
 use std::alloc::{AllocError, Global};
 use std::collections::{BTreeMap, HashMap};
@@ -34,9 +34,17 @@ pub fn checksum(alloc: Global, name: &str, n: NonZeroUsize) -> Result<Option<u64
         "scan" => scan(alloc, n)?,
         "hash_map" => hash_map(alloc, n)?,
         "tree_map" => tree_map(alloc, n)?,
-        _ => return keyed::checksum(alloc, name, n),
+        _ => return others(alloc, name, n),
     };
     Ok(Some(checksum))
+}
+
+// Of the workloads of the other modules.
+fn others(alloc: Global, name: &str, n: NonZeroUsize) -> Result<Option<u64>, AllocError> {
+    match listed::checksum(alloc, name, n)? {
+        Some(checksum) => Ok(Some(checksum)),
+        None => keyed::checksum(alloc, name, n),
+    }
 }
 
 // What there is to tell of the numbers alone, with which the others begin.

@@ -1,0 +1,159 @@
+//! Workloads over products, over the look for equal items, and over lists of calls: carried out by
+//! `run_vec` and `run_map`, and beside them the same calls made directly.
+
+use crate::input::{mixed, next, scrambled};
+use ne_laws::map_calls::{MapCall, MapReply, run_map};
+use ne_laws::maps::NonEmptyMap;
+use ne_laws::vector_calls::{VecCall, VecReply, run_vec};
+use nonempty_collections::{
+    IntoNonEmptyIterator, NEBTreeMap, NEIndexMap, NEMap, NEVec, NonEmptyIterator, NonEmptyItertools,
+};
+use std::alloc::{AllocError, Global};
+use std::num::NonZeroUsize;
+
+/// What the workload of this name makes of `n` pairs, items or calls; `None` if none has the name.
+pub fn checksum(alloc: Global, name: &str, n: NonZeroUsize) -> Result<Option<u64>, AllocError> {
+    let checksum = match name {
+        "product" => product(alloc, n)?,
+        "all_unique" => u64::from(scrambled(alloc, n)?.into_nonempty_iter().all_unique(alloc)?),
+        "vector_calls" => vector_calls(alloc, n)?.len() as u64,
+        "vector_run" => vector_run(alloc, vector_calls(alloc, n)?)?,
+        "vector_directly" => vector_directly(alloc, vector_calls(alloc, n)?)?,
+        "map_calls" => map_calls(alloc, n)?.len() as u64,
+        "tree_run" => map_run(alloc, NEBTreeMap::new(alloc, 0, 0)?, n)?,
+        "tree_directly" => map_directly(NEBTreeMap::new(alloc, 0, 0)?, map_calls(alloc, n)?)?,
+        "hash_run" => map_run(alloc, NEMap::new(alloc, 0, 0)?, n)?,
+        "hash_directly" => map_directly(NEMap::new(alloc, 0, 0)?, map_calls(alloc, n)?)?,
+        "index_run" => map_run(alloc, NEIndexMap::new(alloc, 0, 0)?, n)?,
+        "index_directly" => map_directly(NEIndexMap::new(alloc, 0, 0)?, map_calls(alloc, n)?)?,
+        _ => return Ok(None),
+    };
+    Ok(Some(checksum))
+}
+
+// About `n` pairs: of each item one with each of 16.
+fn product(alloc: Global, n: NonZeroUsize) -> Result<u64, AllocError> {
+    let rows = scrambled(alloc, n)?;
+    let rows = rows.nonempty_iter().copied();
+    let columns = scrambled(alloc, NonZeroUsize::MIN.saturating_add(15))?;
+    let columns = columns.nonempty_iter().copied();
+    let mut checksum = 0u64;
+    for pair in rows.cartesian_product(columns) {
+        let (x, y) = pair?;
+        checksum = mixed(checksum, x ^ y);
+    }
+    Ok(checksum)
+}
+
+// `n` calls on a vector, by which it stays short.
+fn vector_calls(alloc: Global, n: NonZeroUsize) -> Result<Vec<VecCall<u64>>, AllocError> {
+    let mut state = 1u64;
+    let mut calls = Vec::with_capacity(alloc, n.get())?;
+    for _ in 0..n.get() {
+        state = next(state);
+        let (place, x) = ((state >> 40) as usize % 16, state >> 11);
+        calls.push(match (state >> 60) % 8 {
+            0 | 1 => VecCall::Push(x),
+            2 => VecCall::Pop,
+            3 => VecCall::Remove(place),
+            4 => VecCall::SwapRemove(place),
+            5 => VecCall::Insert(place, x),
+            6 => VecCall::Truncate(NonZeroUsize::MIN.saturating_add(place)),
+            _ => VecCall::Len,
+        })?;
+    }
+    Ok(calls)
+}
+
+fn vector_run(alloc: Global, calls: Vec<VecCall<u64>>) -> Result<u64, AllocError> {
+    let mut items = NEVec::new(alloc, 0)?;
+    let mut checksum = 0u64;
+    for reply in run_vec(alloc, &mut items, calls)? {
+        let told = match reply {
+            VecReply::Done => 1,
+            VecReply::Taken(taken) => taken.unwrap_or(2),
+            VecReply::Len(len) => len.get() as u64,
+            VecReply::Refused => 3,
+        };
+        checksum = mixed(checksum, told);
+    }
+    Ok(checksum)
+}
+
+fn vector_directly(alloc: Global, calls: Vec<VecCall<u64>>) -> Result<u64, AllocError> {
+    let mut items = NEVec::new(alloc, 0)?;
+    let mut checksum = 0u64;
+    for call in calls {
+        checksum = mixed(checksum, made_directly(&mut items, call)?);
+    }
+    Ok(checksum)
+}
+
+fn made_directly(items: &mut NEVec<u64>, call: VecCall<u64>) -> Result<u64, AllocError> {
+    let len = items.len().get();
+    match call {
+        VecCall::Push(x) => items.push(x)?,
+        VecCall::Pop => return Ok(items.pop().unwrap_or(2)),
+        VecCall::Remove(i) if len == 1 || i < len => return Ok(items.remove(i).unwrap_or(2)),
+        VecCall::SwapRemove(i) if len == 1 || i < len => {
+            return Ok(items.swap_remove(i).unwrap_or(2));
+        }
+        VecCall::Insert(i, x) if i <= len => items.insert(i, x)?,
+        VecCall::Remove(_) | VecCall::SwapRemove(_) | VecCall::Insert(_, _) => return Ok(3),
+        VecCall::Truncate(n) => items.truncate(n),
+        VecCall::Reverse => items.reverse(),
+        VecCall::Len => return Ok(len as u64),
+    }
+    Ok(1)
+}
+
+// `n` calls on a map of at most 4,096 keys.
+fn map_calls(alloc: Global, n: NonZeroUsize) -> Result<Vec<MapCall<u64, u64>>, AllocError> {
+    let mut state = 1u64;
+    let mut calls = Vec::with_capacity(alloc, n.get())?;
+    for _ in 0..n.get() {
+        state = next(state);
+        let (key, value) = ((state >> 40) % 4_096, state >> 11);
+        calls.push(match (state >> 60) % 4 {
+            0 => MapCall::Insert(key, value),
+            1 => MapCall::Write(key, value),
+            2 => MapCall::Has(key),
+            _ => MapCall::Len,
+        })?;
+    }
+    Ok(calls)
+}
+
+fn map_run<M: NonEmptyMap<u64, u64> + Drop>(
+    alloc: Global,
+    mut map: M,
+    n: NonZeroUsize,
+) -> Result<u64, AllocError> {
+    let mut checksum = 0u64;
+    for reply in run_map(alloc, &mut map, map_calls(alloc, n)?)? {
+        let told = match reply {
+            MapReply::Old(old) => old.unwrap_or(2),
+            MapReply::Has(has) => u64::from(has),
+            MapReply::Len(len) => len.get() as u64,
+        };
+        checksum = mixed(checksum, told);
+    }
+    Ok(checksum)
+}
+
+fn map_directly<M: NonEmptyMap<u64, u64> + Drop>(
+    mut map: M,
+    calls: Vec<MapCall<u64, u64>>,
+) -> Result<u64, AllocError> {
+    let mut checksum = 0u64;
+    for call in calls {
+        let told = match call {
+            MapCall::Insert(key, value) => map.put(key, value)?.unwrap_or(2),
+            MapCall::Write(key, value) => map.set(&key, value).unwrap_or(2),
+            MapCall::Has(key) => u64::from(map.has(&key)),
+            MapCall::Len => map.size().get() as u64,
+        };
+        checksum = mixed(checksum, told);
+    }
+    Ok(checksum)
+}
