@@ -19,8 +19,8 @@ pub fn put_some<C: Drop>(there: &mut C, out: &mut Transcript, made: Option<C>) -
     }
 }
 
-/// Puts what was made of what may be empty. Where it is, writes the error, and the one that there is
-/// stays.
+/// Puts what was made of what may be empty. Where it is, writes the error, and the one that there
+/// is stays.
 pub fn put_ok<C: Drop>(there: &mut C, out: &mut Transcript, made: Result<C, Error>) -> Answered {
     match made {
         Ok(made) => put(there, Ok(made)),

@@ -119,8 +119,8 @@ macro_rules! looked {
     };
 }
 
-// Walks, by reference and by value: `shown` and `given` write what they give. So each arm hands a walk
-// of std's or of `indexmap`'s on, and what the walks of one type need is proved once.
+// Walks, by reference and by value: `shown` and `given` write what they give. So each arm hands a
+// walk of std's or of `indexmap`'s on, and what the walks of one type need is proved once.
 macro_rules! walked {
     ($Std:ident, $shown:ident, $given:ident, $set:expr, $call:expr, $out:expr, $next:expr) => {
         match $call.name {

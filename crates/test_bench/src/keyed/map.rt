@@ -6,6 +6,7 @@ use nonempty_collections::{
 };
 use std::alloc::{AllocError, Global};
 
+/// A map from numbers to numbers, by what the workloads ask of it.
 pub trait Table {
     fn of_one(alloc: Global, key: u64, value: u64) -> Result<Self, AllocError>;
 

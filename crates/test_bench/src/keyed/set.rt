@@ -6,6 +6,7 @@ use nonempty_collections::{
 };
 use std::alloc::{AllocError, Global};
 
+/// A set of numbers, by what the workloads ask of it.
 pub trait Bag {
     fn of_all(alloc: Global, items: NEVec<u64>) -> Result<Self, AllocError>;
 
