@@ -1,4 +1,5 @@
--- What a walk over a union of hashed sets that have an item has before it, and what it shows as a source.
+-- What a walk over a union of hashed sets that have an item has before it, and what it shows as a
+-- source.
 use Rattle.std.specs.Prelude.{◌≡◌, ◌^◌, ◌<◌, List, length}
 use Rattle.std.specs.Map.Iter.{ShowsInOrder, TakesFirst, deref}
 use Rattle.ne_vec.specs.Fronts.{Shown}

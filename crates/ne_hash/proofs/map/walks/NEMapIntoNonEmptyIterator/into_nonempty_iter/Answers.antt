@@ -10,6 +10,7 @@ returns g c =
       into_nonempty_iter_gives = (
         same,
         search rules,
-        key_walk_gives KeysWalkOut c.into_iter.result c.args.self.entries (λ it walks. walks.1 ∙ same),
+        key_walk_gives KeysWalkOut c.into_iter.result c.args.self.entries
+            (λ it walks. walks.1 ∙ same),
       );
     }
