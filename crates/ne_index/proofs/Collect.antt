@@ -88,7 +88,8 @@ module _ {K V S : Type 0} {eq : K → K → Bool} (laws : IsEquivalence eq) wher
       → IsKeyListMapOf eq pairs m.entries → IsKeyListMapOf eq (pairs ++ p ∷ []) n.entries
   key_list_map-put pairs m n p d put updates h = (
     put ∙ key_list-put eq (keys_of pairs) (keys_of m.entries) p.0
-        (same_keys laws pairs m.entries h.1) h.0 ∙ ap (key_list eq) (sym (map-append (λ e. e.0) pairs (p ∷ []))),
+        (same_keys laws pairs m.entries h.1) h.0
+        ∙ ap (key_list eq) (sym (map-append (λ e. e.0) pairs (p ∷ []))),
     map_of-more laws pairs m.entries n.entries p d updates.0 h.1,
   )
 

@@ -11,6 +11,7 @@ use Rattle.ne_iter.specs.Collected.{IsSetOf}
 use Rattle.ne_iter.specs.CollectedLaws.{first_seen-distinct}
 use Rattle.ne_iter.specs.KeyList.{first_seen, key_list}
 use Rattle.ne_index.specs.Puts.{put_item}
+use Rattle.ne_index.proofs.Put.{put_item-insert}
 
 or_false : (b : Bool) → (b || false) ≡ b
 or_false true = refl
@@ -154,7 +155,8 @@ module _ {K : Type 0} (eq : K → K → Bool) where
   pub key_list-put : (xs ks : List K) (x : K)
       → ((q : K) → is_member eq ks q ≡ is_member eq xs q) → ks ≡ key_list eq xs
       → put_item eq ks x ≡ key_list eq (xs ++ x ∷ [])
-  key_list-put xs ks x same is = joins (is_member eq ks x) ks x
+  key_list-put xs ks x same is = sym (put_item-insert eq ks x)
+      ∙ joins (is_member eq ks x) ks x
       ∙ ap (λ b. ks ++ cond b [] (x ∷ [])) (same x)
       ∙ ap (λ l. l ++ cond (is_member eq xs x) [] (x ∷ [])) is
       ∙ sym (first_seen-behind [] xs (x ∷ []))

@@ -1,20 +1,16 @@
 -- One pair or item put in, as the crate `indexmap` does it.
-use Rattle.std.proofs.Common.{◌≡◌, ℕ, suc, ◌+◌, Bool, true, false, cond, not, ◌||◌, List, [], ◌∷◌}
-use Rattle.std.proofs.Common.{◌++◌, if◌then◌else◌, slice_set, refl, sym, ap, subst, ◌∙◌, arith}
+use Rattle.std.proofs.Common.{◌≡◌, Bool, true, false, cond, not, ◌||◌, List, [], ◌∷◌}
+use Rattle.std.proofs.Common.{◌++◌, if◌then◌else◌, refl, sym, ap, subst, ◌∙◌}
 use Rattle.std.proofs.Common.{Option, None, Some, is_some, true≢false}
 use Rattle.std.specs.Prelude.{IfNone, IsSome}
 use Rattle.std.specs.Bool.{OnTrue}
-use Rattle.std.specs.List.{find, list_any, position_or_len}
+use Rattle.std.specs.List.{find, list_any}
 use Rattle.std.specs.Map.{keys_of}
 use Rattle.std.specs.Set.{is_member, swap_key}
 use Rattle.indexmap.proofs.CallerLemmas.{insert_entry-new, keys-insert_entry-present}
 use Rattle.indexmap.specs.IndexMap.{IndexMap, get, insert_entry, keys}
-use Rattle.indexmap.specs.IndexSet.{replace_key}
-use Rattle.indexmap.specs.Layout.{set_value_at}
-use Rattle.ne_index.specs.Puts.{put_entry, put_in_place}
-
-one_more : (n : ℕ) → 1 + n ≡ suc n
-one_more n = omega arith
+use Rattle.indexmap.specs.IndexSet.{insert_key, replace_key}
+use Rattle.ne_index.specs.Puts.{put_entry, put_in_place, put_item}
 
 module _ {K : Type 0} (eq : K → K → Bool) where
   module _ {V : Type 0} where
@@ -22,20 +18,30 @@ module _ {K : Type 0} (eq : K → K → Bool) where
         → insert_entry eq es k v ≡ put_entry eq es k v
     put_entry-insert [] k v = refl
     put_entry-insert (e ∷ es) k v =
-        by (eq k e.0) (is_member eq (keys_of es) k) (put_entry-insert es k v)
-      where
-        place : ℕ
-        place = position_or_len (eq k) (keys_of es)
+        ap (λ l. if eq k e.0 then (e.0, v) ∷ es else e ∷ l) (put_entry-insert es k v)
 
-        by : (b c : Bool)
-            → insert_entry eq es k v ≡ (if c then set_value_at es place v else es ++ (k, v) ∷ [])
-            → (if b then (e.0, v) ∷ es else e ∷ insert_entry eq es k v)
-            ≡ (if b || c then set_value_at (e ∷ es) (cond (not b) (1 + place) 0) v
-            else e ∷ es ++ (k, v) ∷ [])
-        by true c h = refl
-        by false true h = ap (λ l. e ∷ l) h
-            ∙ ap (λ n. set_value_at (e ∷ es) n v) (sym (one_more place))
-        by false false h = ap (λ l. e ∷ l) h
+  pub put_item-insert : (xs : List K) (x : K) → insert_key eq xs x ≡ put_item eq xs x
+  put_item-insert [] x = refl
+  put_item-insert (y ∷ ys) x = by (eq x y) (is_member eq ys x) (put_item-insert ys x)
+    where
+      by : (b c : Bool) → (if c then ys else ys ++ x ∷ []) ≡ put_item eq ys x
+          → (if b || c then y ∷ ys else y ∷ ys ++ x ∷ [])
+          ≡ (if b then y ∷ ys else y ∷ put_item eq ys x)
+      by true c h = refl
+      by false true h = ap (λ l. y ∷ l) h
+      by false false h = ap (λ l. y ∷ l) h
+
+  pub put_in_place-replace : (xs : List K) (x : K) → replace_key eq xs x ≡ put_in_place eq xs x
+  put_in_place-replace [] x = refl
+  put_in_place-replace (y ∷ ys) x = by (eq x y) (is_member eq ys x) (put_in_place-replace ys x)
+    where
+      by : (b c : Bool)
+          → (if c then swap_key (eq x) ys x else ys ++ x ∷ []) ≡ put_in_place eq ys x
+          → (if b || c then cond b (x ∷ ys) (y ∷ swap_key (eq x) ys x) else y ∷ ys ++ x ∷ [])
+          ≡ (if b then x ∷ ys else y ∷ put_in_place eq ys x)
+      by true c h = refl
+      by false true h = ap (λ l. y ∷ l) h
+      by false false h = ap (λ l. y ∷ l) h
 
   -- where the old value that came back tells whether the key was there
   module _ {V S : Type 0} (m : IndexMap K V S) (k : K) (v : V) (old : Option V)
@@ -83,22 +89,3 @@ module _ {K : Type 0} (eq : K → K → Bool) where
       by None absent = made ∙ ap (λ b. if b then swap_key (eq x) xs x else xs ++ x ∷ [])
           (sym (found_there (eq x) xs) ∙ ap is_some (sym absent))
       by (Some w) there = tt
-
-  swapped : (test : K → Bool) (xs : List K) (x : K)
-      → swap_key test xs x ≡ slice_set xs (position_or_len test xs) x
-  swapped test [] x = refl
-  swapped test (y ∷ ys) x = by (test y) (swapped test ys x)
-    where
-      place : ℕ
-      place = position_or_len test ys
-
-      by : (b : Bool) → swap_key test ys x ≡ slice_set ys place x
-          → cond b (x ∷ ys) (y ∷ swap_key test ys x)
-          ≡ slice_set (y ∷ ys) (cond (not b) (1 + place) 0) x
-      by true h = refl
-      by false h = ap (λ l. y ∷ l) h ∙ ap (λ n. slice_set (y ∷ ys) n x) (sym (one_more place))
-
-  pub put_in_place-replace : (xs : List K) (x : K)
-      → replace_key eq xs x ≡ put_in_place eq xs x
-  put_in_place-replace xs x =
-      ap (λ l. if is_member eq xs x then l else xs ++ x ∷ []) (swapped (eq x) xs x)

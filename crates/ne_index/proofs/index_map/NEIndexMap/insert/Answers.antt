@@ -2,6 +2,7 @@ use Rattle.std.proofs.Common.{ap, ◌∙◌}
 use Rattle.std.specs.Map.{keys_of}
 use Rattle.indexmap.proofs.SetLemmas.{keys_insert_entry}
 use Rattle.ne_index.proofs.Put.{keys-stay, new-last, put_entry-insert}
+use Rattle.ne_index.proofs.Put.{put_item-insert}
 use Rattle.ne_index.proofs.index_map.NEIndexMap.insert.Goals as goal
 
 pub returns-clause-entries : goal.returns-clause-entries
@@ -10,7 +11,8 @@ returns-clause-entries g c = rw (← c.self.view_is) (c.in_ok-insert.ensures.ent
 
 pub returns-clause-keys : goal.returns-clause-keys
 returns-clause-keys g c = rw (← c.self.view_is) (ap keys_of c.in_ok-insert.ensures.entries
-    ∙ keys_insert_entry g.K.PartialEq.eq c.self.inside.inner.entries c.args.k c.args.v)
+    ∙ keys_insert_entry g.K.PartialEq.eq c.self.inside.inner.entries c.args.k c.args.v
+    ∙ put_item-insert g.K.PartialEq.eq (keys_of c.self.inside.inner.entries) c.args.k)
 
 pub returns-clause-new_last : goal.returns-clause-new_last
 returns-clause-new_last g c = rw (← c.self.view_is) (new-last g.K.PartialEq.eq

@@ -1,5 +1,10 @@
-use Rattle.ne_index.proofs.Put.{item-last}
+use Rattle.std.proofs.Common.{◌∙◌}
+use Rattle.ne_index.proofs.Put.{item-last, put_item-insert}
 use Rattle.ne_index.proofs.index_set.NEIndexSet.insert.Goals as goal
+
+pub returns-clause-keys : goal.returns-clause-keys
+returns-clause-keys g c = rw (← c.self.view_is) (c.in_ok-insert.ensures.keys
+    ∙ put_item-insert g.T.PartialEq.eq c.self.inside.inner.keys c.args.value)
 
 pub returns-clause-new_last : goal.returns-clause-new_last
 returns-clause-new_last g c = rw (← c.self.view_is) (item-last g.T.PartialEq.eq
