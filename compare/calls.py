@@ -51,6 +51,12 @@ def like_vector(chance, items):
     return chance.choice([items, items[: at + 1], (*items, an_item(chance, items)), changed, (an_item(chance, items),)])
 
 
+def some_calls(chance, items):
+    """Calls of a list, each by which it is and by its number."""
+    turns = range(chance.choice([0, 1, 2, 5, 12]))
+    return tuple(x for _ in turns for x in (chance.randrange(8), chance.choice([a_place, an_item])(chance, items)))
+
+
 # What a call's numbers may be: the values in small scripts, in pairs of calls and in the sample, and those made beside a vector.
 Kind = namedtuple("Kind", "small few telling random")
 KINDS = {
@@ -64,6 +70,13 @@ KINDS = {
     "other": Kind(lists(1, 3, range(3)), [(1, 0)], [(3, 1, 4, 1, 5, 9, 2, 6), (7, 7, 0, 13)], like_vector),
 }
 
+KINDS["calls"] = Kind(
+    [(*one, *other) for one, other in itertools.product(lists(2, 2, range(8)), [(), (2, 1), (7, 0)])],
+    [(0, 5, 3, 0, 1, 0)],
+    [(0, 7, 4, 2, 2, 1, 7, 0, 1, 0), (6, 0, 3, 0, 5, 3, 2, 9, 4, 9, 7, 0)],
+    some_calls,
+)
+
 # Names of calls, the closures that they take, the kinds of their numbers, and what they do to the vector. A new call is a new name.
 ROWS = [
     ("new singleton nev_one", NONE, "item", MAKES),
@@ -76,6 +89,7 @@ ROWS = [
     ("remove swap_remove", NONE, "place", CHANGES),
     ("append extend", NONE, "items", CHANGES),
     ("truncate", NONE, "size", CHANGES),
+    ("run_vec", NONE, "calls", CHANGES),
     ("as_mut_slice reverse pop dedup sort", NONE, "", CHANGES),
     ("iter_mut nonempty_iter_mut for_mut retain retain_mut dedup_by dedup_by_key", ANY, "", CHANGES),
     ("sort_by sort_by_key", PURE, "", CHANGES),
@@ -96,7 +110,7 @@ ROWS = [
     ("slice_chunks nonempty_chunks chunk_sizes", NONE, "size", READS),
     ("all any find reduce", ANY, "", READS),
     ("nth skip", NONE, "place", READS),
-    ("count next sum product max min", NONE, "", READS),
+    ("count next sum product max min all_unique", NONE, "", READS),
     ("fold", ANY, "item", READS),
     ("max_by min_by max_by_key min_by_key", ANY, "", READS),
     ("filter filter_map skip_while take_while unzip", ANY, "", READS),
@@ -110,7 +124,7 @@ ROWS = [
     ("take", NONE, "size", READS),
     ("chain try_into_nonempty_iter", NONE, "items", READS),
     ("once peek_mut intersperse", NONE, "item", READS),
-    ("zip", NONE, "other", READS),
+    ("zip cartesian_product", NONE, "other", READS),
     ("flat_map_peekable_take_enumerate", ANY, "size", READS),
     ("chain_take", NONE, "size items", READS),
     ("zip_flat_map_peekable_take_enumerate map_zip_take_unzip", ANY, "size items", READS),

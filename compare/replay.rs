@@ -2,7 +2,9 @@
 // the same, and its functions are named after the port's.
 #![allow(deprecated)]
 use nonempty_collections::iter::once;
-use nonempty_collections::{nev, IntoIteratorExt, IntoNonEmptyIterator, NESlice, NEVec, NonEmptyArrayExt, NonEmptyIterator, Singleton};
+use nonempty_collections::{
+    nev, IntoIteratorExt, IntoNonEmptyIterator, NESlice, NEVec, NonEmptyArrayExt, NonEmptyIterator, NonEmptyItertools, Singleton,
+};
 use std::borrow::Cow;
 use std::cell::Cell;
 use std::cmp::Ordering;
@@ -43,6 +45,7 @@ fn changed(items: &mut NEVec<u32>, call: &Call, text: &mut String) -> Result<boo
         || vector_tried(items, call, text)?
         || vector_written(items, call, text)?
         || vector_edited(items, call, text)?
+        || listed_run(items, call, text)?
         || vector_kept(items, call, text)?
         || vector_ordered(items, call, text)?)
 }
@@ -67,7 +70,8 @@ fn consumed(items: &NEVec<u32>, call: &Call, text: &mut String) -> Result<bool, 
         || collected_listed(items, call, text)?
         || collected_keyed(items, call, text)?
         || collected_gathered(items, call, text)?
-        || collected_joined(items, call, text)?)
+        || collected_joined(items, call, text)?
+        || listed_paired(items, call, text)?)
 }
 
 fn chained(items: &NEVec<u32>, call: &Call, text: &mut String) -> Result<bool, fmt::Error> {
@@ -352,6 +356,46 @@ fn vector_edited(items: &mut NEVec<u32>, call: &Call, text: &mut String) -> Resu
         }
         "extend" => items.extend(call.numbers.iter().copied()),
         "truncate" => items.truncate(call.size),
+        _ => return Ok(false),
+    }
+    Ok(true)
+}
+
+// The Rust crate carries out no list of calls: they are made one by one.
+fn listed_run(items: &mut NEVec<u32>, call: &Call, text: &mut String) -> Result<bool, fmt::Error> {
+    if call.name != "run_vec" {
+        return Ok(false);
+    }
+    for pair in call.numbers.chunks(2) {
+        let (number, len) = (pair.get(1).copied().unwrap_or(0), items.len().get());
+        let place = number as usize;
+        match pair[0] % 8 {
+            0 => items.push(number),
+            1 => write!(text, "{:?} ", items.pop())?,
+            2 if len == 1 || place < len => write!(text, "{:?} ", items.remove(place))?,
+            3 if len == 1 || place < len => write!(text, "{:?} ", items.swap_remove(place))?,
+            4 if place <= len => items.insert(place, number),
+            5 => items.truncate(NonZeroUsize::new(place).unwrap_or(NonZeroUsize::MIN)),
+            6 => items.reverse(),
+            7 => write!(text, "{len} ")?,
+            _ => write!(text, "refused ")?,
+        }
+        if matches!(pair[0] % 8, 0 | 5 | 6) || pair[0] % 8 == 4 && place <= len {
+            write!(text, "done ")?;
+        }
+    }
+    Ok(true)
+}
+
+fn listed_paired(items: &NEVec<u32>, call: &Call, text: &mut String) -> Result<bool, fmt::Error> {
+    let source = items.nonempty_iter().copied();
+    match call.name {
+        "cartesian_product" => {
+            let other = NEVec::from((call.first, call.rest().to_vec()));
+            let pairs: NEVec<(u32, u32)> = source.cartesian_product(other.nonempty_iter().copied()).collect();
+            write!(text, "{pairs:?}")?;
+        }
+        "all_unique" => write!(text, "{:?}", source.all_unique())?,
         _ => return Ok(false),
     }
     Ok(true)

@@ -7,6 +7,11 @@ use nonempty_collections::NEVec;
 use std::alloc::AllocError;
 use std::fmt::Debug;
 
+/// Writes nothing, of a call that has no answer.
+pub fn done(_: ()) -> Result<bool, AllocError> {
+    Ok(true)
+}
+
 /// Writes an answer.
 pub fn told<T: Debug + Drop>(text: &mut String, answer: T) -> Result<bool, AllocError> {
     write!(text, "{answer:?}")?;

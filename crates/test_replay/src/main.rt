@@ -12,6 +12,7 @@ mod chains;
 mod closure;
 mod collected;
 mod consumers;
+mod listed;
 mod runs;
 mod slice;
 mod sources;
@@ -82,6 +83,9 @@ fn answered(
         return Ok(true);
     }
     if collected::answered(alloc, items, call, text)? {
+        return Ok(true);
+    }
+    if listed::answered(alloc, items, call, text)? {
         return Ok(true);
     }
     chains::answered(alloc, items, call, text)

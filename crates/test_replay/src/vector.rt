@@ -1,6 +1,6 @@
 //! Calls on a vector. The last arm of a function tries the calls of the next one.
 
-use crate::answer::{listed, made, rest, said, told};
+use crate::answer::{done, listed, made, rest, said, told};
 use crate::call::Call;
 use nonempty_collections::{IntoNonEmptyIterator, NEVec, NonEmptyIterator, Singleton, nev};
 use std::alloc::{AllocError, Global};
@@ -77,11 +77,6 @@ fn tried(
         "try_from" => by_try_from(items, text, call.list(alloc)?),
         _ => written(alloc, items, call, text),
     }
-}
-
-// A call that writes has no answer.
-fn done(_: ()) -> Result<bool, AllocError> {
-    Ok(true)
 }
 
 fn write_at(items: &mut NEVec<u32>, call: &Call, text: &mut String) -> Result<bool, AllocError> {
