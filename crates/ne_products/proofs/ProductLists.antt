@@ -1,5 +1,5 @@
 -- From the lists that two sources give to the pairs that their product gives.
-use Rattle.std.proofs.Common.{inl, inr, refl}
+use Rattle.std.proofs.Common.{refl}
 use Rattle.std.specs.Prelude.{List, Ok, Option, Result, map}
 use Rattle.std.specs.declared.alloc.AllocError.{AllocError}
 use Rattle.ne_vec.specs.Fronts.{Lists}
@@ -8,7 +8,8 @@ use Rattle.ne_iter.specs.Gives.{GivesList}
 use Rattle.ne_iter.specs.SourceLists.{BecomesList}
 use Rattle.ne_iter.specs.Sources.{Reads, SameLists}
 use Rattle.ne_products.specs.Pairs.{cartesian_product, CanRefuse}
-use Rattle.ne_products.specs.Restarts.{HasExactClones, PairsListed, PairsLists, ProductGives}
+use Rattle.ne_products.specs.Restarts.{HasExactClones, NeverRefuses, PairsListed, PairsLists}
+use Rattle.ne_products.specs.Restarts.{ProductGives}
 use Rattle.ne_products.proofs.ProductFronts.{all_values, product_front}
 
 module _ {U S A : Type 0} (becomes : U → S → Type 0) (steps : S → Option A → S → Type 0) where
@@ -24,31 +25,43 @@ module _ {U S A : Type 0} (becomes : U → S → Type 0) (steps : S → Option A
       let there = (same w whole ys).0 read in
       lists_read there.0 xs (lists there.0 there.1) whole ys there.2
 
-never_refused : {A J : Type 0} (clones : A → A → Type 0) (infallible : A → Type 0)
-    (certain : J → Type 0) → HasExactClones clones infallible → ((j : J) → certain j)
-    → CanRefuse infallible certain → ⊥
-never_refused clones infallible certain exact sure (inl item) = item.1 (exact.0 item.0)
-never_refused clones infallible certain exact sure (inr clone) = clone.1 (sure clone.0)
+-- the list of a product, by its clause `gives`
+pub product_list : {U W V X S R T J A B E : Type 0} {becomes : U → S → Type 0}
+    {steps : S → Option A → S → Type 0} {meets : W → R → Type 0}
+    {other : R → Option B → R → Type 0} {made : V → T → Type 0}
+    {next : T → Option (Result (A × B) E) → T → Type 0} {again : Type 0}
+    (clones : A → A → Type 0) (infallible : A → Type 0) (begins : X → J → Type 0)
+    (certain : J → Type 0) (x : X) {u : U} {w : W} {v : V}
+    → ProductGives (Reads becomes steps) (Reads meets other) again clones infallible
+    (CanRefuse begins certain x) (Reads made next) u w v
+    → again → NeverRefuses begins certain x
+    → (xs : List A) (ys : List B) → HasExactClones clones infallible xs
+    → GivesList (Reads becomes steps) u xs → GivesList (Reads meets other) w ys
+    → GivesList (Reads made next) v (map Ok (cartesian_product xs ys))
+product_list clones infallible begins certain x gives anew sure xs ys exact first second whole zs
+    read =
+    let p = gives ys second anew whole zs read in
+    product_front clones infallible (CanRefuse begins certain x)
+    (λ can. can.2 (sure can.0 can.1)) whole xs p.items ys zs exact (first _ p.items p.read)
+    p.paired p.all
 
-module _ {U W V S R T J A B : Type 0} (becomes : U → S → Type 0) (steps : S → Option A → S → Type 0)
-    (meets : W → R → Type 0) (other : R → Option B → R → Type 0) (made : V → T → Type 0)
-    (next : T → Option (Result (A × B) AllocError) → T → Type 0) (again : Type 0)
-    (clones : A → A → Type 0) (infallible : A → Type 0) (certain : J → Type 0)
-    (u : U) (w : W) (v : V)
-    (gives : ProductGives (Reads becomes steps) (Reads meets other) again clones
-    (CanRefuse infallible certain) (Reads made next) u w v) where
-  abbrev Exact : Type 0
-  Exact = HasExactClones clones infallible × ((j : J) → certain j) × again
+module _ {U W V X S R T J A B : Type 0} (becomes : U → S → Type 0)
+    (steps : S → Option A → S → Type 0) (meets : W → R → Type 0) (other : R → Option B → R → Type 0)
+    (made : V → T → Type 0) (next : T → Option (Result (A × B) AllocError) → T → Type 0)
+    (again : Type 0) (clones : A → A → Type 0) (infallible : A → Type 0) (begins : X → J → Type 0)
+    (certain : J → Type 0) (x : X) (u : U) (w : W) (v : V)
+    (gives : ProductGives (Reads becomes steps) (Reads meets other) again clones infallible
+    (CanRefuse begins certain x) (Reads made next) u w v) where
+  abbrev Exact : List A → Type 0
+  Exact xs = HasExactClones clones infallible xs × NeverRefuses begins certain x × again
 
   pairs_given : (xs : List A) (ys : List B) → GivesList (Reads becomes steps) u xs
-      → GivesList (Reads meets other) w ys → Exact
+      → GivesList (Reads meets other) w ys → Exact xs
       → Lists made next v (map Ok (cartesian_product xs ys))
   unfolding Lists
   pairs_given xs ys first second exact it m whole zs given =
-      let p = gives ys second exact.2 whole zs (record { it = it; made = m; given = given }) in
-      product_front clones (CanRefuse infallible certain) exact.0.1
-      (never_refused clones infallible certain exact.0 exact.1) whole xs p.items ys zs
-      (first _ p.items p.read) p.paired p.all
+      product_list clones infallible begins certain x gives exact.2 exact.1 xs ys exact.0 first second whole zs
+      (record { it = it; made = m; given = given })
 
   listed : (xs : List A) (ys : List B) → GivesList (Reads becomes steps) u xs
       → GivesList (Reads meets other) w ys → PairsListed made next Exact v xs ys

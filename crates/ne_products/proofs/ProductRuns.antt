@@ -4,10 +4,10 @@ use Rattle.std.proofs.lemmas.Bool.{MatchBool-at_true, MatchBool-at_false}
 use Rattle.std.proofs.lemmas.Option.{MatchOption-at_none, MatchOption-at_some, none-some}
 use Rattle.std.specs.Prelude.{◌≡◌, Bool, true, false, ◌&&◌, List, [], ◌∷◌, ◌++◌, map, length}
 use Rattle.std.specs.Prelude.{Option, Some, None, MatchOption, Result, Ok, Err, is_ok}
-use Rattle.std.specs.Iterator.{AlwaysYields, DrainsIf}
+use Rattle.std.specs.Iterator.{AlwaysYields, DrainsIf, Yields}
 use Rattle.std.specs.List.{list_all}
 use Rattle.ne_iter.specs.Sources.{HasFirst}
-use Rattle.ne_products.specs.Pairs.{cartesian_product, CanRefuse, ClonedPairs}
+use Rattle.ne_products.specs.Pairs.{cartesian_product, ClonedPairs}
 use Rattle.ne_products.specs.Product.{left_of, right_of, row_of, restart_of, is_over, RowItem}
 use Rattle.ne_products.specs.Product.{RowEnds, GivesPair, EndsPairs, PairsNext, RefusesClone}
 use Rattle.ne_products.specs.declared.products.ProductIter.{ProductIter}
@@ -19,7 +19,7 @@ both_true false b e = let e = e in search rules
 same_item : {A : Type 0} {x y : A} → Some x ≡ Some y → x ≡ y
 same_item e = search rules
 
-module _ {I J A B : Type 0} (E : Type 0) (lefts : I → Option A → I → Type 0)
+module _ {I J A B : Type 0} (E refused : Type 0) (lefts : I → Option A → I → Type 0)
     (rights : J → Option B → J → Type 0) (clones : A → A → Type 0) (infallible : A → Type 0)
     (copies : J → J → Type 0) (certain : J → Type 0) (whole : Bool) where
   abbrev State : Type 0
@@ -37,21 +37,28 @@ module _ {I J A B : Type 0} (E : Type 0) (lefts : I → Option A → I → Type 
   abbrev Of : State → A → I → Type 0
   Of = RowItem lefts rights clones infallible copies certain
 
-  abbrev Refused : Type 0
-  Refused = CanRefuse infallible certain
+  abbrev Refuses : State → Type 0
+  Refuses = RefusesClone lefts rights clones infallible copies certain
+
+  abbrev Cloned : List (A × B) → List (Result (A × B) E) → Type 0
+  Cloned = ClonedPairs clones infallible refused
 
   -- the right side gives bs and no other
   abbrev Gives : J → List B → Type 0
   Gives = AlwaysYields rights (λ b. b)
 
   -- each further row gives bs
+  abbrev IsReady : List B → Option J → Type 0
+  IsReady bs o = MatchOption o refused (λ c. ((certain c → ⊥) → refused)
+      × ((d : J) → copies c d → Gives d bs))
+
   abbrev Ready : List B → State → Type 0
-  Ready bs s = MatchOption (restart_of s) Refused (λ c. (d : J) → copies c d → Gives d bs)
+  Ready bs s = IsReady bs (restart_of s)
 
   -- zs came where the left side stood at l and the pairs qs were left of the row
   abbrev Came : List B → I → List (A × B) → List (Result (A × B) E) → Type 0
   Came bs l qs zs = (xs : List A) × DrainsIf lefts ((whole && list_all is_ok zs) ≡ true) l xs
-      × ClonedPairs clones Refused (qs ++ cartesian_product xs bs) zs
+      × Cloned (qs ++ cartesian_product xs bs) zs
       × ((whole && list_all is_ok zs) ≡ true
       → length zs ≡ length (qs ++ cartesian_product xs bs))
 
@@ -61,23 +68,39 @@ module _ {I J A B : Type 0} (E : Type 0) (lefts : I → Option A → I → Type 
   silent W s (z ∷ zs) over (t, (j, st, rest), fin) =
       absurd (none-some z (sym (MatchBool-at_true _ _ over st).0))
 
-  why : (bs : List B) (s : State) → Ready bs s
-      → RefusesClone lefts rights clones infallible copies certain s → Refused
-  why bs s ready (inl none) = MatchOption-at_none _ _ none ready
-  why bs s ready (inr (inl item)) = inl item
-  why bs s ready (inr (inr clone)) = inr (clone.0, clone.2)
+  -- an `Err` comes where the left side stood at l and the pairs qs were left of the row
+  abbrev Stops : List B → I → List (A × B) → E → Type 0
+  Stops bs l qs e = (xs : List A) × (u : I) × Yields lefts l xs u
+      × Cloned (qs ++ cartesian_product xs bs) (Err e ∷ [])
+
+  -- a clone of the right side is refused
+  in_place : (ps : List (A × B)) (e : E) → refused → Cloned ps (Err e ∷ [])
+  in_place [] e bad = (refl, bad)
+  in_place (p ∷ ps) e bad = (refl, inr bad)
+
+  side_refused : (bs : List B) (l : I) (qs : List (A × B)) (e : E) → refused → Stops bs l qs e
+  side_refused bs l qs e bad = ([], l, refl, in_place (qs ++ []) e bad)
+
+  none_ready : (bs : List B) (s : State) → Ready bs s → restart_of s ≡ None → refused
+  none_ready bs s ready none = MatchOption-at_none _ _ none ready
+
+  row_refused : (bs : List B) (s : State) (l : I) → Ready bs s
+      → RowEnds lefts rights clones infallible copies certain s l (λ c. certain c → ⊥) → refused
+  row_refused bs s l ready ends = (MatchOption-at_some _ _ ends.2 ends.5 ready).0 ends.6
 
   -- a clone is refused
   stops : (bs : List B) (s j : State) (l : I) (qs : List (A × B)) (e : E)
-      (zs : List (Result (A × B) E)) → is_over s ≡ false → Ready bs s
+      (zs : List (Result (A × B) E)) → is_over s ≡ false → (Refuses s → Stops bs l qs e)
       → Next s (Some (Err e)) j → DrainsIf Next (whole ≡ true) j zs → Came bs l qs (Err e ∷ zs)
-  stops bs s j l qs e zs live ready st run =
-      let refused = MatchBool-at_false _ _ live st in
+  stops bs s j l qs e zs live why st run =
+      let refuses = MatchBool-at_false _ _ live st in
       let never : (whole && false) ≡ true → ⊥ =
-      λ w. let f = (both_true whole false w).1 in search rules in (
-        [],
-        (l, refl, λ w. absurd (never w)),
-        (silent _ j zs refused.1 run, why bs s ready refused.0),
+      λ w. let f = (both_true whole false w).1 in search rules in
+      let at = why refuses.0 in (
+        at.0,
+        (at.1, at.2, λ w. absurd (never w)),
+        subst (λ l. Cloned (qs ++ cartesian_product at.0 bs) (Err e ∷ l))
+            (sym (silent _ j zs refuses.1 run)) at.3,
         λ w. absurd (never w),
       )
 
@@ -91,7 +114,7 @@ module _ {I J A B : Type 0} (E : Type 0) (lefts : I → Option A → I → Type 
 
   ready_on : (bs : List B) (s t : State) → restart_of t ≡ restart_of s → Ready bs s → Ready bs t
   ready_on bs s t same ready =
-      subst (λ o. MatchOption o Refused (λ c. (d : J) → copies c d → Gives d bs)) (sym same) ready
+      subst (IsReady bs) (sym same) ready
 
   -- the right side has no item, though its first call is not `None`: nothing comes
   none_came : (s : State) (zs : List (Result (A × B) E)) → is_over s ≡ false → row_of s ≡ None
@@ -105,7 +128,13 @@ module _ {I J A B : Type 0} (E : Type 0) (lefts : I → Option A → I → Type 
       ended (inr (inl e)) = absurd (has e.2 e.5)
       ended (inr (inr e)) = absurd (has e.5.1 e.5.4)
   none_came s (Err e ∷ zs) live at ready right has (t, (j, st, rest), fin) =
-      stops [] s j (left_of s) [] e zs live ready st (t, rest, fin)
+      stops [] s j (left_of s) [] e zs live why st (t, rest, fin)
+    where
+      why : Refuses s → Stops [] (left_of s) [] e
+      why (inl none) = side_refused [] (left_of s) [] e (none_ready [] s ready none)
+      why (inr (inl (x, y, l, r, inl g, bad))) = absurd (right y r g.1)
+      why (inr (inl (x, y, l, r, inr g, bad))) = absurd (has g.2.1 g.2.4)
+      why (inr (inr g)) = absurd (has g.3.1 g.3.4)
   none_came s (Ok p ∷ zs) live at ready right has (t, (j, st, rest), fin) =
       absurd (pair (MatchBool-at_false _ _ live st))
     where
@@ -142,8 +171,9 @@ module _ {I J A B : Type 0} (E : Type 0) (lefts : I → Option A → I → Type 
     first_of s w l at (inr h) = h.1
 
     restarted : (s : State) (l : I) (d : J) → Ready (y ∷ ys) s
-        → RowEnds lefts rights clones infallible copies certain s l d → Gives d (y ∷ ys)
-    restarted s l d ready ends = MatchOption-at_some _ _ ends.2 ends.5 ready d ends.6
+        → RowEnds lefts rights clones infallible copies certain s l (λ c. copies c d)
+        → Gives d (y ∷ ys)
+    restarted s l d ready ends = (MatchOption-at_some _ _ ends.2 ends.5 ready).1 d ends.6
 
     -- the end, within a row
     ends_row : (s : State) (x : A) (bs : List B) → row_of s ≡ Some x → Ready (y ∷ ys) s
@@ -162,6 +192,42 @@ module _ {I J A B : Type 0} (E : Type 0) (lefts : I → Option A → I → Type 
     ends_fresh s at ready right (inr (inl e)) = absurd (right.0 e.2 e.5)
     ends_fresh s at ready right (inr (inr e)) =
         absurd ((restarted s e.0 e.1 ready e.5).0 e.4 e.7)
+
+    -- an `Err` within a row
+    stops_row : (s : State) (x : A) (bs : List B) (e : E) → row_of s ≡ Some x
+        → Ready (y ∷ ys) s → Gives (right_of s) bs → Refuses s
+        → Stops (y ∷ ys) (left_of s) (map (λ b. (x, b)) bs) e
+    stops_row s x bs e at ready right (inl none) =
+        side_refused (y ∷ ys) (left_of s) _ e (none_ready (y ∷ ys) s ready none)
+    stops_row s x [] e at ready right (inr (inl (w, b, l, r, inl g, bad))) = absurd (right b r g.1)
+    stops_row s x (c ∷ cs) e at ready right (inr (inl (w, b, l, r, inl g, bad))) = (
+      [],
+      left_of s,
+      refl,
+      (refl, inl (subst (λ q. infallible q → ⊥) (of_held s x w l at g.0).0 bad)),
+    )
+    stops_row s x [] e at ready right (inr (inl (w, b, l, r, inr g, bad))) = (
+      w ∷ [],
+      l,
+      (l, subst (λ q. lefts q (Some w) l) (of_held s x g.2.0 g.0 at g.2.3).1 g.3, refl),
+      (refl, inl bad),
+    )
+    stops_row s x (c ∷ cs) e at ready right (inr (inl (w, b, l, r, inr g, bad))) =
+        absurd (right.0 g.2.1 g.2.4)
+    stops_row s x bs e at ready right (inr (inr g)) =
+        side_refused (y ∷ ys) (left_of s) _ e (row_refused (y ∷ ys) s g.0 ready g.3)
+
+    -- an `Err` before the first row
+    stops_fresh : (s : State) (e : E) → row_of s ≡ None → Ready (y ∷ ys) s
+        → Gives (right_of s) (y ∷ ys) → Refuses s → Stops (y ∷ ys) (left_of s) [] e
+    stops_fresh s e at ready right (inl none) =
+        side_refused (y ∷ ys) (left_of s) [] e (none_ready (y ∷ ys) s ready none)
+    stops_fresh s e at ready right (inr (inl (w, b, l, r, inl g, bad))) =
+        (w ∷ [], l, (l, first_of s w l at g.0, refl), (refl, inl bad))
+    stops_fresh s e at ready right (inr (inl (w, b, l, r, inr g, bad))) =
+        absurd (right.0 g.2.1 g.2.4)
+    stops_fresh s e at ready right (inr (inr g)) =
+        side_refused (y ∷ ys) (left_of s) [] e (row_refused (y ∷ ys) s g.0 ready g.3)
 
     -- a pair within a row, and one that begins a row
     within : (s j : State) (x w : A) (bs : List B) (p : A × B) (zs : List (Result (A × B) E))
@@ -222,7 +288,8 @@ module _ {I J A B : Type 0} (E : Type 0) (lefts : I → Option A → I → Type 
           λ w. ap (λ q. length {A = A × B} (map (λ b. (x, b)) q ++ [])) (sym (ended w).1),
         )
     in_row s x bs (Err e ∷ zs) live at ready right (t, (j, st, rest), fin) =
-        stops (y ∷ ys) s j (left_of s) _ e zs live ready st (t, rest, fin)
+        stops (y ∷ ys) s j (left_of s) _ e zs live (stops_row s x bs e at ready right) st
+        (t, rest, fin)
     in_row s x bs (Ok p ∷ zs) live at ready right (t, (j, st, rest), fin) =
         behind s j x bs p zs at ready right (MatchBool-at_false _ _ live st)
         (λ w cs on now on_ready gives. in_row j w cs zs on now on_ready gives (t, rest, fin))
@@ -238,7 +305,8 @@ module _ {I J A B : Type 0} (E : Type 0) (lefts : I → Option A → I → Type 
       λ w. refl,
     )
     some_came s (Err e ∷ zs) live at ready right (t, (j, st, rest), fin) =
-        stops (y ∷ ys) s j (left_of s) [] e zs live ready st (t, rest, fin)
+        stops (y ∷ ys) s j (left_of s) [] e zs live (stops_fresh s e at ready right) st
+        (t, rest, fin)
     some_came s (Ok p ∷ zs) live at ready right (t, (j, st, rest), fin) =
         first s j p zs at ready right (MatchBool-at_false _ _ live st)
         (λ w cs on now on_ready gives. in_row j w cs zs on now on_ready gives (t, rest, fin))

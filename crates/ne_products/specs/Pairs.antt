@@ -9,26 +9,29 @@ use Rattle.std.proofs.Common.{◌⊎◌}
 abbrev pub cartesian_product : {A B : Type 0} → List A → List B → List (A × B)
 cartesian_product xs ys = flat_map (λ x. map (λ y. (x, y)) ys) xs
 
--- Clones of some item of the left side, or of some iterator of the right side, can be refused.
-abbrev pub CanRefuse : {A J : Type 0} → (A → Type 0) → (J → Type 0) → Type 0
-CanRefuse {A} {J} infallible certain = ((x : A) × (infallible x → ⊥)) ⊎ ((j : J) × (certain j → ⊥))
+-- Clones of an iterator that the source u becomes can be refused.
+abbrev pub CanRefuse : {U J : Type 0} → (U → J → Type 0) → (J → Type 0) → U → Type 0
+CanRefuse {J = J} becomes certain u = (j : J) × becomes u j × (certain j → ⊥)
 
 -- zs are the first of the pairs ps, each in `Ok` and with a clone of its first part; or they end
--- with an `Err`, and then refused holds.
-abbrev pub ClonedPairs : {A B E : Type 0} → (A → A → Type 0) → Type 0 → List (A × B)
-    → List (Result (A × B) E) → Type 0
-ClonedPairs clones refused ps [] = ⊤
-ClonedPairs clones refused ps (Err e ∷ zs) = (zs ≡ []) × refused
-ClonedPairs clones refused [] (Ok q ∷ zs) = ⊥
-ClonedPairs clones refused (p ∷ ps) (Ok q ∷ zs) = clones p.0 q.0 × (q.1 ≡ p.1)
-    × ClonedPairs clones refused ps zs
+-- with an `Err`. It stands in the place of a pair whose first part can be refused a clone, or
+-- refused holds.
+abbrev pub ClonedPairs : {A B E : Type 0} → (A → A → Type 0) → (A → Type 0) → Type 0
+    → List (A × B) → List (Result (A × B) E) → Type 0
+ClonedPairs clones infallible refused ps [] = ⊤
+ClonedPairs clones infallible refused [] (Ok q ∷ zs) = ⊥
+ClonedPairs clones infallible refused (p ∷ ps) (Ok q ∷ zs) = clones p.0 q.0 × (q.1 ≡ p.1)
+    × ClonedPairs clones infallible refused ps zs
+ClonedPairs clones infallible refused [] (Err e ∷ zs) = (zs ≡ []) × refused
+ClonedPairs clones infallible refused (p ∷ ps) (Err e ∷ zs) = (zs ≡ [])
+    × ((infallible p.0 → ⊥) ⊎ refused)
 
 -- zs are the first of the pairs of the source's items and the items ys. What came to the end is all
 -- of them; the source had then ended too, where no clone was refused.
 pub record IsProduct {U A B E : Type 0} (reads : Bool → U → List A → Type 0)
-    (clones : A → A → Type 0) (refused : Type 0) (source : U) (ys : List B) (whole : Bool)
-    (zs : List (Result (A × B) E)) : Type 0 where
+    (clones : A → A → Type 0) (infallible : A → Type 0) (refused : Type 0) (source : U)
+    (ys : List B) (whole : Bool) (zs : List (Result (A × B) E)) : Type 0 where
   pub items : List A
   pub read : reads (whole && list_all is_ok zs) source items
-  pub paired : ClonedPairs clones refused (cartesian_product items ys) zs
+  pub paired : ClonedPairs clones infallible refused (cartesian_product items ys) zs
   pub all : (whole && list_all is_ok zs) ≡ true → length zs ≡ length (cartesian_product items ys)

@@ -72,19 +72,23 @@ module _ {I J A B : Type 0} (lefts : I → Option A → I → Type 0)
   RowItem s x l = ((row_of s ≡ Some x) × (l ≡ left_of s))
       ⊎ ((row_of s ≡ None) × lefts (left_of s) (Some x) l)
 
-  -- The right side has ended behind the last pair of this row, and d is a clone of it, as it began.
-  abbrev pub RowEnds : ProductIter I J A → I → J → Type 0
-  RowEnds s l d = (w : A) × (j : J) × (c : J) × RowItem s w l × rights (right_of s) None j
-      × (restart_of s ≡ Some c) × copies c d
+  -- The right side has ended behind the last pair of this row, and P holds of it as it began.
+  abbrev pub RowEnds : ProductIter I J A → I → (J → Type 0) → Type 0
+  RowEnds s l P = (w : A) × (j : J) × (c : J) × RowItem s w l × rights (right_of s) None j
+      × (restart_of s ≡ Some c) × P c
 
-  -- A pair: a clone of the item x of the row, and the next item of the right side; or x is the next
-  -- item of the left side, and the other the first item of the right side, which begins again.
+  -- The next pair is that of x and y: x is the item of this row, and y the next item of the right
+  -- side; or x is the next item of the left side, and y the first item of a clone of the right side
+  -- as it began. The sides stand at l and r then.
+  abbrev pub IsNextPair : ProductIter I J A → A → B → I → J → Type 0
+  IsNextPair s x y l r = (RowItem s x l × rights (right_of s) (Some y) r)
+      ⊎ ((k : I) × (d : J) × RowEnds s k (λ c. copies c d) × lefts k (Some x) l
+      × rights d (Some y) r)
+
+  -- A pair: a clone of the first part of the next pair, and its second part.
   abbrev pub GivesPair : ProductIter I J A → A × B → ProductIter I J A → Type 0
   GivesPair s p t = (x : A) × (row_of t ≡ Some x) × clones x p.0 × (is_over t ≡ false)
-      × (restart_of t ≡ restart_of s)
-      × ((RowItem s x (left_of t) × rights (right_of s) (Some p.1) (right_of t))
-      ⊎ ((l : I) × (d : J) × RowEnds s l d × lefts l (Some x) (left_of t)
-      × rights d (Some p.1) (right_of t)))
+      × (restart_of t ≡ restart_of s) × IsNextPair s x p.1 (left_of t) (right_of t)
 
   -- The end: the left side has ended, before a row or behind one; or the right side, which began
   -- again, has no item.
@@ -92,13 +96,15 @@ module _ {I J A B : Type 0} (lefts : I → Option A → I → Type 0)
   EndsPairs s = ((u : I) × (row_of s ≡ None) × lefts (left_of s) None u)
       ⊎ (((w : A) × (l : I) × (j : J) × (u : I) × RowItem s w l × rights (right_of s) None j
       × lefts l None u)
-      ⊎ ((l : I) × (d : J) × (x : A) × (u : I) × (k : J) × RowEnds s l d × lefts l (Some x) u
-      × rights d None k))
+      ⊎ ((l : I) × (d : J) × (x : A) × (u : I) × (k : J) × RowEnds s l (λ c. copies c d)
+      × lefts l (Some x) u × rights d None k))
 
-  -- A clone was refused: the one that was made beforehand, or one of an item, or of the right side.
+  -- A clone was refused: the one of the right side that was made beforehand; or one of the first
+  -- part of the next pair; or one of the right side, as it began, for a further row.
   abbrev pub RefusesClone : ProductIter I J A → Type 0
-  RefusesClone s = (restart_of s ≡ None) ⊎ (((x : A) × (infallible x → ⊥))
-      ⊎ ((c : J) × (restart_of s ≡ Some c) × (certain c → ⊥)))
+  RefusesClone s = (restart_of s ≡ None)
+      ⊎ (((x : A) × (y : B) × (l : I) × (r : J) × IsNextPair s x y l r × (infallible x → ⊥))
+      ⊎ ((l : I) × (x : A) × (u : I) × RowEnds s l (λ c. certain c → ⊥) × lefts l (Some x) u))
 
   -- One call. After the end, and after an `Err`, it answers `None` and draws nothing.
   abbrev pub PairsNext : {E : Type 0} → ProductIter I J A → Option (Result (A × B) E)

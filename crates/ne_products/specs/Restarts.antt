@@ -1,5 +1,5 @@
 -- What a source has to have, for a product to walk it once a row.
-use Rattle.std.specs.Prelude.{◌≡◌, ◌≤◌, Bool, List, Option, Result, Ok, map}
+use Rattle.std.specs.Prelude.{◌≡◌, ◌≤◌, Bool, Contains, List, Option, Result, Ok, map}
 use Rattle.std.specs.Iterator.{Count, size}
 use Rattle.std.specs.declared.alloc.AllocError.{AllocError}
 use Rattle.ne_vec.specs.Fronts.{Listed}
@@ -15,24 +15,30 @@ abbrev pub ClonesAgain : {U J : Type 0} → (U → J → Type 0) → (J → Coun
 ClonesAgain {J = J} becomes left copies u = (j c : J) → becomes u j → copies j c
     → becomes u c × (size (left c) ≤ size (left j))
 
--- No clone is refused, and each equals its original.
-abbrev pub HasExactClones : {A : Type 0} → (A → A → Type 0) → (A → Type 0) → Type 0
-HasExactClones {A} clones infallible =
-    ((x : A) → infallible x) × ((x y : A) → clones x y → y ≡ x)
+-- Clones of an iterator that the source u becomes are never refused.
+abbrev pub NeverRefuses : {U J : Type 0} → (U → J → Type 0) → (J → Type 0) → U → Type 0
+NeverRefuses {J = J} becomes certain u = (j : J) → becomes u j → certain j
+
+-- Clones of the items of xs are never refused, and equal their originals.
+abbrev pub HasExactClones : {A : Type 0} → (A → A → Type 0) → (A → Type 0) → List A → Type 0
+HasExactClones {A} clones infallible xs = (x : A) → Contains xs x
+    → infallible x × ((y : A) → clones x y → y ≡ x)
 
 -- `cartesian_product`, where the other side gives the list ys, and so do clones of its iterator
 abbrev pub ProductGives : {U W V A B E : Type 0} → (Bool → U → List A → Type 0)
-    → (Bool → W → List B → Type 0) → Type 0 → (A → A → Type 0) → Type 0
+    → (Bool → W → List B → Type 0) → Type 0 → (A → A → Type 0) → (A → Type 0) → Type 0
     → (Bool → V → List (Result (A × B) E) → Type 0) → U → W → V → Type 0
-ProductGives {A = A} {B = B} {E = E} reads others again clones refused paired source other result =
+ProductGives {A = A} {B = B} {E = E} reads others again clones infallible refused paired source other
+    result =
     (ys : List B) → GivesList others other ys → again
     → (whole : Bool) (zs : List (Result (A × B) E)) → paired whole result zs
-    → IsProduct reads clones refused source ys whole zs
+    → IsProduct reads clones infallible refused source ys whole zs
 
--- The product v of xs and ys is known to the check's search, if `exact` holds.
+-- The product v of xs and ys is known to the check's search, if `exact` holds of xs.
 abbrev pub PairsListed : {V T A B : Type 0} → (V → T → Type 0)
-    → (T → Option (Result (A × B) AllocError) → T → Type 0) → Type 0 → V → List A → List B → Type 0
-PairsListed {A = A} {B = B} made next exact v xs ys = exact
+    → (T → Option (Result (A × B) AllocError) → T → Type 0) → (List A → Type 0) → V → List A
+    → List B → Type 0
+PairsListed {A = A} {B = B} made next exact v xs ys = exact xs
     → (values_or_first_err {E = AllocError} (map Ok (cartesian_product xs ys))
     ≡ Ok (cartesian_product xs ys))
     × Listed made next v (map Ok (cartesian_product xs ys))

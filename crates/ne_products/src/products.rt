@@ -5,8 +5,8 @@ ghost use Rattle.ne_iter.specs.SourceLists.{BecomesList, EachList};
 ghost use Rattle.ne_products.specs.Pairs.{CanRefuse};
 ghost use Rattle.ne_products.specs.Product.{product_first, product_second, restart_of, PairsItems};
 ghost use Rattle.ne_products.specs.Product.{PairsNext, TriesRestart};
-ghost use Rattle.ne_products.specs.Restarts.{ClonesAgain, HasExactClones, PairsListed, PairsLists};
-ghost use Rattle.ne_products.specs.Restarts.{ProductGives};
+ghost use Rattle.ne_products.specs.Restarts.{ClonesAgain, HasExactClones, NeverRefuses};
+ghost use Rattle.ne_products.specs.Restarts.{PairsListed, PairsLists, ProductGives};
 ghost use Rattle.ne_products.specs.Unique.{TellsUnique};
 
 use ne_iter::iter::SourceWords;
@@ -50,8 +50,9 @@ pub trait NonEmptyItertools: NonEmptyIterator {
         ensures gives { ProductGives (⟦<Self as SourceWords>⟧.reads) (⟦<J as SourceWords>⟧.reads)
             (ClonesAgain J.IntoNEIter.into_iter_gives J.IntoNEIter.IntoIter.remaining
             J.IntoNEIter.IntoIter.is_clone (product_second result))
-            Self.Item.is_clone
-            (CanRefuse Self.Item.is_infallible J.IntoNEIter.IntoIter.is_infallible)
+            Self.Item.is_clone Self.Item.is_infallible
+            (CanRefuse J.IntoNEIter.into_iter_gives J.IntoNEIter.IntoIter.is_infallible
+            (product_second result))
             (⟦<Product<Self, J::IntoNEIter> as SourceWords>⟧.reads) self other result }
         ensures lists { PairsLists (⟦<Self as SourceWords>⟧.lists) (⟦<J as SourceWords>⟧.lists)
             (BecomesList J.into_nonempty_iter_gives J.IntoNEIter.into_iter_gives
@@ -60,8 +61,9 @@ pub trait NonEmptyItertools: NonEmptyIterator {
             (PairsNext Self.IntoIter.next_gives J.IntoNEIter.IntoIter.next_gives
             Self.Item.is_clone Self.Item.is_infallible
             J.IntoNEIter.IntoIter.is_clone J.IntoNEIter.IntoIter.is_infallible)
-            (HasExactClones Self.Item.is_clone Self.Item.is_infallible
-            × ((j : J.IntoNEIter.IntoIter) → J.IntoNEIter.IntoIter.is_infallible j)
+            (λ xs. HasExactClones Self.Item.is_clone Self.Item.is_infallible xs
+            × NeverRefuses J.IntoNEIter.into_iter_gives J.IntoNEIter.IntoIter.is_infallible
+            (product_second result)
             × ClonesAgain J.IntoNEIter.into_iter_gives J.IntoNEIter.IntoIter.remaining
             J.IntoNEIter.IntoIter.is_clone (product_second result)) result)
             self other }

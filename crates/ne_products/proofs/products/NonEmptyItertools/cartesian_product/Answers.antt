@@ -1,4 +1,3 @@
-use Rattle.std.proofs.Common.{inr}
 use Rattle.std.specs.Prelude.{◌≡◌, true}
 use Rattle.std.specs.Iterator.{DrainsIf}
 use Rattle.ne_products.specs.Product.{left_of, right_of, restart_of}
@@ -34,10 +33,12 @@ returns-clause-gives g c ys list again whole zs h =
     (record { it = j; made = made; given = given })) in
     let gives = λ (j : _) (made : g.J.IntoNEIter.IntoIterator.into_iter_gives second j).
     always rights ys j (fronts j made) in
-    let rows = each_some (restart_of h.it) _ _ _ _ h.made.2 (λ n. inr (right_of h.it, n))
-    (λ r copied d more. gives d
-    (again r d (again (right_of h.it) r h.made.1 copied).0 more).0) in
-    let p = DrainsIf-product _ g.Self.IntoIter.Iterator.next_gives rights
+    let rows = each_some (restart_of h.it) _ _ _ _ h.made.2
+    (λ n. (right_of h.it, h.made.1, n))
+    (λ r copied.
+    let one = (again (right_of h.it) r h.made.1 copied).0 in
+    ((λ n. (r, one, n)), λ d more. gives d (again r d one more).0)) in
+    let p = DrainsIf-product _ _ g.Self.IntoIter.Iterator.next_gives rights
     g.Self.Item.Clone.is_clone g.Self.Item.Clone.is_infallible copies
     g.J.IntoNEIter.IntoIter.Clone.is_infallible whole ys h.it zs h.made.4 h.made.3 rows
     (gives (right_of h.it) h.made.1)
@@ -53,8 +54,8 @@ pub returns-clause-lists : goal.returns-clause-lists
 returns-clause-lists g c = pairs_lists g.Self.IntoIterator.into_iter_gives
     g.Self.IntoIter.Iterator.next_gives g.J.IntoIterator.into_iter_gives
     g.J.IntoIter.Iterator.next_gives _ _ _ g.Self.Item.Clone.is_clone
-    g.Self.Item.Clone.is_infallible g.J.IntoNEIter.IntoIter.Clone.is_infallible
-    c.args.self c.args.other _ (returns-clause-gives g c)
+    g.Self.Item.Clone.is_infallible g.J.IntoNEIter.IntoIterator.into_iter_gives
+    g.J.IntoNEIter.IntoIter.Clone.is_infallible c.into_nonempty_iter.result c.args.self c.args.other _ (returns-clause-gives g c)
     g.J.IntoNonEmptyIterator.into_nonempty_iter_gives
     g.J.IntoNEIter.IntoIterator.into_iter_gives g.J.IntoNEIter.IntoIter.Iterator.next_gives
     g.met.J.IntoNonEmptyIterator.same_lists
