@@ -1,6 +1,47 @@
-//! The law of products, which is the contract of a function that does nothing.
-ghost use Rattle.std.specs.Prelude.{◌≡◌, ℕ, ◌+◌, ◌*◌, List, Some, length, slice_get};
-ghost use Rattle.ne_products.specs.Pairs.{cartesian_product};
+//! The laws of products. Each is the contract of a function that does nothing: a caller calls it,
+//! and then knows what it ensures.
+ghost use Rattle.std.specs.Prelude.{◌≡◌, ℕ, ◌+◌, ◌*◌, List, Ok, Some, length, map, slice_get};
+ghost use Rattle.ne_iter.specs.Gives.{GivesList};
+ghost use Rattle.ne_products.specs.Pairs.{cartesian_product, CanRefuse};
+ghost use Rattle.ne_products.specs.Product.{product_second};
+ghost use Rattle.ne_products.specs.Restarts.{ClonesAgain, HasExactClones, NeverRefuses};
+ghost use Rattle.ne_products.specs.Restarts.{ProductGives};
+
+use crate::products::Product;
+use ne_iter::iter::SourceWords;
+use ne_iter::{IntoNonEmptyIterator, NonEmptyIterator};
+
+/// `cartesian_product` gives each item of its source with each item of the other, a row of pairs
+/// for each item of its source, each pair in `Ok`.
+///
+/// That is so where clones of the source's items are never refused and equal their originals, and
+/// clones of the iterator that the other becomes are never refused and give what it gives.
+pub fn list_of_cartesian_product<S: NonEmptyIterator, U: IntoNonEmptyIterator>(
+    source: &S,
+    other: &U,
+)
+where
+    S::Item: Clone + Drop,
+    U::Item: Drop,
+    <U::IntoNEIter as IntoIterator>::IntoIter: Clone,
+    ensures { (product : _) (xs : List S.Item) (ys : List U.Item)
+        → ProductGives (⟦<S as SourceWords>⟧.reads) (⟦<U as SourceWords>⟧.reads)
+        (ClonesAgain U.IntoNEIter.into_iter_gives U.IntoNEIter.IntoIter.remaining
+        U.IntoNEIter.IntoIter.is_clone (product_second product))
+        S.Item.is_clone S.Item.is_infallible
+        (CanRefuse U.IntoNEIter.into_iter_gives U.IntoNEIter.IntoIter.is_infallible
+        (product_second product))
+        (⟦<Product<S, U::IntoNEIter> as SourceWords>⟧.reads) source.now other.now product
+        → ClonesAgain U.IntoNEIter.into_iter_gives U.IntoNEIter.IntoIter.remaining
+        U.IntoNEIter.IntoIter.is_clone (product_second product)
+        → NeverRefuses U.IntoNEIter.into_iter_gives U.IntoNEIter.IntoIter.is_infallible
+        (product_second product)
+        → HasExactClones S.Item.is_clone S.Item.is_infallible xs
+        → GivesList (⟦<S as SourceWords>⟧.reads) source.now xs
+        → GivesList (⟦<U as SourceWords>⟧.reads) other.now ys
+        → GivesList (⟦<Product<S, U::IntoNEIter> as SourceWords>⟧.reads) product
+        (map Ok (cartesian_product xs ys)) }
+{}
 
 /// The pair of item i of the one list and item j of the other stands at place i * m + j of their
 /// product, if the other has m items; and the product has no other pairs.
