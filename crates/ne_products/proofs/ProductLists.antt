@@ -60,8 +60,8 @@ module _ {U W V X S R T J A B : Type 0} (becomes : U → S → Type 0)
       → Lists made next v (map Ok (cartesian_product xs ys))
   unfolding Lists
   pairs_given xs ys first second exact it m whole zs given =
-      product_list clones infallible begins certain x gives exact.2 exact.1 xs ys exact.0 first second whole zs
-      (record { it = it; made = m; given = given })
+      product_list clones infallible begins certain x gives exact.2 exact.1 xs ys exact.0
+      first second whole zs (record { it = it; made = m; given = given })
 
   listed : (xs : List A) (ys : List B) → GivesList (Reads becomes steps) u xs
       → GivesList (Reads meets other) w ys → PairsListed made next Exact v xs ys

@@ -28,8 +28,8 @@ HasExactClones {A} clones infallible xs = (x : A) → Contains xs x
 abbrev pub ProductGives : {U W V A B E : Type 0} → (Bool → U → List A → Type 0)
     → (Bool → W → List B → Type 0) → Type 0 → (A → A → Type 0) → (A → Type 0) → Type 0
     → (Bool → V → List (Result (A × B) E) → Type 0) → U → W → V → Type 0
-ProductGives {A = A} {B = B} {E = E} reads others again clones infallible refused paired source other
-    result =
+ProductGives {A = A} {B = B} {E = E} reads others again clones infallible refused paired source
+    other result =
     (ys : List B) → GivesList others other ys → again
     → (whole : Bool) (zs : List (Result (A × B) E)) → paired whole result zs
     → IsProduct reads clones infallible refused source ys whole zs

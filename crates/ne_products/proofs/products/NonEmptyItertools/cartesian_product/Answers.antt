@@ -55,7 +55,8 @@ returns-clause-lists g c = pairs_lists g.Self.IntoIterator.into_iter_gives
     g.Self.IntoIter.Iterator.next_gives g.J.IntoIterator.into_iter_gives
     g.J.IntoIter.Iterator.next_gives _ _ _ g.Self.Item.Clone.is_clone
     g.Self.Item.Clone.is_infallible g.J.IntoNEIter.IntoIterator.into_iter_gives
-    g.J.IntoNEIter.IntoIter.Clone.is_infallible c.into_nonempty_iter.result c.args.self c.args.other _ (returns-clause-gives g c)
+    g.J.IntoNEIter.IntoIter.Clone.is_infallible c.into_nonempty_iter.result c.args.self
+    c.args.other _ (returns-clause-gives g c)
     g.J.IntoNonEmptyIterator.into_nonempty_iter_gives
     g.J.IntoNEIter.IntoIterator.into_iter_gives g.J.IntoNEIter.IntoIter.Iterator.next_gives
     g.met.J.IntoNonEmptyIterator.same_lists
