@@ -1,13 +1,14 @@
-//! The laws of products. Each is the contract of a function that does nothing: a caller calls it,
+//! The laws of products and of sources that are one of two. Each is the contract of a function that does nothing: a caller calls it,
 //! and then knows what it ensures.
 ghost use Rattle.std.specs.Prelude.{◌≡◌, ℕ, ◌+◌, ◌*◌, List, Ok, Some, length, map, slice_get};
 ghost use Rattle.ne_iter.specs.Gives.{GivesList};
 ghost use Rattle.ne_products.specs.Pairs.{cartesian_product, CanRefuse};
-ghost use Rattle.ne_products.specs.Product.{product_second};
+ghost use Rattle.ne_products.specs.Product.{product_first, product_second};
 ghost use Rattle.ne_products.specs.Restarts.{ClonesAgain, HasExactClones, NeverRefuses};
 ghost use Rattle.ne_products.specs.Restarts.{ProductGives};
 
 use crate::products::Product;
+use crate::sides::NEEither;
 use ne_iter::iter::SourceWords;
 use ne_iter::{IntoNonEmptyIterator, NonEmptyIterator};
 
@@ -54,4 +55,26 @@ pub fn products_have_their_places<A, B>()
         → slice_get (cartesian_product xs ys) (i * length ys + j) ≡ Some (x, y) }
     ensures count { (xs : List A) (ys : List B)
         → length (cartesian_product xs ys) ≡ length xs * length ys }
+{}
+
+/// `cartesian_product` ends where both its sources do, if clones of the other side's iterator give
+/// what it gives.
+pub fn cartesian_product_ends<S: NonEmptyIterator, U: NonEmptyIterator>()
+where
+    S::Item: Clone + Drop,
+    U::Item: Drop,
+    U::IntoIter: Clone,
+    ensures { (product : _) → ⟦<S as SourceWords>⟧.ends (product_first product)
+        → ⟦<U as SourceWords>⟧.ends (product_second product)
+        → ClonesAgain U.into_iter_gives U.IntoIter.remaining U.IntoIter.is_clone
+        (product_second product)
+        → ⟦<Product<S, U> as SourceWords>⟧.ends product }
+{}
+
+/// A source that is one of two ends where the side that is there does.
+pub fn either_ends<L: NonEmptyIterator, R: NonEmptyIterator<Item = L::Item>>()
+    ensures left { (s : _) → ⟦<L as SourceWords>⟧.ends s
+        → ⟦<NEEither<L, R> as SourceWords>⟧.ends (NEEither.Left s) }
+    ensures right { (t : _) → ⟦<R as SourceWords>⟧.ends t
+        → ⟦<NEEither<L, R> as SourceWords>⟧.ends (NEEither.Right t) }
 {}

@@ -1,6 +1,6 @@
 //! The laws of the port, so that a user's crate names one library: those on sources, adapters,
 //! closures, extremes, ends and groupings, those on divisions, chunks and comparisons, those on
-//! tree, hashed and index maps and sets, and those on products.
+//! tree, hashed and index maps and sets, and those on products and on sources that are one of two.
 //!
 //! Each is the contract of a function that does nothing. A caller calls it, and then knows what it
 //! ensures. The Rust crate has no such module.
@@ -94,6 +94,8 @@ pub use ne_iter::laws::vectors_give_their_items;
 pub use ne_iter::laws::whole_reading_gives_the_division;
 pub use ne_iter::laws::writing_walks_show_their_items;
 pub use ne_iter::laws::zip_ends;
+pub use ne_products::laws::cartesian_product_ends;
+pub use ne_products::laws::either_ends;
 pub use ne_products::laws::list_of_cartesian_product;
 pub use ne_products::laws::products_have_their_places;
 pub use ne_tree::laws::map_equality_is_reflexive;
