@@ -1,4 +1,4 @@
-//! Lists of calls on maps, as a user writes them, and a map of a user's own.
+//! Lists of calls on maps and on vectors, as a user writes them, and a map of a user's own.
 //!
 //! This crate is no part of the library. It stands for a user's: what is proved here, a user of the
 //! library can prove.
@@ -6,8 +6,13 @@
 
 mod callers;
 mod own;
+mod vectors;
 
 pub use callers::{
     any_calls, count_and_put, no_calls, put_and_ask, put_twice, write_and_ask, write_there,
 };
 pub use own::PairMap;
+pub use vectors::{
+    any_calls_on_a_vector, no_calls_on_a_vector, pop_the_only_item, push_and_pop, push_and_reverse,
+    push_two,
+};

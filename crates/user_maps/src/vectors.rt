@@ -1,0 +1,87 @@
+//! Lists of calls on vectors. None has a proof file, and none calls a law.
+ghost use Rattle.std.specs.Prelude.{◌≡◌, ◌<◌, ◌++◌, [], ◌∷◌, None, Some, length, reverse, IfOk, OnOk};
+
+use ne_laws::vector_calls::{VecCall, VecReply, run_vec};
+use nonempty_collections::NEVec;
+use std::alloc::{AllocError, Global};
+
+/// No calls: no replies, and the vector stays as it is.
+pub fn no_calls_on_a_vector(
+    alloc: Global,
+    v: &mut NEVec<u32>,
+) -> Result<Vec<VecReply<u32>>, AllocError>
+    ensures replies { IfOk result (λ replies. replies.items ≡ []) }
+    ensures same { OnOk result (v.new ≡ v.old) }
+{
+    run_vec(alloc, v, Vec::new(alloc))
+}
+
+/// Whatever the calls are, each has a reply, and there is an item.
+pub fn any_calls_on_a_vector(
+    alloc: Global,
+    v: &mut NEVec<u32>,
+    calls: Vec<VecCall<u32>>,
+) -> Result<usize, AllocError>
+    ensures count { IfOk result (λ count. count ≡ length calls.items) }
+    ensures some { 0 < length v.new }
+{
+    Ok(run_vec(alloc, v, calls)?.len())
+}
+
+/// Two items are pushed, in turn.
+pub fn push_two(
+    alloc: Global,
+    v: &mut NEVec<u32>,
+    x: u32,
+    y: u32,
+) -> Result<Vec<VecReply<u32>>, AllocError>
+    ensures replies { IfOk result (λ replies. replies.items
+        ≡ VecReply.Done ∷ VecReply.Done ∷ []) }
+    ensures items { OnOk result (v.new ≡ (v.old ++ x ∷ []) ++ y ∷ []) }
+{
+    run_vec(
+        alloc,
+        v,
+        vec![in alloc; VecCall::Push(x), VecCall::Push(y)]?,
+    )
+}
+
+/// The only item is never taken: it stays, and the reply says so.
+pub fn pop_the_only_item(
+    alloc: Global,
+    v: &mut NEVec<u32>,
+) -> Result<Vec<VecReply<u32>>, AllocError>
+    requires { length v.old ≡ 1 }
+    ensures replies { IfOk result (λ replies. replies.items ≡ VecReply.Taken None ∷ []) }
+    ensures same { OnOk result (v.new ≡ v.old) }
+{
+    run_vec(alloc, v, vec![in alloc; VecCall::Pop]?)
+}
+
+/// An item is pushed, and the order turned round.
+pub fn push_and_reverse(
+    alloc: Global,
+    v: &mut NEVec<u32>,
+    x: u32,
+) -> Result<Vec<VecReply<u32>>, AllocError>
+    ensures items { OnOk result (v.new ≡ reverse (v.old ++ x ∷ [])) }
+{
+    run_vec(
+        alloc,
+        v,
+        vec![in alloc; VecCall::Push(x), VecCall::Reverse]?,
+    )
+}
+
+/// What is pushed is what is taken back, and the vector is as it was.
+pub fn push_and_pop(
+    alloc: Global,
+    v: &mut NEVec<u32>,
+    x: u32,
+) -> Result<Vec<VecReply<u32>>, AllocError>
+    ensures replies { IfOk result (λ replies. replies.items
+        ≡ VecReply.Done ∷ VecReply.Taken (Some x) ∷ []) }
+    ensures same { OnOk result (v.new ≡ v.old) }
+{
+    run_vec(alloc, v, vec![in alloc; VecCall::Push(x), VecCall::Pop]?)
+}
