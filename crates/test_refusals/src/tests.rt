@@ -1,7 +1,7 @@
 //! A test for each call: its answer, and what stands after it.
 //!
-//! A test prints one line, which the gate reads: `made` with the name of the call, `refused`, or
-//! `not reached` where it was what the test prepares that was refused.
+//! Of each call a test prints one line, which the gate reads: `made` with the name of the call,
+//! `refused`, or `not reached` where it was what the test prepares that was refused.
 
 mod calls;
 mod changes;
@@ -9,14 +9,17 @@ mod clones;
 mod collected;
 mod drops;
 mod makes;
+mod owners;
+mod products;
 mod runs;
 mod sorts;
 mod sources;
+mod tables;
 mod trees;
 mod untouched;
 
-ghost use Rattle.std.specs.Prelude.{◌+◌, ◌^◌};
-ghost use Rattle.std.specs.Iterator.{at_most};
+ghost use Rattle.std.specs.Prelude.{◌+◌, ◌^◌, ◌×◌};
+ghost use Rattle.std.specs.Iterator.{at_most, IsFinite};
 
 use nonempty_collections::NEVec;
 use std::alloc::{AllocError, Global};
@@ -78,6 +81,24 @@ fn leaves(
             tell(rt, "refused", call)
         }
     }
+}
+
+// Fails, and names the call, unless the numbers are these.
+fn walks<I: Iterator<Item = u32> + Drop>(call: &str, numbers: I, wanted: &[u32]) -> Result<(), Fail>
+    requires { I.can_next numbers × IsFinite (I.remaining numbers) }
+{
+    if numbers.eq(wanted.iter().copied()) {
+        return Ok(());
+    }
+    Err(Fail::new(format_args!("{call}: other numbers than {wanted:?}")))
+}
+
+// Fails, and names the calls, unless they answer this.
+fn answers<T: PartialEq + Drop>(calls: &str, given: T, wanted: T) -> Result<(), Fail> {
+    if given == wanted {
+        return Ok(());
+    }
+    Err(Fail::new(format_args!("{calls}: another answer")))
 }
 
 // Counts down to 0, and hints at more items than any memory holds. To grow, `extend` asks for the

@@ -8,38 +8,12 @@ mod looks;
 mod makes;
 mod written;
 
+use super::owners::{Key, Owner, one_more, owned, token};
 use super::tell;
 use nonempty_collections::{NEBTreeMap, NEBTreeSet, Singleton};
 use std::alloc::{AllocError, Global};
 use std::rc::Rc;
 use std::test::Fail;
-
-// An owner of the token. Its clones take memory, though it takes none itself: so the calls are all
-// that asks.
-#[derive(Drop, PartialEq, Eq, PartialOrd, Ord)]
-struct Owner {
-    token: Rc<u32>,
-    room: Vec<u8>,
-}
-
-impl Clone for Owner {
-    fn clone(&self) -> Result<Owner, AllocError> {
-        let room = Vec::with_capacity(*self.room.allocator(), 1)?;
-        let token = self.token.clone()?;
-        Ok(Owner { token, room })
-    }
-}
-
-// One more owner of the token. It takes no memory.
-fn one_more(alloc: Global, token: &Rc<u32>) -> Result<Owner, AllocError> {
-    let token = token.clone()?;
-    Ok(Owner {
-        token,
-        room: Vec::new(alloc),
-    })
-}
-
-type Key = (u32, Owner);
 
 type Map = NEBTreeMap<Key, Owner>;
 
@@ -90,11 +64,6 @@ impl Numbers for Set {
     }
 }
 
-// The token, which is one request.
-fn token(alloc: Global) -> Result<Rc<u32>, AllocError> {
-    Ok(Rc::new(alloc, 7)?)
-}
-
 // The numbers from 1 to `last`: one request, if there are at most fifteen.
 fn up_to<C: Numbers>(alloc: Global, token: &Rc<u32>, last: u32) -> Result<C, AllocError>
 where
@@ -105,14 +74,6 @@ where
         made.extend_one(C::item(alloc, token, number)?)?;
     }
     Ok(made)
-}
-
-// Fails unless the token has so many owners besides the one that is asked.
-fn owned(call: &str, token: &Rc<u32>, count: usize) -> Result<(), Fail> {
-    if Rc::strong_count(token) - 1 == count {
-        return Ok(());
-    }
-    Err(Fail::new(format_args!("{call}: an item is lost, or dropped twice")))
 }
 
 // Of a call that makes a collection: with memory it has the numbers from 1 to `last`, and without

@@ -1,30 +1,11 @@
 //! The calls of tree maps and sets that take no memory. The request after them is that of the call
 //! behind them, which the gate wants.
-ghost use Rattle.std.specs.Iterator.{IsFinite};
 
-use crate::tests::tell;
+use crate::tests::{answers, tell, walks};
 use nonempty_collections::{IntoNonEmptyIterator, NEBTreeMap, NEBTreeSet, NonEmptyIterator};
 use std::alloc::{AllocError, Global};
 use std::collections::{BTreeMap, BTreeSet};
 use std::test::Fail;
-
-// Fails, and names the call, unless the numbers are these.
-fn walks<I: Iterator<Item = u32> + Drop>(call: &str, numbers: I, wanted: &[u32]) -> Result<(), Fail>
-    requires { I.can_next numbers × IsFinite (I.remaining numbers) }
-{
-    if numbers.eq(wanted.iter().copied()) {
-        return Ok(());
-    }
-    Err(Fail::new(format_args!("{call}: other numbers than {wanted:?}")))
-}
-
-// Fails, and names the calls, unless they answer this.
-fn answers<T: PartialEq + Drop>(calls: &str, given: T, wanted: T) -> Result<(), Fail> {
-    if given == wanted {
-        return Ok(());
-    }
-    Err(Fail::new(format_args!("{calls}: another answer")))
-}
 
 // Each key with its tenfold.
 fn tens(alloc: Global) -> Result<NEBTreeMap<u32, u32>, AllocError> {

@@ -1,0 +1,79 @@
+//! Products and whether items differ: what was taken is dropped once where memory is refused.
+
+use super::owners::{Owner, one_more, owned, token};
+use super::{answers, tell, walks};
+use crate::tests::tables::{Items, item};
+use nonempty_collections::iter::once;
+use nonempty_collections::{
+    IntoNonEmptyIterator, NEEither, NEVec, NonEmptyIterator, NonEmptyItertools,
+};
+use std::cell::Cell;
+use std::test::Fail;
+
+// Of ten items: the set of those that were seen is made for the first, and grows for the last.
+#[test]
+fn all_unique(rt: HostRuntime) -> Result<(), Fail> {
+    let call = "NonEmptyItertools::all_unique";
+    let Ok(token) = token(rt.alloc()) else {
+        return tell(&rt, "not reached", call);
+    };
+    let source = once(item(rt.alloc(), &token, 1)?).chain(Items::new(rt.alloc(), &token, 2, 9));
+    let answer = source.all_unique(rt.alloc());
+    owned(call, &token, 0)?;
+    answers(call, answer.unwrap_or(true), true)?;
+    tell(&rt, if answer.is_ok() { "made" } else { "refused" }, call)
+}
+
+// Two rows of two pairs, each with a clone of an owner. Where a clone is refused an `Err` stands in
+// the place of its pair, and then `None`, and nothing more is drawn.
+#[test]
+fn cartesian_product(rt: HostRuntime) -> Result<(), Fail> {
+    let call = "NonEmptyItertools::cartesian_product";
+    let Ok(token) = token(rt.alloc()) else {
+        return tell(&rt, "not reached", call);
+    };
+    let draws = Cell::new(0u32);
+    let rows = [one_more(rt.alloc(), &token)?, one_more(rt.alloc(), &token)?]
+        .into_nonempty_iter()
+        .map(|row: Owner| {
+            draws.set(draws.get().wrapping_add(1));
+            row
+        });
+    let mut pairs = rows.cartesian_product(&[5u32, 6]).into_iter();
+    let mut count = 0u32;
+    let mut is_refused = false;
+    for _ in 0..4 {
+        match pairs.next() {
+            Some(Ok(_)) => count = count.wrapping_add(1),
+            Some(Err(_)) => {
+                is_refused = true;
+                break;
+            }
+            None => break,
+        }
+    }
+    let is_over = pairs.next().is_none();
+    drop(pairs);
+    let drawn = if count < 2 { 1 } else { 2 };
+    let wanted = (true, drawn, count < 4);
+    answers(call, (is_over, draws.get(), is_refused), wanted)?;
+    owned(call, &token, 0)?;
+    tell(&rt, if is_refused { "refused" } else { "made" }, call)
+}
+
+// The first request of this test is that of its call, which the gate wants: what stands before
+// takes no memory.
+#[test]
+fn none_taken_before(rt: HostRuntime) -> Result<(), Fail> {
+    let call = "NEVec::new behind a product";
+    let left: NEEither<[u32; 1], [u32; 2]> = NEEither::Left([7]);
+    walks("NEEither", left.into_nonempty_iter().into_iter(), &[7])?;
+    let mut pairs = [1u32]
+        .into_nonempty_iter()
+        .cartesian_product(&[5u32])
+        .into_iter();
+    answers("cartesian_product", pairs.next(), Some(Ok((1, &5))))?;
+    answers("cartesian_product", pairs.next().is_none(), true)?;
+    let answer = NEVec::new(rt.alloc(), 1);
+    tell(&rt, if answer.is_ok() { "made" } else { "refused" }, call)
+}

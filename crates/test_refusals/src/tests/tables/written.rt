@@ -1,0 +1,78 @@
+//! The macros, which evaluate what is written out from left to right, and nothing after a refusal.
+
+use crate::tests::tell;
+use nonempty_collections::{neim, neis, nem, nes};
+use std::test::Fail;
+
+// Of eleven numbers or pairs, of which the last two are counted as they are evaluated, `each`
+// expressions a piece. Without memory for the first one none was evaluated, and without it for the
+// tenth, for which the table grows, that one alone.
+fn counted(
+    rt: &impl Print,
+    call: &str,
+    is_made: bool,
+    evaluated: u32,
+    each: u32,
+) -> Result<(), Fail> {
+    let is_right = if is_made {
+        evaluated == each.wrapping_mul(2)
+    } else {
+        evaluated == 0 || evaluated == each
+    };
+    if !is_right {
+        return Err(Fail::new(format_args!("{call}: {evaluated} expressions were evaluated")));
+    }
+    tell(rt, if is_made { "made" } else { "refused" }, call)
+}
+
+#[test]
+fn hashed_map(rt: HostRuntime) -> Result<(), Fail> {
+    let mut evaluated = 0u32;
+    let mut n = || {
+        evaluated = evaluated.wrapping_add(1);
+        evaluated.wrapping_add(100)
+    };
+    let answer = nem![
+        rt.alloc();
+        1 => 1, 2 => 2, 3 => 3, 4 => 4, 5 => 5, 6 => 6, 7 => 7, 8 => 8, 9 => 9, n() => n(),
+        n() => n(),
+    ];
+    counted(&rt, "nem", answer.is_ok(), evaluated, 2)
+}
+
+#[test]
+fn hashed_set(rt: HostRuntime) -> Result<(), Fail> {
+    let mut evaluated = 0u32;
+    let mut n = || {
+        evaluated = evaluated.wrapping_add(1);
+        evaluated.wrapping_add(100)
+    };
+    let answer = nes![rt.alloc(); 1, 2, 3, 4, 5, 6, 7, 8, 9, n(), n()];
+    counted(&rt, "nes", answer.is_ok(), evaluated, 1)
+}
+
+#[test]
+fn index_map(rt: HostRuntime) -> Result<(), Fail> {
+    let mut evaluated = 0u32;
+    let mut n = || {
+        evaluated = evaluated.wrapping_add(1);
+        evaluated.wrapping_add(100)
+    };
+    let answer = neim![
+        rt.alloc();
+        1 => 1, 2 => 2, 3 => 3, 4 => 4, 5 => 5, 6 => 6, 7 => 7, 8 => 8, 9 => 9, n() => n(),
+        n() => n(),
+    ];
+    counted(&rt, "neim", answer.is_ok(), evaluated, 2)
+}
+
+#[test]
+fn index_set(rt: HostRuntime) -> Result<(), Fail> {
+    let mut evaluated = 0u32;
+    let mut n = || {
+        evaluated = evaluated.wrapping_add(1);
+        evaluated.wrapping_add(100)
+    };
+    let answer = neis![rt.alloc(); 1, 2, 3, 4, 5, 6, 7, 8, 9, n(), n()];
+    counted(&rt, "neis", answer.is_ok(), evaluated, 1)
+}
