@@ -1,10 +1,25 @@
 //! The laws of the port, so that a user's crate names one library: those on sources, adapters,
 //! closures, extremes, ends and groupings, those on divisions, chunks and comparisons, those on
 //! tree, hashed and index maps and sets, and those on products and on sources that are one of two.
+//! That each collection ends is stated here, as it is of all of them.
 //!
 //! Each is the contract of a function that does nothing. A caller calls it, and then knows what it
 //! ensures. The Rust crate has no such module.
 
+mod ends;
+
+pub use ends::arrays_end;
+pub use ends::hashed_maps_end;
+pub use ends::hashed_sets_end;
+pub use ends::index_maps_end;
+pub use ends::index_sets_end;
+pub use ends::intersperse_ends;
+pub use ends::looked_sources_end;
+pub use ends::slice_runs_end;
+pub use ends::slices_end;
+pub use ends::tree_maps_end;
+pub use ends::tree_sets_end;
+pub use ends::vectors_end;
 pub use ne_hash::laws::hashed_map_equality_is_reflexive;
 pub use ne_hash::laws::hashed_map_equality_is_symmetric_and_transitive;
 pub use ne_hash::laws::hashed_maps_come_back;
