@@ -336,6 +336,12 @@ try_from_vec 7 5 6
 map total
 try_from_vec 7 5
 flat_map total
+try_from_vec 1 2 3 4 1 5
+all_unique
+try_from_vec 2 3 4 1 5
+all_unique
+try_from_vec 0 1
+cartesian_product 7 8
 """
 
 
