@@ -345,9 +345,9 @@ cartesian_product 7 8
 """
 
 
-def rows():
-    """A script of the worked rows."""
-    split = [row.split() for row in ROWS.strip().splitlines()]
+def parsed(table):
+    """The script that the rows of a table write."""
+    split = [row.split() for row in table.strip().splitlines()]
     named = [(name, [it for it in words if not it.isdigit()], words) for name, *words in split]
     return [(name, "".join(closure), tuple(it for it in words if it.isdigit())) for name, closure, words in named]
 
@@ -363,7 +363,7 @@ def counted(script):
 
 def sample():
     """The worked rows, and then each call twice, each time but for those that make a vector over the same one."""
-    script = rows()
+    script = parsed(ROWS)
     for turn, items in enumerate([(3, 1, 4, 1, 5, 9, 2, 6), (7, 7, 0, 12, 12, 35, GREATEST)]):
         is_set = False
         for name, row in CALLS.items():

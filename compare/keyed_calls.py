@@ -4,12 +4,14 @@ of the map or the set, and its numbers: of a map keys and values by turns. Two k
 import itertools
 from collections import namedtuple
 
-from calls import CHANGES, EDGES, GREATEST, MAKES, READS, Kind, a_place, an_item, arms, lists, single
+from calls import CHANGES, EDGES, GREATEST, MAKES, READS, Kind, a_place, an_item, arms, lists, parsed, single
 
 CRATE, TWIN = "test_replay_keyed", "replay_keyed"
 MAPS = ["tree_map", "hashed_map", "indexed_map"]
 SETS = ["tree_set", "hashed_set", "indexed_set"]
 SUBJECTS = MAPS + SETS
+# Behind a call that leaves many keys, of which the programs write how many there are: shows them.
+WALK = "iter", "", ()
 
 
 def valued(keys):
@@ -58,7 +60,7 @@ ROWS = [
     ("try_from", MAPS[:2], "pairs", MAKES),
     ("with_hasher", MAPS[1:], "key value", MAKES),
     ("with_capacity with_capacity_and_hasher", MAPS[1:], "key value size", MAKES),
-    ("insert get_mut", MAPS, "key value", CHANGES),
+    ("insert extend_one get_mut", MAPS, "key value", CHANGES),
     ("extend", MAPS, "pairs", CHANGES),
     ("iter_mut nonempty_iter_mut mut_into_iter", MAPS[:2], "value", CHANGES),
     ("swap_indices", MAPS[2:], "place place", CHANGES),
@@ -77,7 +79,7 @@ ROWS = [
     ("collect try_from_set try_from", SETS, "keys", MAKES),
     ("with_hasher", SETS[1:], "key", MAKES),
     ("with_capacity with_capacity_and_hasher", SETS[1:], "key size", MAKES),
-    ("insert replace", SETS, "key", CHANGES),
+    ("insert extend_one replace", SETS, "key", CHANGES),
     ("extend", SETS, "keys", CHANGES),
     ("reserve", SETS[1:], "size", CHANGES),
     ("into_set", SETS, "", READS),
@@ -188,25 +190,165 @@ def long_scripts(chance):
             looks = [a_call(chance, subject, name, keys) for name in names_of(subject, READS)]
             yield made + [call for call in looks if not is_open(made, call)]
             for name in names_of(subject, CHANGES, MAKES):
-                yield [setting(subject, keys), a_call(chance, subject, name, keys)]
+                yield [setting(subject, keys), a_call(chance, subject, name, keys), WALK]
 
 
 def scripts(chance, count):
     return {"small": small_scripts(), "random": random_scripts(chance, count), "long": long_scripts(chance)}
 
 
-def sample():
-    """A script with each call, twice where one kind alone has it. Those that make a map or a set come last."""
+# Worked rows, in front of the sample: each is what its name says in small. Keys are even, but for those that equal another by its half.
+MAP_ROWS = """
+written_two 2 10 2 12
+get 2
+new 4 20
+insert 2 21
+insert 4 22
+debug
+extend 6 23 2 24
+extend_one 8 25
+extend_one 5 26
+clone
+contains_key 2
+contains_key 10
+get 10
+get_key_value 3
+get_mut 4 27
+get_mut 10 28
+try_from_map
+into_map
+as_ref
+try_from_map 4 1 2 2
+collect 2 1 4 2 3 3
+eq 4 2 2 3
+eq 2 3 4 2
+eq 2 2 4 3
+eq 2 3 2 3
+eq 2 3 6 2
+singleton 2 1
+debug
+"""
+SET_ROWS = """
+written_two 6 2
+debug
+insert 3
+insert 8
+replace 3
+replace 10
+len
+new 2
+debug
+extend 4 2
+extend_one 5
+extend_one 6
+clone
+contains 6
+contains 8
+get 3
+get 0
+is_disjoint 6 8 10
+is_subset 6 8 10
+is_superset 6 4
+is_superset 6 8
+is_subset 2 4 6 8
+difference 6 8 10
+intersection 7 8 10
+union 7 8 10
+union_next 7 8 10
+try_from_set
+try_from
+into_set
+as_ref
+try_from 2 4
+collect 10 2 8 4
+intersection 18 5 11 0
+difference 18 5 11 0
+union 18 5 11 0
+eq 4 8 2 10
+eq 4 8 2 6
+singleton 2
+eq 4
+eq 3
+"""
+# These have no order, or one of their own, and room.
+TRIED_ROWS = "try_from\ntry_from 4 1 2 2"
+WRITTEN_ROWS = "collect 2 0 4 1\niter_mut 1\nnonempty_iter_mut 2\nmut_into_iter 3"
+ROOM_ROWS = "with_capacity {numbers} 9\ncapacity 9\nwith_capacity_and_hasher {numbers} 8\ncapacity 8\nshrink_to_fit\nis_empty"
+RESERVE_ROWS = "new 2\nreserve 20\ncapacity 21\nextend 4 3\nshrink_to_fit\nlen"
+PLACE_ROWS = """
+collect 0 1 2 2 4 3 6 4 8 5 10 6
+first
+last
+get_index_of 5
+get_index_of 12
+index 1
+swap_indices 1 2
+swap_indices 0 3
+swap_indices 4 4
+get_index_of 5
+insert 3 7
+insert 12 8
+extend 14 9 1 10 14 11
+keys
+values
+nonempty_iter_clone
+keys_clone
+values_clone
+"""
+
+
+def rows():
+    """A script of the worked rows of each kind. Of tree sets each pair of sets of three keys or fewer is compared."""
     script = []
+    for subject in SUBJECTS:
+        tables = [MAP_ROWS if subject in MAPS else SET_ROWS]
+        tables += [TRIED_ROWS, WRITTEN_ROWS] * (subject in MAPS[:2])
+        tables += [ROOM_ROWS.format(numbers="2 1" if subject in MAPS else "2")] * (subject not in ("tree_map", "tree_set"))
+        tables += [RESERVE_ROWS] * (subject in SETS[1:]) + [PLACE_ROWS] * (subject == "indexed_map")
+        script += [setting(subject, (2,)), *parsed("\n".join(map(str.strip, tables)))]
+    subsets = [keys for length in (1, 2, 3) for keys in itertools.combinations((0, 2, 4), length)]
+    for keys in subsets:
+        script += [setting("tree_set", keys), *(("eq", "", other) for other in subsets)]
+    return script
+
+
+def large(count):
+    """The numbers of each kind of a call over so many keys: a known key and another one, and half as many keys again. `COUNT*STEP` is
+    written out by the programs."""
+    keys = f"{3 * count}*7919"
+    values = {"key": (count, 2 * count), "value": (7, 8), "place": (0, count - 1), "size": (count, 2), "map": (f"{2 * count}*7919", keys)}
+    values |= {"keys": (keys,) * 2, "pairs": (keys,) * 2, "other": (keys, f"{2 * count}*1")}
+    return {id(KINDS[kind]): [(number,) for number in numbers] for kind, numbers in values.items()}
+
+
+def each(subject, turn, begin, values):
+    """A script with each call of this kind behind its beginning, twice where no other kind has it. Those that make a map or a set come
+    last."""
+    script = [begin]
+    for does in READS, CHANGES, MAKES:
+        for name in names_of(subject, does):
+            is_single = sum(it == name for _, it in CALLS) == 1
+            for again in range(1 + is_single):
+                kinds = CALLS[subject, name].kinds
+                numbers = (values(it)[(turn + again + kinds[:place].count(it)) % 2] for place, it in enumerate(kinds))
+                script.append((name, "", tuple(itertools.chain(*numbers))))
+                is_whole = any(it in (KINDS["keys"], KINDS["pairs"]) for it in kinds)
+                script += [WALK] * (is_whole or name.endswith("iter_mut") or name == "swap_indices")
+    return script
+
+
+def sample():
+    """The worked rows; each call over a few keys; and each over 1, 2, 10 and 10,000, which come in a scrambled order, and at last rise and
+    fall."""
+    script = rows()
     for turn, subject in enumerate(SUBJECTS):
-        script.append(setting(subject, (6, 3, 8, 1, 7, 12, 9)))
-        for does in READS, CHANGES, MAKES:
-            for name in names_of(subject, does):
-                is_single = sum(it == name for _, it in CALLS) == 1
-                for again in range(1 + is_single):
-                    kinds = CALLS[subject, name].kinds
-                    numbers = (it.telling[(turn + again + kinds[:place].count(it)) % 2] for place, it in enumerate(kinds))
-                    script.append((name, "", tuple(itertools.chain(*numbers))))
+        script += each(subject, turn, setting(subject, (6, 3, 8, 1, 7, 12, 9)), lambda kind: kind.telling)
+    for count in 1, 2, 10, 10_000:
+        values, twice = large(count), 2 * count
+        for turn, subject in enumerate(SUBJECTS):
+            script += each(subject, turn, (subject, "", (f"{twice}*7919",)), lambda kind: values[id(kind)])
+            for step in 1, twice - 1:
+                script += [(subject, "", (f"{twice}*{step}",)), WALK]
     return script
 
 

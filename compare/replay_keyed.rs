@@ -30,7 +30,9 @@ fn replayed(script: &str) -> String {
         }
         out.said(" | ");
         out.is_sorted = subject.is_hashed();
+        out.is_brief = true;
         subject.write(&mut out);
+        out.is_brief = false;
         out.said("\n");
     }
     out.text
@@ -131,7 +133,16 @@ impl Debug for Key {
     }
 }
 
-// A call, as a line of a script writes it: a name and numbers.
+// A call, as a line of a script writes it: a name and numbers. `COUNT*STEP` stands for COUNT numbers, the multiples of STEP modulo COUNT.
+
+fn number_of(word: &str) -> u32 {
+    word.parse().unwrap_or(0)
+}
+
+fn put_multiples(numbers: &mut Vec<u32>, count: &str, step: &str) {
+    let (count, step) = (number_of(count), number_of(step));
+    numbers.extend((0..count).map(|place| place.wrapping_mul(step) % count));
+}
 
 struct Call<'t> {
     name: &'t str,
@@ -142,7 +153,14 @@ impl<'t> Call<'t> {
     fn parsed(line: &'t str) -> Call<'t> {
         let mut words = line.split(' ');
         let name = words.next().unwrap_or("");
-        Call { name, numbers: words.filter_map(|word| word.parse().ok()).collect() }
+        let mut numbers = Vec::new();
+        for word in words {
+            match word.split_once('*') {
+                Some((count, step)) => put_multiples(&mut numbers, count, step),
+                None => numbers.push(number_of(word)),
+            }
+        }
+        Call { name, numbers }
     }
 
     fn number(&self, place: usize) -> u32 {
@@ -184,6 +202,7 @@ impl<'t> Call<'t> {
 struct Transcript {
     text: String,
     is_sorted: bool,
+    is_brief: bool,
 }
 
 impl Transcript {
@@ -198,15 +217,32 @@ impl Transcript {
 
     fn walked<T: Ord + Debug, I: IntoIterator<Item = T>>(&mut self, walk: I) -> bool {
         let mut list: Vec<T> = walk.into_iter().collect();
+        if self.is_brief && list.len() > MOST {
+            return self.told(list.len());
+        }
         if self.is_sorted {
             list.sort();
         }
-        self.told(list)
+        if list.len() <= MOST {
+            return self.told(list);
+        }
+        let text = format!("{list:?}");
+        self.told((list.len(), list.first(), list.last(), checksum(&text)))
     }
 
     fn printed<T: Debug>(&mut self, value: &T) -> bool {
-        self.walked(format!("{value:#?}").lines())
+        let short = format!("{value:?}");
+        if short.len() <= MOST && !(self.is_sorted && short.contains(',')) {
+            self.said(&format!("{short} "));
+        }
+        self.walked(format!("{:#?}", [value]).lines())
     }
+}
+
+const MOST: usize = 100;
+
+fn checksum(text: &str) -> u32 {
+    text.bytes().fold(0, |sum: u32, byte| sum.wrapping_mul(31).wrapping_add(byte.into()))
 }
 
 // A map or a set that a call made stands in the place of the one that there is.
@@ -251,6 +287,10 @@ macro_rules! any_map {
             "collect" => put(map, collected(call.some_pairs())),
             "try_from_map" => put_some(map, out, $Map::try_from_map(call.pairs().into_iter().collect())),
             "insert" => out.told(map.insert(key, value)),
+            "extend_one" => {
+                map.extend([(key, value)]);
+                true
+            }
             "extend" => {
                 map.extend(call.pairs());
                 true
@@ -297,7 +337,7 @@ macro_rules! roomy_map {
                 map.shrink_to_fit();
                 true
             }
-            "capacity" => out.told(map.capacity() >= map.len()),
+            "capacity" => out.told((map.capacity() >= map.len(), map.capacity().get() >= call.size())),
             "is_empty" => out.told(map.is_empty()),
             _ => false,
         }
@@ -381,6 +421,10 @@ macro_rules! any_set {
             "try_from" => put_ok(set, out, $Set::try_from(call.items().into_iter().collect::<$Std<Key>>())),
             "insert" => out.told(set.insert(item)),
             "replace" => out.told(set.replace(item)),
+            "extend_one" => {
+                set.extend([item]);
+                true
+            }
             "extend" => {
                 set.extend(call.items());
                 true
@@ -432,7 +476,7 @@ macro_rules! roomy_set {
                 set.shrink_to_fit();
                 true
             }
-            "capacity" => out.told(set.capacity() >= set.len()),
+            "capacity" => out.told((set.capacity() >= set.len(), set.capacity().get() >= call.size())),
             "is_empty" => out.told(set.is_empty()),
             _ => false,
         }

@@ -1,9 +1,25 @@
-//! A call, as a line of a script writes it: a name and numbers.
+//! A call, as a line of a script writes it: a name and numbers. A word `COUNT*STEP` stands for
+//! COUNT numbers, the multiples of STEP from 0 on, each modulo COUNT: so a short line has many keys,
+//! which rise, fall or come in a scrambled order.
 
 use crate::key::Key;
 use nonempty_collections::NEVec;
 use std::alloc::{AllocError, Global};
 use std::num::NonZeroUsize;
+
+// The number that a word writes, and 0 where it writes none.
+fn number_of(word: &str) -> u32 {
+    word.parse().unwrap_or(0)
+}
+
+// Adds the numbers that `count*step` stands for.
+fn put_multiples(numbers: &mut Vec<u32>, count: &str, step: &str) -> Result<(), AllocError> {
+    let (count, step) = (number_of(count), number_of(step));
+    for place in 0..count {
+        numbers.push(place.wrapping_mul(step).checked_rem(count).unwrap_or(0))?;
+    }
+    Ok(())
+}
 
 /// A call.
 #[derive(Drop)]
@@ -20,8 +36,9 @@ impl<'t> Call<'t> {
         let name = words.next().unwrap_or("");
         let mut numbers = Vec::new(alloc);
         for word in words {
-            if let Ok(number) = word.parse::<u32>() {
-                numbers.push(number)?;
+            match word.split_once('*') {
+                Some((count, step)) => put_multiples(&mut numbers, count, step)?,
+                None => numbers.push(number_of(word))?,
             }
         }
         Ok(Call { name, numbers })

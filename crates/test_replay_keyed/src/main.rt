@@ -2,7 +2,8 @@
 //! prints a line for each call.
 //!
 //! A line that names a kind of map or set makes one of its numbers, which the lines after it call.
-//! The line that is printed has the answer, and then the map or the set as it is after the call.
+//! The line that is printed has the answer, and then the map or the set as it is after the call, or
+//! its length where it is long.
 //! A twin in Rust does the same over the Rust crate: see `compare/replay`.
 #![tactic(auto)]
 
@@ -53,7 +54,9 @@ fn replay(subject: &mut Subject, call: &Call, out: &mut Transcript) -> Result<()
     }
     out.said(" | ")?;
     out.is_sorted = subject.is_hashed();
+    out.is_brief = true;
     subject.write(out)?;
+    out.is_brief = false;
     out.said("\n")?;
     Ok(())
 }

@@ -78,6 +78,7 @@ macro_rules! changed {
     ($map:expr, $call:expr, $out:expr, $next:expr) => {
         match $call.name {
             "insert" => $out.made($map.insert($call.key(0), $call.number(1))),
+            "extend_one" => $out.did($map.extend_one(($call.key(0), $call.number(1)))),
             "extend" => $out.did($map.extend($call.pairs($out.alloc)?)),
             "get_mut" => write($map.get_mut(&$call.key(0)), $call.number(1), $out),
             _ => $next,
@@ -270,7 +271,10 @@ fn hashed_rewritten(map: &mut HashedMap, call: &Call, out: &mut Transcript) -> A
 fn hashed_sized(map: &mut HashedMap, call: &Call, out: &mut Transcript) -> Answered {
     match call.name {
         "shrink_to_fit" => out.did(map.shrink_to_fit()),
-        "capacity" => out.told(map.capacity() >= map.len()),
+        "capacity" => out.told((
+            map.capacity() >= map.len(),
+            map.capacity().get() >= call.size(),
+        )),
         "is_empty" => out.told(map.is_empty()),
         _ => hashed_looked(map, call, out),
     }
@@ -350,7 +354,10 @@ fn indexed_changed(map: &mut IndexedMap, call: &Call, out: &mut Transcript) -> A
 fn indexed_sized(map: &mut IndexedMap, call: &Call, out: &mut Transcript) -> Answered {
     match call.name {
         "shrink_to_fit" => out.did(map.shrink_to_fit()),
-        "capacity" => out.told(map.capacity() >= map.len()),
+        "capacity" => out.told((
+            map.capacity() >= map.len(),
+            map.capacity().get() >= call.size(),
+        )),
         "is_empty" => out.told(map.is_empty()),
         "swap_indices" => swapped(map, call.number(0) as usize, call.size(), out),
         _ => indexed_placed(map, call, out),

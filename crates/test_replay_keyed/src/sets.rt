@@ -86,7 +86,10 @@ macro_rules! sized {
             ),
             "reserve" => $out.did($set.reserve($call.size())),
             "shrink_to_fit" => $out.did($set.shrink_to_fit()),
-            "capacity" => $out.told($set.capacity() >= $set.len()),
+            "capacity" => $out.told((
+                $set.capacity() >= $set.len(),
+                $set.capacity().get() >= $call.size(),
+            )),
             "is_empty" => $out.told($set.is_empty()),
             _ => $next,
         }
@@ -99,6 +102,7 @@ macro_rules! changed {
         match $call.name {
             "insert" => $out.made($set.insert($call.key(0))),
             "replace" => $out.made($set.replace($call.key(0))),
+            "extend_one" => $out.did($set.extend_one($call.key(0))),
             "extend" => $out.did($set.extend($call.items($out.alloc)?)),
             _ => $next,
         }

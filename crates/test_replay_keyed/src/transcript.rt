@@ -19,6 +19,8 @@ pub struct Transcript {
     pub text: String,
     /// Whether walks are written sorted, since their order is open.
     pub is_sorted: bool,
+    /// Whether of a long walk its length alone is written.
+    pub is_brief: bool,
 }
 
 impl Transcript {
@@ -28,6 +30,7 @@ impl Transcript {
             alloc,
             text: String::new(alloc),
             is_sorted: false,
+            is_brief: false,
         }
     }
 
@@ -54,7 +57,8 @@ impl Transcript {
         Ok(true)
     }
 
-    /// Writes what a walk gives.
+    /// Writes what a walk gives: of more than a hundred items how many there are, the first, the
+    /// last and a checksum of all.
     pub fn walked<T: Ord + Debug + Drop, I: IntoIterator<Item = T>>(&mut self, walk: I) -> Answered
         requires { IsFiniteIterable I.into_iter_gives I.IntoIter.can_next I.IntoIter.remaining
             walk }
@@ -87,15 +91,44 @@ impl Transcript {
             walk }
     {
         list.extend(walk)?;
+        if self.is_brief && list.len() > MOST {
+            return self.told(list.len());
+        }
         if self.is_sorted {
             list.sort()?;
         }
-        self.told(list)
+        if list.len() <= MOST {
+            return self.told(list);
+        }
+        let text = format!(in self.alloc; "{list:?}")?;
+        self.told((
+            list.len(),
+            list.first(),
+            list.last(),
+            checksum(text.as_str()),
+        ))
     }
 
-    /// Writes the lines that a value prints in its long form.
+    /// Writes what a value prints, where it is short and its order is not open; and the lines that
+    /// it prints in its long form within a list.
     pub fn printed<T: Debug>(&mut self, value: &T) -> Answered {
-        let text = format!(in self.alloc; "{value:#?}")?;
-        self.walked(text.as_str().lines())
+        let short = format!(in self.alloc; "{value:?}")?;
+        if short.len() <= MOST && !(self.is_sorted && short.as_str().contains(',')) {
+            write!(self.text, "{short} ")?;
+        }
+        let long = format!(in self.alloc; "{:#?}", [value])?;
+        self.walked(long.as_str().lines())
     }
+}
+
+// Of more items than these a walk writes how many there are, the first, the last and a checksum.
+const MOST: usize = 100;
+
+// A number that tells texts apart.
+fn checksum(text: &str) -> u32 {
+    let mut sum = 0u32;
+    for byte in text.bytes() {
+        sum = sum.wrapping_mul(31).wrapping_add(byte as u32);
+    }
+    sum
 }
