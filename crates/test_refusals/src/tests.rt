@@ -18,7 +18,7 @@ mod tables;
 mod trees;
 mod untouched;
 
-ghost use Rattle.std.specs.Prelude.{◌+◌, ◌^◌, ◌×◌};
+ghost use Rattle.std.specs.Prelude.{◌+◌, ◌^◌};
 ghost use Rattle.std.specs.Iterator.{at_most, IsFinite};
 
 use nonempty_collections::NEVec;
