@@ -1,5 +1,5 @@
 //! Workloads over products, over the look for equal items, and over lists of calls: carried out by
-//! `run_vec` and `run_map`, and beside them the same calls made directly.
+//! `run_vec` and `run_map`, and beside them the same calls made directly, with their replies kept.
 
 use crate::input::{mixed, next, scrambled};
 use ne_laws::map_calls::{MapCall, MapReply, run_map};
@@ -20,15 +20,28 @@ pub fn checksum(alloc: Global, name: &str, n: NonZeroUsize) -> Result<Option<u64
         "vector_run" => vector_run(alloc, vector_calls(alloc, n)?)?,
         "vector_directly" => vector_directly(alloc, vector_calls(alloc, n)?)?,
         "map_calls" => map_calls(alloc, n)?.len() as u64,
-        "tree_run" => map_run(alloc, NEBTreeMap::new(alloc, 0, 0)?, n)?,
-        "tree_directly" => map_directly(NEBTreeMap::new(alloc, 0, 0)?, map_calls(alloc, n)?)?,
-        "hash_run" => map_run(alloc, NEMap::new(alloc, 0, 0)?, n)?,
-        "hash_directly" => map_directly(NEMap::new(alloc, 0, 0)?, map_calls(alloc, n)?)?,
-        "index_run" => map_run(alloc, NEIndexMap::new(alloc, 0, 0)?, n)?,
-        "index_directly" => map_directly(NEIndexMap::new(alloc, 0, 0)?, map_calls(alloc, n)?)?,
-        _ => return Ok(None),
+        _ => match name.split_once("_") {
+            Some(("tree", step)) => return map_step(alloc, NEBTreeMap::new(alloc, 0, 0)?, step, n),
+            Some(("hash", step)) => return map_step(alloc, NEMap::new(alloc, 0, 0)?, step, n),
+            Some(("index", step)) => return map_step(alloc, NEIndexMap::new(alloc, 0, 0)?, step, n),
+            _ => return Ok(None),
+        },
     };
     Ok(Some(checksum))
+}
+
+// The workloads of a map, which is of one pair.
+fn map_step<M: NonEmptyMap<u64, u64> + Drop>(
+    alloc: Global,
+    map: M,
+    step: &str,
+    n: NonZeroUsize,
+) -> Result<Option<u64>, AllocError> {
+    match step {
+        "run" => Ok(Some(map_run(alloc, map, map_calls(alloc, n)?)?)),
+        "directly" => Ok(Some(map_directly(alloc, map, map_calls(alloc, n)?)?)),
+        _ => Ok(None),
+    }
 }
 
 // About `n` pairs: of each item one with each of 16.
@@ -67,8 +80,41 @@ fn vector_calls(alloc: Global, n: NonZeroUsize) -> Result<Vec<VecCall<u64>>, All
 
 fn vector_run(alloc: Global, calls: Vec<VecCall<u64>>) -> Result<u64, AllocError> {
     let mut items = NEVec::new(alloc, 0)?;
+    Ok(vector_told(run_vec(alloc, &mut items, calls)?))
+}
+
+fn vector_directly(alloc: Global, calls: Vec<VecCall<u64>>) -> Result<u64, AllocError> {
+    let mut items = NEVec::new(alloc, 0)?;
+    let mut replies = Vec::new(alloc);
+    for call in calls {
+        replies.push(made_directly(&mut items, call)?)?;
+    }
+    Ok(vector_told(replies))
+}
+
+fn made_directly(items: &mut NEVec<u64>, call: VecCall<u64>) -> Result<VecReply<u64>, AllocError> {
+    let len = items.len().get();
+    match call {
+        VecCall::Push(x) => items.push(x)?,
+        VecCall::Pop => return Ok(VecReply::Taken(items.pop())),
+        VecCall::Remove(i) if len == 1 || i < len => return Ok(VecReply::Taken(items.remove(i))),
+        VecCall::SwapRemove(i) if len == 1 || i < len => {
+            return Ok(VecReply::Taken(items.swap_remove(i)));
+        }
+        VecCall::Insert(i, x) if i <= len => items.insert(i, x)?,
+        VecCall::Remove(_) | VecCall::SwapRemove(_) | VecCall::Insert(_, _) => {
+            return Ok(VecReply::Refused);
+        }
+        VecCall::Truncate(n) => items.truncate(n),
+        VecCall::Reverse => items.reverse(),
+        VecCall::Len => return Ok(VecReply::Len(items.len())),
+    }
+    Ok(VecReply::Done)
+}
+
+fn vector_told(replies: Vec<VecReply<u64>>) -> u64 {
     let mut checksum = 0u64;
-    for reply in run_vec(alloc, &mut items, calls)? {
+    for reply in replies {
         let told = match reply {
             VecReply::Done => 1,
             VecReply::Taken(taken) => taken.unwrap_or(2),
@@ -77,34 +123,7 @@ fn vector_run(alloc: Global, calls: Vec<VecCall<u64>>) -> Result<u64, AllocError
         };
         checksum = mixed(checksum, told);
     }
-    Ok(checksum)
-}
-
-fn vector_directly(alloc: Global, calls: Vec<VecCall<u64>>) -> Result<u64, AllocError> {
-    let mut items = NEVec::new(alloc, 0)?;
-    let mut checksum = 0u64;
-    for call in calls {
-        checksum = mixed(checksum, made_directly(&mut items, call)?);
-    }
-    Ok(checksum)
-}
-
-fn made_directly(items: &mut NEVec<u64>, call: VecCall<u64>) -> Result<u64, AllocError> {
-    let len = items.len().get();
-    match call {
-        VecCall::Push(x) => items.push(x)?,
-        VecCall::Pop => return Ok(items.pop().unwrap_or(2)),
-        VecCall::Remove(i) if len == 1 || i < len => return Ok(items.remove(i).unwrap_or(2)),
-        VecCall::SwapRemove(i) if len == 1 || i < len => {
-            return Ok(items.swap_remove(i).unwrap_or(2));
-        }
-        VecCall::Insert(i, x) if i <= len => items.insert(i, x)?,
-        VecCall::Remove(_) | VecCall::SwapRemove(_) | VecCall::Insert(_, _) => return Ok(3),
-        VecCall::Truncate(n) => items.truncate(n),
-        VecCall::Reverse => items.reverse(),
-        VecCall::Len => return Ok(len as u64),
-    }
-    Ok(1)
+    checksum
 }
 
 // `n` calls on a map of at most 4,096 keys.
@@ -127,10 +146,31 @@ fn map_calls(alloc: Global, n: NonZeroUsize) -> Result<Vec<MapCall<u64, u64>>, A
 fn map_run<M: NonEmptyMap<u64, u64> + Drop>(
     alloc: Global,
     mut map: M,
-    n: NonZeroUsize,
+    calls: Vec<MapCall<u64, u64>>,
 ) -> Result<u64, AllocError> {
+    Ok(map_told(run_map(alloc, &mut map, calls)?))
+}
+
+fn map_directly<M: NonEmptyMap<u64, u64> + Drop>(
+    alloc: Global,
+    mut map: M,
+    calls: Vec<MapCall<u64, u64>>,
+) -> Result<u64, AllocError> {
+    let mut replies = Vec::new(alloc);
+    for call in calls {
+        replies.push(match call {
+            MapCall::Insert(key, value) => MapReply::Old(map.put(key, value)?),
+            MapCall::Write(key, value) => MapReply::Old(map.set(&key, value)),
+            MapCall::Has(key) => MapReply::Has(map.has(&key)),
+            MapCall::Len => MapReply::Len(map.size()),
+        })?;
+    }
+    Ok(map_told(replies))
+}
+
+fn map_told(replies: Vec<MapReply<u64>>) -> u64 {
     let mut checksum = 0u64;
-    for reply in run_map(alloc, &mut map, map_calls(alloc, n)?)? {
+    for reply in replies {
         let told = match reply {
             MapReply::Old(old) => old.unwrap_or(2),
             MapReply::Has(has) => u64::from(has),
@@ -138,22 +178,5 @@ fn map_run<M: NonEmptyMap<u64, u64> + Drop>(
         };
         checksum = mixed(checksum, told);
     }
-    Ok(checksum)
-}
-
-fn map_directly<M: NonEmptyMap<u64, u64> + Drop>(
-    mut map: M,
-    calls: Vec<MapCall<u64, u64>>,
-) -> Result<u64, AllocError> {
-    let mut checksum = 0u64;
-    for call in calls {
-        let told = match call {
-            MapCall::Insert(key, value) => map.put(key, value)?.unwrap_or(2),
-            MapCall::Write(key, value) => map.set(&key, value).unwrap_or(2),
-            MapCall::Has(key) => u64::from(map.has(&key)),
-            MapCall::Len => map.size().get() as u64,
-        };
-        checksum = mixed(checksum, told);
-    }
-    Ok(checksum)
+    checksum
 }
