@@ -129,6 +129,18 @@ def failed_tests(folder, crate):
     return {f"{crate}::{it}" for it in re.findall(r"^test (\S+) .*FAILED", said, re.M)}
 
 
+def printed_by(folder, crate):
+    """What a program of the scratch copy prints for its stored input, compiled and not proved."""
+    how = {"cwd": os.path.join(folder, "crates", crate), "capture_output": True, "text": True}
+    script = read(f"crates/{crate}/stdin")
+    # the interpreter, which would run it first, is stopped at once; the run with checks is slow
+    ran = subprocess.run(["rt", "try", "--steps", "1", "--seconds", "600"], input=script, **how)
+    errors = errors_of(ran.stderr)
+    if errors or "runners=1" not in ran.stderr:
+        stop("\n".join([f"the program {crate} does not run:", *errors[:9], ran.stderr[-2000:]]))
+    return ran.stdout
+
+
 class Refusals:
     """A program that `rt ci` has built here, run with one of its requests for memory refused."""
 

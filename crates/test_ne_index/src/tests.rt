@@ -1,13 +1,10 @@
-//! Worked rows, printed texts, each call once with ample memory, and what is dropped.
+//! Hashers of one's own, and what is dropped. The calls with what they answer are lines of the
+//! stored run of `test_replay_keyed`.
 
 mod drops;
 mod hashers;
-mod large;
-mod maps;
-mod sets;
 
-use nonempty_collections::{NEIndexMap, NEIndexSet, neim};
-use std::alloc::{AllocError, Global};
+use nonempty_collections::NEIndexMap;
 use std::fmt::Debug;
 use std::hash::BuildHasher;
 use std::test::Fail;
@@ -19,12 +16,6 @@ fn is<T: PartialEq + Debug + Drop>(given: T, wanted: T) -> Result<(), Fail> {
     } else {
         Err(Fail::new(format_args!("expected {wanted:?}, found {given:?}")))
     }
-}
-
-// Fails if the value prints another text, in which its content stands in order.
-fn prints<T: Debug>(alloc: Global, value: &T, wanted: &str) -> Result<(), Fail> {
-    let text = format!(in alloc; "{value:?}")?;
-    is(text.as_str(), wanted)
 }
 
 // Exchanges the pairs at two places, and fails if one of them is not there.
@@ -39,21 +30,4 @@ fn exchange<V: Drop, S: BuildHasher + Drop>(
     } else {
         Err("no such place")?
     }
-}
-
-// A map of scores, as the rows have it.
-type Scores = NEIndexMap<&'static str, u32>;
-
-// The map that most rows begin with: "a" is 3, and "b" is 2.
-fn scores(alloc: Global) -> Result<Scores, AllocError> {
-    neim![alloc; "a" => 1, "b" => 2, "a" => 3]
-}
-
-// The set of the numbers from `first` to `last`.
-fn numbers(alloc: Global, first: u32, last: u32) -> Result<NEIndexSet<u32>, AllocError> {
-    let mut set = NEIndexSet::new(alloc, first)?;
-    for x in first..=last {
-        set.insert(x)?;
-    }
-    Ok(set)
 }

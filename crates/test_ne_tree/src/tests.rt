@@ -1,14 +1,10 @@
-//! Worked rows, printed texts, each call once with ample memory, and what is dropped.
+//! What is dropped, by tokens that count their owners, and which of several equal values is the
+//! greatest. Two owners of a token are equal. The calls with what they answer are lines of the
+//! stored run of `test_replay_keyed`.
 
-mod drops;
-mod equality;
-mod large;
-mod maps;
-mod sets;
-
-use nonempty_collections::{NEBTreeMap, NEBTreeSet, NEVec};
-use std::alloc::{AllocError, Global};
+use nonempty_collections::{NEBTreeMap, NEBTreeSet, NonEmptyIterator};
 use std::fmt::Debug;
+use std::rc::Rc;
 use std::test::Fail;
 
 // Fails if the two values differ, and says what both are.
@@ -20,27 +16,45 @@ fn is<T: PartialEq + Debug + Drop>(given: T, wanted: T) -> Result<(), Fail> {
     }
 }
 
-// Fails if the value prints another text, in which its content stands in order.
-fn prints<T: Debug>(alloc: Global, value: &T, wanted: &str) -> Result<(), Fail> {
-    let text = format!(in alloc; "{value:?}")?;
-    is(text.as_str(), wanted)
+#[test]
+fn keys(rt: HostRuntime) -> Result<(), Fail> {
+    let token = Rc::new(rt.alloc(), 5u32)?;
+    let mut map = NEBTreeMap::new(rt.alloc(), token.clone()?, 'a')?;
+    map.insert(token.clone()?, 'b')?;
+    map.extend([(token.clone()?, 'c')])?;
+    let one = Rc::strong_count(&token);
+    drop(map);
+    is([one, Rc::strong_count(&token)], [2, 1])
 }
 
-// A map of names, as the rows have it.
-type Names = NEBTreeMap<u32, char>;
-
-// The map of 1 and 2 that most rows begin with.
-fn names(alloc: Global) -> Result<Names, AllocError> {
-    let mut map = NEBTreeMap::new(alloc, 2, 'x')?;
-    map.insert(1, 'y')?;
-    Ok(map)
+#[test]
+fn values(rt: HostRuntime) -> Result<(), Fail> {
+    let token = Rc::new(rt.alloc(), 5u32)?;
+    let mut map = NEBTreeMap::new(rt.alloc(), 1, token.clone()?)?;
+    drop(map.insert(1, token.clone()?)?);
+    let one = Rc::strong_count(&token);
+    map.insert(2, token.clone()?)?;
+    let two = Rc::strong_count(&token);
+    drop(map);
+    is([one, two, Rc::strong_count(&token)], [2, 3, 1])
 }
 
-// The set of the numbers from `first` to `last`.
-fn numbers(alloc: Global, first: u32, last: u32) -> Result<NEBTreeSet<u32>, AllocError> {
-    let mut set = NEBTreeSet::new(alloc, first)?;
-    for x in first..=last {
-        set.insert(x)?;
-    }
-    Ok(set)
+#[test]
+fn items(rt: HostRuntime) -> Result<(), Fail> {
+    let token = Rc::new(rt.alloc(), 5u32)?;
+    let mut set = NEBTreeSet::new(rt.alloc(), token.clone()?)?;
+    set.insert(token.clone()?)?;
+    set.extend([token.clone()?])?;
+    drop(set.replace(token.clone()?)?);
+    let one = Rc::strong_count(&token);
+    drop(set);
+    is([one, Rc::strong_count(&token)], [2, 1])
+}
+
+#[test]
+fn first_of_equal_greatest(rt: HostRuntime) -> Result<(), Fail> {
+    let (a, b) = (Rc::new(rt.alloc(), 5u32)?, Rc::new(rt.alloc(), 5)?);
+    let mut map = NEBTreeMap::new(rt.alloc(), 1, a.clone()?)?;
+    map.insert(2, b)?;
+    is(Rc::ptr_eq(map.values().max(), &a), true)
 }

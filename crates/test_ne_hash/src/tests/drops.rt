@@ -33,6 +33,7 @@ fn items(rt: HostRuntime) -> Result<(), Fail> {
     let token = Rc::new(rt.alloc(), 5u32)?;
     let mut set = NESet::new(rt.alloc(), token.clone()?)?;
     set.insert(token.clone()?)?;
+    set.extend([token.clone()?])?;
     drop(set.replace(token.clone()?)?);
     let one = Rc::strong_count(&token);
     drop(set);

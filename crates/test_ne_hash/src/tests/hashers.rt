@@ -1,53 +1,14 @@
 //! Maps and sets over hashers of one's own: one that is told from others, one under which all keys
-//! collide, and one with a random seed. And keys whose equality and hash look at a part alone.
+//! collide, and one with a random seed. And sizes for which there is no memory.
 
-use super::{is, size};
+use super::is;
 use crate::hashers::{Colliding, Numbered, of_strangers};
-use nonempty_collections::{NEMap, NESet, NonEmptyIterator};
-use std::alloc::Global;
+use nonempty_collections::{NEMap, NESet};
+use std::alloc::{AllocError, Global};
 use std::collections::{HashMap, HashSet};
-use std::hash::{Hash, Hasher, RandomState};
+use std::hash::RandomState;
+use std::num::NonZeroUsize;
 use std::test::Fail;
-
-// A number with a name, of which equality and the hash look at the number alone.
-#[derive(Clone, Copy, Drop)]
-struct Named(u32, char);
-
-impl PartialEq for Named {
-    ghost use Rattle.std.specs.Ordering.{on};
-    ghost use Rattle.std.specs.Prelude.{nat_eq};
-    ghost use Rattle.std.specs.Cmp.Rules.{comparing};
-    ghost use Rattle.std.proofs.Common.{rules};
-
-    ghost eq = { on (λ x. x.0) nat_eq };
-
-    ghost laws = { Prim.search (comparing, rules) };
-
-    fn eq(&self, other: &Named) -> bool {
-        self.0 == other.0
-    }
-}
-
-impl Eq for Named {
-    ghost use Rattle.std.specs.Cmp.Rules.{comparing};
-    ghost use Rattle.std.proofs.Common.{rules};
-
-    ghost laws = { Prim.search (comparing, rules) };
-}
-
-impl Hash for Named {
-    ghost use Rattle.std.specs.Hash as fed;
-    ghost use Rattle.std.specs.Cmp.Rules.{hashing};
-    ghost use Rattle.std.proofs.Common.{rules};
-
-    ghost hash_input = { λ x. fed.u32 x.0 };
-
-    ghost respects_eq = { Prim.search (hashing, rules) };
-
-    fn hash<H: Hasher>(&self, state: &mut H) {
-        state.write_u32(self.0);
-    }
-}
 
 // The hasher of 5 is kept by the conversions.
 fn converted_map(alloc: Global) -> Result<NEMap<u32, char, Numbered>, Fail> {
@@ -87,17 +48,20 @@ fn set_keeps_its_hasher(rt: HostRuntime) -> Result<(), Fail> {
 
 #[test]
 fn with_room(rt: HostRuntime) -> Result<(), Fail> {
-    let alloc = rt.alloc();
-    let map = NEMap::with_capacity_and_hasher(alloc, size(4)?, Numbered::new(6), 1, 'a')?;
-    let set = NESet::with_capacity_and_hasher(alloc, size(4)?, Numbered::new(7), 1)?;
-    is([map.hasher().number, set.hasher().number], [6, 7])?;
+    let four = NonZeroUsize::new(4).ok_or("zero")?;
+    let map = NEMap::with_capacity_and_hasher(rt.alloc(), four, Numbered::new(6), 1, 'a')?;
+    let set = NESet::with_capacity_and_hasher(rt.alloc(), four, Numbered::new(7), 1)?;
+    is([map.hasher().number, set.hasher().number], [6, 7])
+}
+
+#[test]
+fn too_large(rt: HostRuntime) -> Result<(), Fail> {
+    let most = NonZeroUsize::new(usize::MAX).ok_or("zero")?;
+    let map: Result<NEMap<u32, char>, AllocError> = NEMap::with_capacity(rt.alloc(), most, 1, 'a');
+    let mut set: NESet<u32> = NESet::new(rt.alloc(), 1)?;
     is(
-        (
-            map.capacity().get() >= 4,
-            set.capacity().get() >= 4,
-            map.get(&1).copied(),
-        ),
-        (true, true, Some('a')),
+        [map.is_err(), set.reserve(usize::MAX).is_err()],
+        [true, true],
     )
 }
 
@@ -139,42 +103,4 @@ fn keys_of_strangers(rt: HostRuntime) -> Result<(), Fail> {
     let mut map = of_strangers(rt.alloc(), RandomState::new(&rt)?, 1, 2)?;
     map.extend([(3, 4), (1, 5)])?;
     is((map.len().get(), map.get(&1).copied()), (2, Some(5)))
-}
-
-// The name of the item that equals the number, where there is one.
-fn name_of(set: &NESet<Named>, number: u32) -> Option<char> {
-    set.get(&Named(number, '?')).map(|item| item.1)
-}
-
-#[test]
-fn equal_items_stay_or_are_replaced(rt: HostRuntime) -> Result<(), Fail> {
-    let mut set: NESet<Named> = NESet::new(rt.alloc(), Named(1, 'a'))?;
-    let added = set.insert(Named(1, 'b'))?;
-    let kept = name_of(&set, 1);
-    set.extend([Named(1, 'c'), Named(2, 'd')])?;
-    let still = name_of(&set, 1);
-    let old = set.replace(Named(1, 'e'))?.map(|item| item.1);
-    is(added, false)?;
-    is(
-        [kept, still, old, name_of(&set, 1), name_of(&set, 2)],
-        [Some('a'), Some('a'), Some('a'), Some('e'), Some('d')],
-    )
-}
-
-#[test]
-fn equal_keys_stay(rt: HostRuntime) -> Result<(), Fail> {
-    let mut map: NEMap<Named, u8> = NEMap::new(rt.alloc(), Named(1, 'a'), 1)?;
-    let old = map.insert(Named(1, 'b'), 2)?;
-    map.extend([(Named(1, 'c'), 3)])?;
-    let found = map.get_key_value(&Named(1, '?')).map(|(k, v)| (k.1, *v));
-    is((old, found), (Some(1), Some(('a', 3))))
-}
-
-#[test]
-fn differences_are_the_firsts(rt: HostRuntime) -> Result<(), Fail> {
-    let mut first: NESet<Named> = NESet::new(rt.alloc(), Named(1, 'a'))?;
-    first.insert(Named(2, 'a'))?;
-    let second: NESet<Named> = NESet::new(rt.alloc(), Named(1, 'b'))?;
-    let left = first.difference(&second).map(|item| item.1).next();
-    is((left, first.union(&second).count().get()), (Some('a'), 2))
 }
