@@ -363,28 +363,45 @@ fn vector_calls(n: NonZeroUsize) -> Vec<VecCall> {
     calls
 }
 
+enum VecReply {
+    Done,
+    Taken(Option<u64>),
+    Len(NonZeroUsize),
+    Refused,
+}
+
 fn vector_directly(calls: Vec<VecCall>) -> u64 {
     let mut items = NEVec::new(0);
-    let mut checksum = 0u64;
+    let mut replies = Vec::new();
     for call in calls {
-        checksum = mixed(checksum, made_directly(&mut items, call));
+        replies.push(made_directly(&mut items, call));
+    }
+    let mut checksum = 0u64;
+    for reply in replies {
+        let told = match reply {
+            VecReply::Done => 1,
+            VecReply::Taken(taken) => taken.unwrap_or(2),
+            VecReply::Len(len) => len.get() as u64,
+            VecReply::Refused => 3,
+        };
+        checksum = mixed(checksum, told);
     }
     checksum
 }
 
-fn made_directly(items: &mut NEVec<u64>, call: VecCall) -> u64 {
+fn made_directly(items: &mut NEVec<u64>, call: VecCall) -> VecReply {
     let len = items.len().get();
     match call {
         VecCall::Push(x) => items.push(x),
-        VecCall::Pop => return items.pop().unwrap_or(2),
-        VecCall::Remove(i) if len == 1 || i < len => return items.remove(i).unwrap_or(2),
-        VecCall::SwapRemove(i) if len == 1 || i < len => return items.swap_remove(i).unwrap_or(2),
+        VecCall::Pop => return VecReply::Taken(items.pop()),
+        VecCall::Remove(i) if len == 1 || i < len => return VecReply::Taken(items.remove(i)),
+        VecCall::SwapRemove(i) if len == 1 || i < len => return VecReply::Taken(items.swap_remove(i)),
         VecCall::Insert(i, x) if i <= len => items.insert(i, x),
-        VecCall::Remove(_) | VecCall::SwapRemove(_) | VecCall::Insert(_, _) => return 3,
+        VecCall::Remove(_) | VecCall::SwapRemove(_) | VecCall::Insert(_, _) => return VecReply::Refused,
         VecCall::Truncate(n) => items.truncate(n),
-        VecCall::Len => return len as u64,
+        VecCall::Len => return VecReply::Len(items.len()),
     }
-    1
+    VecReply::Done
 }
 
 enum MapCall {
@@ -411,14 +428,28 @@ fn map_calls(n: NonZeroUsize) -> Vec<MapCall> {
     calls
 }
 
+enum MapReply {
+    Old(Option<u64>),
+    Has(bool),
+    Len(u64),
+}
+
 fn map_directly<M: Table>(mut map: M, calls: Vec<MapCall>) -> u64 {
-    let mut checksum = 0u64;
+    let mut replies = Vec::new();
     for call in calls {
-        let told = match call {
-            MapCall::Insert(key, value) => map.replaced(key, value).unwrap_or(2),
-            MapCall::Write(key, value) => map.written(key, value).unwrap_or(2),
-            MapCall::Has(key) => u64::from(map.has(key)),
-            MapCall::Len => map.length(),
+        replies.push(match call {
+            MapCall::Insert(key, value) => MapReply::Old(map.replaced(key, value)),
+            MapCall::Write(key, value) => MapReply::Old(map.written(key, value)),
+            MapCall::Has(key) => MapReply::Has(map.has(key)),
+            MapCall::Len => MapReply::Len(map.length()),
+        });
+    }
+    let mut checksum = 0u64;
+    for reply in replies {
+        let told = match reply {
+            MapReply::Old(old) => old.unwrap_or(2),
+            MapReply::Has(has) => u64::from(has),
+            MapReply::Len(len) => len,
         };
         checksum = mixed(checksum, told);
     }
