@@ -1,8 +1,9 @@
-//! Hashers of one's own, and what is dropped. The calls with what they answer are lines of the
+//! Hashers of one's own, what is dropped, and some rows. The calls with what they answer are lines of the
 //! stored run of `test_replay_keyed`.
 
 mod drops;
 mod hashers;
+mod rows;
 
 use nonempty_collections::NEIndexMap;
 use std::fmt::Debug;

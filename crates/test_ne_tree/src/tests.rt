@@ -2,7 +2,11 @@
 //! greatest. Two owners of a token are equal. The calls with what they answer are lines of the
 //! stored run of `test_replay_keyed`.
 
+mod equality;
+mod rows;
+
 use nonempty_collections::{NEBTreeMap, NEBTreeSet, NonEmptyIterator};
+use std::alloc::Global;
 use std::fmt::Debug;
 use std::rc::Rc;
 use std::test::Fail;
@@ -14,6 +18,12 @@ fn is<T: PartialEq + Debug + Drop>(given: T, wanted: T) -> Result<(), Fail> {
     } else {
         Err(Fail::new(format_args!("expected {wanted:?}, found {given:?}")))
     }
+}
+
+// Fails if the value prints another text, in which its content stands in order.
+fn prints<T: Debug>(alloc: Global, value: &T, wanted: &str) -> Result<(), Fail> {
+    let text = format!(in alloc; "{value:?}")?;
+    is(text.as_str(), wanted)
 }
 
 #[test]
