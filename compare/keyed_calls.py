@@ -38,6 +38,12 @@ def same_pairs(chance, keys):
     return tuple(itertools.chain(*((key, value) for value, key in pairs)))
 
 
+def some_calls(chance, keys):
+    """Calls of a list, each by which it is, by its key and its value."""
+    turns = range(chance.choice([0, 1, 2, 5, 12]))
+    return tuple(x for _ in turns for x in (chance.randrange(4), an_item(chance, keys), chance.randrange(9)))
+
+
 SMALL_MAPS = [valued(it) for it in lists(0, 2, range(3))]
 # What a call's numbers may be, as in `calls.py`; those by chance are made beside the keys.
 KINDS = {
@@ -48,6 +54,12 @@ KINDS = {
     "size": Kind(single(range(1, 3)), single([2]), single([3, 9]), lambda chance, keys: (chance.randrange(len(keys) + 2),)),
     "keys": Kind(lists(0, 2, range(3)), [(), (1, 4)], [(9, 4, 20), (5, 11)], some_keys),
     "pairs": Kind(SMALL_MAPS, [(), (1, 8, 4, 9)], [(9, 1, 4, 2, 20, 3), (5, 1, 11, 2)], lambda *made: valued(some_keys(*made))),
+    "calls": Kind(
+        [(kind, key, 7, *other) for kind, key in lists(2, 2, range(4)) for other in [(), (0, 2, 8), (2, 2, 0)]],
+        [(0, 1, 7, 1, 4, 8, 3, 0, 0)],
+        [(0, 8, 50, 1, 5, 60, 2, 9, 0, 3, 0, 0), (1, 5, 1, 1, 4, 2, 0, 30, 3, 2, 31, 0, 3, 0, 0)],
+        some_calls,
+    ),
     "other": Kind(lists(1, 2, range(4)), [(1, 4)], [(3, 1, 4, 15, 9), (13, 0, 2, 9, 7)], like_keys),
     "map": Kind(SMALL_MAPS[1:], [(1, 8)], [(9, 2, 3, 1), (13, 6, 0, 4, 2, 2, 9, 7, 7, 5)], same_pairs),
 }
@@ -62,6 +74,7 @@ ROWS = [
     ("with_capacity with_capacity_and_hasher", MAPS[1:], "key value size", MAKES),
     ("insert extend_one get_mut", MAPS, "key value", CHANGES),
     ("extend", MAPS, "pairs", CHANGES),
+    ("run_map", MAPS, "calls", CHANGES),
     ("iter_mut nonempty_iter_mut mut_into_iter", MAPS[:2], "value", CHANGES),
     ("swap_indices", MAPS[2:], "place place", CHANGES),
     ("shrink_to_fit", MAPS[1:] + SETS[1:], "", CHANGES),
@@ -318,6 +331,7 @@ def large(count):
     keys = f"{3 * count}*7919"
     values = {"key": (count, 2 * count), "value": (7, 8), "place": (0, count - 1), "size": (count, 2), "map": (f"{2 * count}*7919", keys)}
     values |= {"keys": (keys,) * 2, "pairs": (keys,) * 2, "other": (keys, f"{2 * count}*1")}
+    values["calls"] = (f"0 {count} 7 1 {4 * count} 8 2 0 0 3 0 0", f"0 {4 * count} 7 1 {count} 8 2 {9 * count} 0")
     return {id(KINDS[kind]): [(number,) for number in numbers] for kind, numbers in values.items()}
 
 

@@ -274,6 +274,13 @@ type TreeMap = NEBTreeMap<Key, u32>;
 type HashedMap = NEMap<Key, u32>;
 type IndexedMap = NEIndexMap<Key, u32>;
 
+#[derive(Debug)]
+enum MapReply {
+    Old(Option<u32>),
+    Has(bool),
+    Len(NonZeroUsize),
+}
+
 // Calls that all maps have.
 macro_rules! any_map {
     ($Map:ident, $Std:ident, $written:ident, $map:expr, $call:expr, $out:expr) => {{
@@ -290,6 +297,21 @@ macro_rules! any_map {
             "extend_one" => {
                 map.extend([(key, value)]);
                 true
+            }
+            // The Rust crate carries out no list of calls: they are made one by one.
+            "run_map" => {
+                let mut replies = Vec::new();
+                for three in call.numbers.chunks(3) {
+                    let key = Key::new(three.get(1).copied().unwrap_or(0));
+                    let value = three.get(2).copied().unwrap_or(0);
+                    replies.push(match three[0] % 4 {
+                        0 => MapReply::Old(map.insert(key, value)),
+                        1 => MapReply::Old(map.get_mut(&key).map(|place| std::mem::replace(place, value))),
+                        2 => MapReply::Has(map.contains_key(&key)),
+                        _ => MapReply::Len(map.len()),
+                    });
+                }
+                out.told(replies)
             }
             "extend" => {
                 map.extend(call.pairs());

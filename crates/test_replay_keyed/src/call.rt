@@ -3,6 +3,7 @@
 //! which rise, fall or come in a scrambled order.
 
 use crate::key::Key;
+use ne_laws::map_calls::MapCall;
 use nonempty_collections::NEVec;
 use std::alloc::{AllocError, Global};
 use std::num::NonZeroUsize;
@@ -98,5 +99,22 @@ impl<'t> Call<'t> {
             Some(pairs) => Ok(pairs),
             None => NEVec::new(alloc, (self.key(0), 0)),
         }
+    }
+
+    /// Its numbers three by three as calls on a map: which call it is, its key and its value.
+    pub fn calls(&self, alloc: Global) -> Result<Vec<MapCall<Key, u32>>, AllocError> {
+        let mut calls = Vec::new(alloc);
+        for three in self.numbers.as_slice().chunks(3) {
+            let kind = three.first().copied().unwrap_or(0);
+            let key = Key::new(three.get(1).copied().unwrap_or(0));
+            let value = three.get(2).copied().unwrap_or(0);
+            calls.push(match kind % 4 {
+                0 => MapCall::Insert(key, value),
+                1 => MapCall::Write(key, value),
+                2 => MapCall::Has(key),
+                _ => MapCall::Len,
+            })?;
+        }
+        Ok(calls)
     }
 }

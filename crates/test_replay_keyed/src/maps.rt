@@ -7,6 +7,8 @@ use crate::key::Key;
 use crate::put::{put, put_ok, put_some};
 use crate::transcript::{Answered, Transcript};
 use indexmap::{IndexMap, map};
+use ne_laws::map_calls::run_map;
+use ne_laws::maps::NonEmptyMap;
 use nonempty_collections::{
     IntoNonEmptyIterator, NEBTreeMap, NEIndexMap, NEMap, NonEmptyIterator, Singleton, nebtm, neim,
     nem,
@@ -79,11 +81,18 @@ macro_rules! changed {
         match $call.name {
             "insert" => $out.made($map.insert($call.key(0), $call.number(1))),
             "extend_one" => $out.did($map.extend_one(($call.key(0), $call.number(1)))),
+            "run_map" => run($map, $call, $out),
             "extend" => $out.did($map.extend($call.pairs($out.alloc)?)),
             "get_mut" => write($map.get_mut(&$call.key(0)), $call.number(1), $out),
             _ => $next,
         }
     };
+}
+
+// Carries out a list of calls.
+fn run<M: NonEmptyMap<Key, u32>>(map: &mut M, call: &Call, out: &mut Transcript) -> Answered {
+    let calls = call.calls(out.alloc)?;
+    out.made(run_map(out.alloc, map, calls))
 }
 
 // Writes a value, if there is one.
