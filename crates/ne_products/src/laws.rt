@@ -1,5 +1,5 @@
-//! The laws of products and of sources that are one of two. Each is the contract of a function that does nothing: a caller calls it,
-//! and then knows what it ensures.
+//! The laws of products and of sources that are one of two. Each is the contract of a function that
+//! does nothing: a caller calls it, and then knows what it ensures.
 ghost use Rattle.std.specs.Prelude.{◌≡◌, ℕ, ◌+◌, ◌*◌, List, Ok, Some, length, map, slice_get};
 ghost use Rattle.ne_iter.specs.Gives.{GivesList};
 ghost use Rattle.ne_products.specs.Pairs.{cartesian_product, CanRefuse};

@@ -1,5 +1,5 @@
-//! Hashers of one's own, what is dropped, and some rows. The calls with what they answer are lines of the
-//! stored run of `test_replay_keyed`.
+//! Hashers of one's own, what is dropped, and some rows. The calls with what they answer are lines
+//! of the stored run of `test_replay_keyed`.
 
 mod drops;
 mod hashers;

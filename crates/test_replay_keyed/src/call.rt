@@ -1,6 +1,6 @@
 //! A call, as a line of a script writes it: a name and numbers. A word `COUNT*STEP` stands for
-//! COUNT numbers, the multiples of STEP from 0 on, each modulo COUNT: so a short line has many keys,
-//! which rise, fall or come in a scrambled order.
+//! COUNT numbers, the multiples of STEP from 0 on, each modulo COUNT: so a short line has many
+//! keys, which rise, fall or come in a scrambled order.
 
 use crate::key::Key;
 use ne_laws::map_calls::MapCall;

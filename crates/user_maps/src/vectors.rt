@@ -1,5 +1,6 @@
 //! Lists of calls on vectors. None has a proof file, and none calls a law.
-ghost use Rattle.std.specs.Prelude.{◌≡◌, ◌<◌, ◌++◌, [], ◌∷◌, None, Some, length, reverse, IfOk, OnOk};
+ghost use Rattle.std.specs.Prelude.{◌≡◌, ◌<◌, ◌++◌, [], ◌∷◌, None, Some, length, reverse};
+ghost use Rattle.std.specs.Prelude.{IfOk, OnOk};
 
 use ne_laws::vector_calls::{VecCall, VecReply, run_vec};
 use nonempty_collections::NEVec;

@@ -1,5 +1,5 @@
-//! What the stored run cannot show: a chain that is collected into a map, pairs that are parted into
-//! two sets, and a map within a map.
+//! What the stored run cannot show: a chain that is collected into a map, pairs that are parted
+//! into two sets, and a map within a map.
 
 use super::{is, prints};
 use nonempty_collections::{
