@@ -274,6 +274,8 @@ type TreeMap = NEBTreeMap<Key, u32>;
 type HashedMap = NEMap<Key, u32>;
 type IndexedMap = NEIndexMap<Key, u32>;
 
+// What a call replies: it is printed, and not read otherwise.
+#[allow(dead_code)]
 #[derive(Debug)]
 enum MapReply {
     Old(Option<u32>),
