@@ -1,4 +1,5 @@
-//! Laws on what the contracts cite. Each is the contract of a function that does nothing.
+//! Laws about the definitions that the contracts use. Each law is the contract of a function that
+//! does nothing.
 ghost use Rattle.std.specs.Prelude.{◌≡◌, ◌≢◌, ◌<◌, ◌≤◌, ◌↔◌, ◌*◌, ℕ, Bool, true, false, List, []};
 ghost use Rattle.std.specs.Prelude.{◌∷◌, ◌++◌, length, map, take, drop, slice_get, Some};
 ghost use Rattle.std.specs.List.{AllByRecursion, AllZip};
@@ -16,7 +17,7 @@ ghost use Rattle.std.specs.Iterator.{Yields};
 use crate::{NESlice, NEVec};
 use std::hash::Hash;
 
-/// Each list has exactly one division into runs, whatever tells which items go on a run.
+/// Each list has exactly one division into runs, whichever items continue a run.
 pub fn has_one_division<T>()
     ensures exists { (goes_on : List T → T → Bool) (xs : List T) → (rs : List (List T))
         × IsDivision goes_on xs rs }
@@ -24,9 +25,9 @@ pub fn has_one_division<T>()
         → IsDivision goes_on xs rs → IsDivision goes_on xs others → rs ≡ others }
 {}
 
-/// `runs_of` computes that division, of a test of two items: its runs are the division, and any
-/// division is these runs. `place` says which item of a run the next one is compared with,
-/// `by_first` or `by_previous`.
+/// `runs_of` computes the one division of a list by a test of two items: its runs are a division,
+/// and every division equals them. `place` is `by_first` or `by_previous`; it says with which item
+/// of a run the next item is compared.
 pub fn computed_runs_are_the_division<T>()
     ensures divides { (place : (T → T → Bool) → List T → T → Bool) (same : T → T → Bool)
         (xs : List T) → IsDivision (place same) xs (runs_of place same xs) }
@@ -35,14 +36,14 @@ pub fn computed_runs_are_the_division<T>()
         → rs ≡ runs_of place same xs }
 {}
 
-/// The runs of a list, all but its last, are the first runs of each longer list.
+/// The runs of a list, except its last one, are the first runs of each longer list.
 pub fn longer_list_keeps_runs<T>()
     ensures { (goes_on : List T → T → Bool) (xs more : List T) (rs all : List (List T))
         (last : List T) → IsDivision goes_on xs (rs ++ last ∷ [])
         → IsDivision goes_on (xs ++ more) all → (rest : List (List T)) × (all ≡ rs ++ rest) }
 {}
 
-/// One item more goes on the last run, or begins a run of its own.
+/// One more item at the end either continues the last run or begins a new one.
 pub fn one_item_more<T>()
     ensures goes_on { (goes_on : List T → T → Bool) (xs : List T) (x : T) (rs : List (List T))
         (last : List T) → IsDivision goes_on xs (rs ++ last ∷ []) → goes_on last x ≡ true
@@ -52,8 +53,8 @@ pub fn one_item_more<T>()
         → IsDivision goes_on (xs ++ x ∷ []) ((rs ++ last ∷ []) ++ (x ∷ []) ∷ []) }
 {}
 
-/// Under a symmetric and transitive relation it is all one whether an item is compared with its
-/// run's first item or with the item before it.
+/// If a relation is symmetric and transitive, comparing each item with the first item of its run
+/// gives the same division as comparing it with the item before it.
 pub fn first_and_previous_agree<T>()
     ensures { (same : T → T → Bool) (xs : List T) (rs : List (List T)) → IsPartialEquivalence same
         → (IsDivision (by_first same) xs rs ↔ IsDivision (by_previous same) xs rs) }
@@ -66,9 +67,9 @@ pub fn converse_has_the_same_division<T>()
         → IsDivision (by_first (λ x y. same y x)) xs rs }
 {}
 
-/// Under a key that is a function of the item alone, and leaves the item as it is, the items that
-/// [`NEVec::dedup_by_key`] keeps are the first items of the runs of equal keys. These are the runs
-/// of `group_by` by the same key.
+/// If the key is a function of the item alone and doesn't change the item, [`NEVec::dedup_by_key`]
+/// keeps the first item of each run of equal keys. These are the runs of `group_by` with the same
+/// key.
 pub fn dedup_by_key_keeps_the_first_items<T, K: PartialEq>()
     ensures { (read : T → K) (xs ys : List T) (runs : List (List T))
         → KeepsFirsts (λ later kept. K.eq (read later) (read kept)) xs ys
@@ -79,8 +80,8 @@ pub fn dedup_by_key_keeps_the_first_items<T, K: PartialEq>()
     converse_has_the_same_division::<T>();
 }
 
-/// Where a mapped item goes on a mapped run as the item goes on the run, the runs of the mapped
-/// list are the mapped runs.
+/// If a mapped item continues a mapped run exactly if the item continues the run, then the runs of
+/// the mapped list are the mapped runs.
 pub fn mapped_list_has_the_mapped_runs<T, U>()
     ensures { (f : T → U) (goes_on : List T → T → Bool) (mapped_on : List U → U → Bool)
         (xs : List T) (rs : List (List T)) → ((r : List T) (x : T)
@@ -88,10 +89,10 @@ pub fn mapped_list_has_the_mapped_runs<T, U>()
         → IsDivision mapped_on (map f xs) (map (map f) rs) }
 {}
 
-/// There is a chunk j for each j at which the list has an item left, and it is the items from place
-/// j times the size on, as many as the size. One after another the chunks are the list; each but
-/// the last has the size that was asked for, and the last has at least one item and at most that
-/// size.
+/// If `size` is not 0, there is a chunk j exactly if the list has an item at index j * size. It
+/// holds the items from that index on, up to `size` of them. One after another the chunks are the
+/// list. Each chunk but the last has `size` items; the last has at least one item and at most
+/// `size`.
 pub fn chunks_make_the_whole<T>()
     ensures count { (size : ℕ) (xs : List T) (j : ℕ) → 0 < size
         → ((j < length (chunks size xs)) ↔ (j * size < length xs)) }
@@ -103,7 +104,7 @@ pub fn chunks_make_the_whole<T>()
         × (0 < length last) × (length last ≤ size) }
 {}
 
-/// Vectors compare as their lists do, item by item, and equal ones are hashed alike.
+/// Vectors compare as their lists do, item by item, and equal vectors have equal hashes.
 pub fn vectors_compare_as_lists<T: Ord + Hash>()
     ensures equal { (v w : List T) → ⟦<NEVec<T> as PartialEq>⟧.eq v w ≡ pointwise T.eq v w }
     ensures ordered { (v w : List T) → ⟦<NEVec<T> as Ord>⟧.cmp v w ≡ slice_cmp T.cmp v w }
@@ -113,7 +114,7 @@ pub fn vectors_compare_as_lists<T: Ord + Hash>()
         → ⟦<NEVec<T> as Hash>⟧.hash_input v ≡ ⟦<NEVec<T> as Hash>⟧.hash_input w }
 {}
 
-/// And so do slices.
+/// Non-empty slices compare as their lists do, item by item, and equal slices have equal hashes.
 pub fn slices_compare_as_lists<'a, T: Ord + Hash + 'a>()
     ensures equal { (v w : List T) → ⟦<NESlice<'a, T> as PartialEq>⟧.eq v w ≡ pointwise T.eq v w }
     ensures ordered { (v w : List T) → ⟦<NESlice<'a, T> as Ord>⟧.cmp v w ≡ slice_cmp T.cmp v w }
@@ -123,8 +124,8 @@ pub fn slices_compare_as_lists<'a, T: Ord + Hash + 'a>()
         → ⟦<NESlice<'a, T> as Hash>⟧.hash_input v ≡ ⟦<NESlice<'a, T> as Hash>⟧.hash_input w }
 {}
 
-/// The order of lists is the lexicographic one: the first place at which they differ decides, and
-/// where one is the front of the other, the shorter is less.
+/// The order of lists is the lexicographic one: the first index at which they differ decides, and
+/// if one list is the beginning of the other, the shorter one is less.
 pub fn lists_are_in_lexicographic_order<T: Ord>()
     ensures differs { (front v w : List T) (x y : T) → T.cmp x y ≢ Equal
         → slice_cmp T.cmp (front ++ x ∷ v) (front ++ y ∷ w) ≡ T.cmp x y }
@@ -134,10 +135,11 @@ pub fn lists_are_in_lexicographic_order<T: Ord>()
     ensures same { (v : List T) → slice_cmp T.cmp v v ≡ Equal }
 {}
 
-/// And so it is where items compare as equal without being the same: `front` and `other` are as
-/// long, and tie at each place. The first place at which two lists do not tie decides; where all
-/// items of one tie with those in front of the other, the shorter is less and the longer greater;
-/// and lists compare as equal exactly if they are as long and tie at each place.
+/// The order of lists is also lexicographic if items can compare as equal without being the same.
+/// Two items tie if they compare as equal; `front` and `other` have the same length and tie at each
+/// index. The first index at which two lists don't tie decides. If all items of one list tie with
+/// the first items of the other, the shorter list is less and the longer one greater. Lists compare
+/// as equal if and only if they have the same length and tie at each index.
 pub fn ties_are_passed_over<T: Ord>()
     ensures differs { (front other v w : List T) (x y : T)
         → AllZip (λ a b. T.cmp a b ≡ Equal) front other → T.cmp x y ≢ Equal
@@ -152,8 +154,8 @@ pub fn ties_are_passed_over<T: Ord>()
         → ((slice_cmp T.cmp v w ≡ Equal) ↔ AllZip (λ a b. T.cmp a b ≡ Equal) v w) }
 {}
 
-/// The same of `partial_cmp`, whose answer at the first place at which the lists do not tie may
-/// also be `None`: items there that do not compare leave the lists without an order.
+/// Lists compare lexicographically by `partial_cmp` too. The result at the first index at which the
+/// lists don't tie decides; if it is `None`, the lists have no order either.
 pub fn partial_ties_are_passed_over<T: PartialOrd>()
     ensures differs { (front other v w : List T) (x y : T)
         → AllZip (λ a b. T.partial_cmp a b ≡ Some Equal) front other
@@ -170,16 +172,16 @@ pub fn partial_ties_are_passed_over<T: PartialOrd>()
         ↔ AllZip (λ a b. T.partial_cmp a b ≡ Some Equal) v w) }
 {}
 
-/// A closure that may be called at any item may be called at the items of each list. Generic code
-/// that knows the first of its closure calls this law, and then the calls that ask for the second.
+/// A closure that can be called with any item can be called with the items of each list. Generic
+/// code that knows the former calls this law before a method that requires the latter.
 pub fn always_callable_is_callable_at_items<T, R, F: FnMut(&T) -> R>()
     ensures { (f : F) (xs : List T) → F.IsAlwaysCallable f → CallableAtItems F.FnMut f xs }
 {}
 
-/// The runs that were taken from the front of a slice, and then the runs of the items that are
-/// left, are the runs of the slice, if the closure acts as a test of two items. It holds for either
-/// item that a new one is compared with, `by_first` and `by_previous`, and at any moment: once no
-/// item is left, the runs that were taken are all runs of the slice.
+/// The runs that were taken from the front of a slice, followed by the runs of the items that are
+/// left, are the runs of the slice, if the closure acts as a test of two items. This holds for both
+/// `by_first` and `by_previous`, and at any moment. Once no item is left, the runs that were taken
+/// are all runs of the slice.
 pub fn runs_taken_are_the_first_runs<T, F: Fn(&T, &T) -> bool>()
     ensures { (place : (T → T → Bool) → List T → T → Bool) (same : T → T → Bool)
         (s t : Cutting T F) (rs all : List (List T))

@@ -1,10 +1,10 @@
 //! Vectors and slices that hold at least one item.
 //!
-//! This is the part of the port of `nonempty-collections` that the other crates stand on. Its
+//! This is the part of the port of `nonempty-collections` that the other crates build on. Its
 //! modules and the items in them have the Rust crate's names.
 //!
-//! A contract sees an [`NEVec`] and an [`NESlice`] as the list of their items. That the list has an
-//! item is the types' invariant.
+//! In contracts the value of an [`NEVec`] or an [`NESlice`] is the list of its items. That this
+//! list is not empty is the invariant of both types.
 #![tactic(auto)]
 
 pub mod laws;
@@ -22,7 +22,7 @@ pub use vector::NEVec;
 /// Why a value could not be made.
 #[derive(Debug, Clone, Copy, Drop)]
 pub enum Error {
-    /// The given collection has no item.
+    /// The given collection has no items.
     Empty,
 }
 
@@ -36,28 +36,28 @@ impl fmt::Display for Error {
     }
 }
 
-/// A collection that can be made of one item, and that takes further items one at a time.
+/// A collection that can be made from one item and then grows one item at a time.
 ///
-/// `collected xs c` says that `c` is what the items `xs` make, in this order: of a vector, that it
-/// is this list. The clauses of the two calls are the law that each implementation proves of its
-/// own `collected`. In the Rust crate the trait has no `extend_one`, and what wants to add items
-/// asks for `Extend` besides.
+/// `collected xs c` says that `c` is what the items `xs` make, in this order; for a vector, that
+/// `c` is the list `xs`. The clauses of the two methods are laws, which each implementation proves
+/// for its own `collected`. In the Rust crate the trait has no `extend_one`, and code that adds
+/// items requires `Extend` as well.
 pub trait Singleton: Sized {
-    /// What it holds: of a map, pairs of a key and a value.
+    /// The type of the items; for a map, pairs of a key and a value.
     type Item;
 
     ghost collected: { List Self.Item → Self → Type 0 };
 
-    /// The collection of one item.
+    /// Returns a collection of one item.
     ///
-    /// `AllocError` where there is no memory for it; the item is then dropped.
+    /// Returns `AllocError` if the allocation fails; the item is then dropped.
     fn singleton(alloc: Global, item: Self::Item) -> Result<Self, AllocError>
         ensures { IfOk result (collected (item ∷ [])) };
 
     /// Adds an item: `push` on a vector, `insert` on a set or a map.
     ///
-    /// `AllocError` where the collection has to grow and there is no memory for it; it is then what
-    /// the same items make, and the item is dropped.
+    /// Returns `AllocError` if the collection has to grow and the allocation fails; it is then
+    /// still what its items made, and the new item is dropped.
     fn extend_one(&mut self, item: Self::Item) -> Result<(), AllocError>
         ensures added { OnOk result ((xs : List Self.Item) → collected xs self.old
             → collected (xs ++ item ∷ []) self.new) }

@@ -1,13 +1,13 @@
 //! The macro [`nev!`](crate::nev).
 
-/// The vector of the items that are written out, as `nev![alloc; 1, 2, 3]`, or of an item repeated,
-/// as `nev![alloc; 0; 7]`.
+/// Makes a vector of the given items, as in `nev![alloc; 1, 2, 3]`, or of one item repeated, as in
+/// `nev![alloc; 0; 7]`.
 ///
-/// Either is a `Result`: `AllocError` where there is no memory for the items, which are then
+/// It evaluates to a `Result`, which is `AllocError` if the allocation fails; the items are then
 /// dropped. The expressions are evaluated from left to right, the allocator first, and none after a
-/// refusal. They hold no `return`, `break` or `?`. How often an item is repeated is a `usize`, on
-/// the condition that it is not 0; in the Rust crate it is a constant. Without an item the macro
-/// does not compile.
+/// failure. They may not contain `return`, `break` or `?`. The number of repetitions is a `usize`
+/// that must not be 0; in the Rust crate it is a constant. Without an item the macro doesn't
+/// compile.
 ///
 /// ```
 /// let three = nev![alloc; 1, 2, 3]?;

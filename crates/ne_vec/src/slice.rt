@@ -1,4 +1,4 @@
-//! [`NESlice`], a part of a list that is never empty, its chunks, its runs, and the walk over it.
+//! [`NESlice`], a slice that is never empty, with its chunks, its runs, and its iterator.
 ghost use Rattle.std.specs.Prelude.{◌≡◌, ◌-◌, ◌<◌, ◌≤◌, ◌↔◌, [], length, false, Some, None, IfSome};
 ghost use Rattle.std.specs.Prelude.{slice_get, ⊤};
 ghost use Rattle.std.specs.NonZero.{non_zero_usize_get};
@@ -22,9 +22,9 @@ use std::num::NonZeroUsize;
 use std::ops::Index;
 use std::{fmt, slice};
 
-/// A part of a list that holds at least one item, borrowed.
+/// A borrowed slice that holds at least one item.
 ///
-/// A contract sees it as the list of its items. None of its calls takes memory.
+/// In contracts its value is the list of its items. None of its methods allocates.
 #[derive(Drop)]
 pub struct NESlice<'a, T> {
     pub(crate) inner: &'a [T],
@@ -47,21 +47,21 @@ impl<'a, T> NESlice<'a, T> {
     ghost use Rattle.ne_vec.specs.Divisions.{by_first, by_previous};
     ghost use Rattle.ne_vec.specs.SliceRuns.{RunsGive};
 
-    /// The first item.
+    /// Returns the first item.
     pub fn first(&self) -> &T
         ensures { slice_get self.now 0 ≡ Some result.now }
     {
         &self.inner[0]
     }
 
-    /// The last item, which is the first one where there is no other.
+    /// Returns the last item, which is also the first one if it is the only one.
     pub fn last(&self) -> &T
         ensures { slice_get self.now (length self.now - 1) ≡ Some result.now }
     {
         &self.inner[self.inner.len() - 1]
     }
 
-    /// The slice itself, or `None`, exactly where it is empty.
+    /// Returns `slice` as a non-empty slice, or `None` if it is empty.
     pub fn try_from_slice(slice: &'a [T]) -> Option<Self>
         ensures empty { (result ≡ None) ↔ (slice.now ≡ []) }
         ensures same { IfSome result (λ s. s ≡ slice.now) }
@@ -73,16 +73,16 @@ impl<'a, T> NESlice<'a, T> {
         }
     }
 
-    /// How many items there are.
+    /// Returns the number of items.
     pub fn len(&self) -> NonZeroUsize
         ensures { non_zero_usize_get result ≡ length self.now }
     {
         NonZeroUsize::new(self.inner.len()).unwrap()
     }
 
-    /// `false`: there is an item.
+    /// Returns `false`, as there is always an item.
     ///
-    /// It is there for code that is written for slices too. In the Rust crate it is deprecated.
+    /// It exists for code that is written for slices too. In the Rust crate it is deprecated.
     pub fn is_empty(&self) -> bool
         ensures never { result ≡ false }
         ensures nonempty { 0 < length self.now }
@@ -91,14 +91,14 @@ impl<'a, T> NESlice<'a, T> {
         false
     }
 
-    /// Std's walk over the items, in order.
+    /// Returns std's iterator over the items, in order.
     pub fn iter(&self) -> slice::Iter<'_, T>
         ensures { Walks self.now result }
     {
         self.inner.iter()
     }
 
-    /// The walk over the items, in order, that knows that there is one.
+    /// Returns a non-empty iterator over the items, in order.
     pub fn nonempty_iter(&self) -> Iter<'_, T>
         ensures items { result ≡ self.now }
         ensures shows { WalkShows result self.now }
@@ -106,8 +106,8 @@ impl<'a, T> NESlice<'a, T> {
         Iter { inner: self.inner }
     }
 
-    /// The chunks of `chunk_size` items, in order, of which the last may be shorter. They are parts
-    /// of the slice: nothing is copied.
+    /// Returns the chunks of `chunk_size` items, in order; the last chunk may be shorter. They are
+    /// parts of the slice, so nothing is copied.
     pub fn nonempty_chunks(&'a self, chunk_size: NonZeroUsize) -> NEChunks<'a, T>
         ensures items { result ≡ chunks (non_zero_usize_get chunk_size) self.now }
         ensures lists { ChunksGive result (chunks (non_zero_usize_get chunk_size) self.now) }
@@ -117,16 +117,16 @@ impl<'a, T> NESlice<'a, T> {
         }
     }
 
-    /// The runs of the items, in order: each further item goes on the run if
-    /// `same(first item of the run, item)` returns `true`, else it begins the next run. No item is
-    /// compared with the one before it; [`adjacent_runs`](Self::adjacent_runs) does that.
+    /// Returns the runs of the items, in order. An item continues the run if `same(first item of
+    /// the run, item)` returns `true`; otherwise it begins the next run. No item is compared with
+    /// the one before it; [`adjacent_runs`](Self::adjacent_runs) does that.
     ///
-    /// Each run is a part of the slice, so that nothing is copied and no memory is taken. The runs
-    /// are the one division of the items, for any `same` that depends on the two items alone,
-    /// reflexive and transitive or not. Under any other the parts still make up the slice, one
-    /// after another, and none is empty.
+    /// Each run is a part of the slice, so nothing is copied and nothing is allocated. If what
+    /// `same` returns depends on the two items alone, the runs are the one division of the items;
+    /// `same` need not be reflexive or transitive. With any other `same` the runs are still
+    /// non-empty, and one after another they are the slice.
     ///
-    /// It is ours: the Rust crate has no such call, and std's `chunk_by` compares neighbours.
+    /// The Rust crate has no such method. Std's `chunk_by` compares neighbours.
     ///
     /// With `|a, b| a.abs_diff(*b) < 2` the runs of 1, 2 and 3 are `[1, 2]` and `[3]`.
     pub fn runs_by<F: Fn(&T, &T) -> bool>(&'a self, same: F) -> SliceRuns<'a, T, F>
@@ -143,14 +143,15 @@ impl<'a, T> NESlice<'a, T> {
         }
     }
 
-    /// The runs of the items, in order: each further item goes on the run if
-    /// `same(item before it, item)` returns `true`, else it begins the next run.
+    /// Returns the runs of the items, in order. An item continues the run if `same(item before it,
+    /// item)` returns `true`; otherwise it begins the next run.
     ///
-    /// Each run is a part of the slice, so that nothing is copied and no memory is taken. The runs
-    /// are the one division of the items, for any `same` that depends on the two items alone. If
-    /// `same` is symmetric and transitive, [`runs_by`](Self::runs_by) gives the same runs.
+    /// Each run is a part of the slice, so nothing is copied and nothing is allocated. If what
+    /// `same` returns depends on the two items alone, the runs are the one division of the items.
+    /// If `same` is symmetric and transitive too, [`runs_by`](Self::runs_by) gives the same runs.
     ///
-    /// It is ours: it does what `chunk_by` of std's slices does, and stays non-empty.
+    /// The Rust crate has no such method. It does what `chunk_by` of std's slices does, and its
+    /// runs are non-empty slices.
     ///
     /// With `|a, b| a.abs_diff(*b) < 2` the numbers 1, 2 and 3 are one run.
     pub fn adjacent_runs<F: Fn(&T, &T) -> bool>(&'a self, same: F) -> AdjacentRuns<'a, T, F>
@@ -168,7 +169,7 @@ impl<'a, T> NESlice<'a, T> {
     }
 }
 
-/// To read it as a slice. It stands in the place of the Rust crate's `AsRef<[T]>`.
+/// Returns the items as a slice. This replaces the Rust crate's `AsRef<[T]>`.
 impl<'a, T> AsSlice<T> for NESlice<'a, T> {
     ghost items = { λ s. s };
 
@@ -208,7 +209,7 @@ impl<'a, T> IntoIterator for &'a NESlice<'a, T> {
     }
 }
 
-/// On the condition that the place is at most the last one, which 0 always is; in the Rust crate it
+/// Returns the item at `index`, which must be at most the last index; 0 always is. The Rust crate
 /// panics otherwise.
 impl<'a, T> Index<usize> for NESlice<'a, T> {
     type Output = T;
@@ -226,7 +227,7 @@ impl<'a, T> Index<usize> for NESlice<'a, T> {
     }
 }
 
-/// The same part once more; it takes no memory, and is never refused.
+/// Returns the same slice. It doesn't allocate and never fails.
 impl<'a, T> Clone for NESlice<'a, T> {
     ghost is_clone = { λ s t. t ≡ s };
 
@@ -237,7 +238,7 @@ impl<'a, T> Clone for NESlice<'a, T> {
     }
 }
 
-/// Prints as in the Rust crate, with its name: `NESlice { inner: [1, 2, 3] }`.
+/// Prints the slice with its type's name, as in the Rust crate: `NESlice { inner: [1, 2, 3] }`.
 impl<'a, T: Debug> Debug for NESlice<'a, T> {
     fn fmt<W: fmt::Write>(&self, f: &mut fmt::Formatter<W>) -> fmt::Result {
         f.debug_struct("NESlice")
@@ -294,7 +295,8 @@ impl<'a, T: Ord> Ord for NESlice<'a, T> {
     }
 }
 
-/// A walk over the items of an [`NESlice`], at least one. A contract sees it as their list.
+/// An iterator over the items of an [`NESlice`], of which there is at least one. In contracts its
+/// value is the list of them.
 #[derive(Drop)]
 pub struct Iter<'a, T> {
     inner: &'a [T],
@@ -332,7 +334,8 @@ impl<'a, T> IntoIterator for Iter<'a, T> {
     }
 }
 
-/// The chunks of a list, at least one. A contract sees them as the list of the chunks.
+/// The chunks of a list, of which there is at least one. In contracts its value is the list of the
+/// chunks.
 #[derive(Drop)]
 pub struct NEChunks<'a, T> {
     pub(crate) inner: slice::Chunks<'a, T>,
@@ -362,10 +365,10 @@ impl<'a, T> IntoIterator for NEChunks<'a, T> {
     }
 }
 
-/// The chunks of a list that are left, one after the other. A contract sees it as the list of these
-/// chunks.
+/// An iterator over the chunks of a list. In contracts its value is the list of the chunks that are
+/// left.
 ///
-/// It stands in the place of std's `FilterMap`, which the Rust crate's `into_iter` gives.
+/// It replaces std's `FilterMap`, which the Rust crate's `into_iter` returns.
 #[derive(Drop)]
 pub struct ChunksIter<'a, T> {
     inner: slice::Chunks<'a, T>,

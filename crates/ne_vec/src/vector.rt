@@ -1,12 +1,13 @@
-//! [`NEVec`], a vector that is never empty, and the walks over it.
+//! [`NEVec`], a vector that is never empty, and its iterators.
 //!
-//! The calls stand in the Rust crate's order: here those that read and edit, in `order` those that
-//! search, sort and draw, in `dedup` those that drop neighbours, and in `walks` and `traits` what
-//! the types implement.
+//! The methods are in the Rust crate's order. This module has those that read and edit, `order`
+//! those that search, sort, shuffle and choose, and `dedup` those that drop repeated neighbours.
+//! `walks` has the non-empty iterators, and `traits` the other trait implementations.
 //!
-//! Where there is no memory the Rust crate's calls end the process. Here a call that takes memory
-//! answers `AllocError`, and says what then stands; constructors are handed the allocator, and a
-//! vector keeps its own. What else differs from the Rust crate, a call's comment says.
+//! If an allocation fails, the Rust crate's methods abort the process. Here a method that allocates
+//! returns `AllocError`, and its comment says what holds after that. Constructors take an
+//! allocator, and each vector keeps its own. The comment of each method says what else differs from
+//! the Rust crate.
 ghost use Rattle.std.specs.Prelude.{◌≡◌, ◌-◌, ◌<◌, ◌≤◌, ◌↔◌, Bool, false, [], ◌∷◌, ◌++◌, map};
 ghost use Rattle.std.specs.Prelude.{length, take, drop, reverse, replicate, Some, None, IsSome};
 ghost use Rattle.std.specs.Prelude.{IfSome, IfOk, OnOk, OnErr, IsErr, slice_get};
@@ -32,9 +33,9 @@ pub use walks::{IntoIter, Iter, IterMut};
 
 /// A vector that holds at least one item.
 ///
-/// It grows at its end like std's `Vec`, in whose place it stands, and what asks for a first or a
-/// last item is always answered. A contract sees it as the list of its items. A call that says
-/// nothing of memory takes none.
+/// It replaces std's `Vec` and grows at the end like it; a first and a last item always exist. In
+/// contracts its value is the list of its items. Methods that don't mention allocation don't
+/// allocate.
 ///
 /// ```
 /// let mut words = nev![alloc; "one"]?;
@@ -67,9 +68,9 @@ impl<T> NEVec<T> {
     ghost use Rattle.ne_vec.specs.Kept.{kept_items, ActsAsAtMut};
     ghost use Rattle.ne_vec.specs.Taken.{TakesUnlessLast};
 
-    /// The vector of one item, `head`.
+    /// Returns a vector of one item, `head`.
     ///
-    /// `AllocError` where there is no memory for it; `head` is then dropped.
+    /// Returns `AllocError` if the allocation fails; `head` is then dropped.
     pub fn new(alloc: Global, head: T) -> Result<Self, AllocError>
     where
         T: Drop,
@@ -80,10 +81,10 @@ impl<T> NEVec<T> {
         Ok(NEVec { inner })
     }
 
-    /// `n` times `elem`: the item itself, and clones of it.
+    /// Returns a vector of `n` items: `elem` itself, and clones of it.
     ///
-    /// `AllocError` where there is no memory for them, or where a clone was refused. That the items
-    /// are all the same asks that a clone equals its original.
+    /// Returns `AllocError` if the allocation fails, or if cloning `elem` fails. The items are all
+    /// the same if a clone equals its original.
     pub fn from_elem(alloc: Global, elem: T, n: NonZeroUsize) -> Result<Self, AllocError>
     where
         T: Clone + Drop,
@@ -96,10 +97,10 @@ impl<T> NEVec<T> {
         Ok(NEVec { inner })
     }
 
-    /// The vector of one item, `head`, with room for `capacity` items from the start.
+    /// Returns a vector of one item, `head`, with room for `capacity` items from the start.
     ///
-    /// `AllocError` where there is no memory for them; `head` is then dropped. How much room there
-    /// is in the end is not promised.
+    /// Returns `AllocError` if the allocation fails; `head` is then dropped. The capacity of the
+    /// result is not specified.
     pub fn with_capacity(alloc: Global, capacity: NonZeroUsize, head: T) -> Result<Self, AllocError>
     where
         T: Drop,
@@ -110,10 +111,11 @@ impl<T> NEVec<T> {
         Ok(NEVec { inner })
     }
 
-    /// `head`, and behind it the items of `tail`, whose memory and allocator the vector keeps.
+    /// Returns a vector of `head`, followed by the items of `tail`. It takes over the memory and
+    /// the allocator of `tail`.
     ///
-    /// `AllocError` where `tail` has to grow and there is no memory for it; all items are then
-    /// dropped. The Rust crate has `From<(T, Vec<T>)>` in its place.
+    /// Returns `AllocError` if `tail` has to grow and the allocation fails; all items are then
+    /// dropped. The Rust crate has `From<(T, Vec<T>)>` instead.
     pub fn from_parts(head: T, tail: Vec<T>) -> Result<Self, AllocError>
     where
         T: Drop,
@@ -124,14 +126,14 @@ impl<T> NEVec<T> {
         Ok(NEVec { inner })
     }
 
-    /// The first item.
+    /// Returns the first item.
     pub fn first(&self) -> &T
         ensures { slice_get self.now 0 ≡ Some result.now }
     {
         &self.inner[0]
     }
 
-    /// The first item, for writing. The others stay as they are.
+    /// Returns a mutable reference to the first item. The other items stay unchanged.
     pub fn first_mut(&mut self) -> &mut T
         ensures* writes_back { sem 𝓛 (LendsItem T.row self.entry 0 result) }
         ensures value { slice_get self.old 0 ≡ Some result.now }
@@ -139,10 +141,10 @@ impl<T> NEVec<T> {
         &mut self.inner[0]
     }
 
-    /// Adds `e` at the end.
+    /// Appends `e` to the end of the vector.
     ///
-    /// `AllocError` where the vector has to grow and there is no memory for it; the vector is then
-    /// as it was, and `e` is dropped.
+    /// Returns `AllocError` if the vector has to grow and the allocation fails; the vector is then
+    /// unchanged, and `e` is dropped.
     pub fn push(&mut self, e: T) -> Result<(), AllocError>
     where
         T: Drop,
@@ -153,7 +155,7 @@ impl<T> NEVec<T> {
         Ok(())
     }
 
-    /// Takes the last item out, or answers `None`, exactly where it is the only one: that one
+    /// Removes the last item and returns it, or returns `None` if it is the only one, which then
     /// stays.
     pub fn pop(&mut self) -> Option<T>
         ensures { TakesUnlessLast self.old self.new result (λ x. self.old ≡ self.new ++ x ∷ []) }
@@ -165,11 +167,11 @@ impl<T> NEVec<T> {
         }
     }
 
-    /// Takes the item at `index` out, and moves the later ones one place to the left, or answers
-    /// `None`, exactly where there is but one item, whatever `index` is: that one stays.
+    /// Removes the item at `index` and returns it, or returns `None` if there is only one item,
+    /// which then stays, whatever `index` is. The items after `index` move one place to the left.
     ///
-    /// Where there are more, the condition is that `index` is below the length; in the Rust crate
-    /// it panics otherwise.
+    /// If there is more than one item, `index` must be less than the length; the Rust crate panics
+    /// otherwise.
     pub fn remove(&mut self, index: usize) -> Option<T>
         requires { 1 < length self.old → index < length self.old }
         ensures { TakesUnlessLast self.old self.new result (λ x.
@@ -182,11 +184,11 @@ impl<T> NEVec<T> {
         }
     }
 
-    /// Takes the item at `index` out, and moves the last one into its place, or answers `None`,
-    /// exactly where there is but one item, whatever `index` is: that one stays.
+    /// Removes the item at `index` and returns it, or returns `None` if there is only one item,
+    /// which then stays, whatever `index` is. The last item moves to `index`.
     ///
-    /// Where there are more, the condition is that `index` is below the length; in the Rust crate
-    /// it panics otherwise.
+    /// If there is more than one item, `index` must be less than the length; the Rust crate panics
+    /// otherwise.
     pub fn swap_remove(&mut self, index: usize) -> Option<T>
         requires { 1 < length self.old → index < length self.old }
         ensures { TakesUnlessLast self.old self.new result (λ x.
@@ -199,12 +201,12 @@ impl<T> NEVec<T> {
         }
     }
 
-    /// Keeps the items that `f` accepts, in order, or hands the empty vector back, exactly where it
-    /// accepts none.
+    /// Keeps the items for which `f` returns `true`, in order, or returns the empty vector as an
+    /// error if there is no such item.
     ///
-    /// `f` is asked once for each item, in order, and may be called at any value of the items'
-    /// type. `kept` speaks of an `f` whose answer depends on the item alone, and `asked` of every
-    /// other one too.
+    /// `f` is called once for each item, in order. It must be callable with any value of the items'
+    /// type. The clause `kept` covers an `f` whose result depends on the item alone; `asked` covers
+    /// any `f`.
     pub fn retain<F: FnMut(&T) -> bool>(self, f: F) -> Result<Self, Vec<T>>
     where
         T: Drop,
@@ -219,12 +221,12 @@ impl<T> NEVec<T> {
         NEVec::try_from_kept(inner)
     }
 
-    /// Keeps the items that `f` accepts, in order and as `f` wrote them, or hands the empty vector
-    /// back, exactly where it accepts none.
+    /// Keeps the items for which `f` returns `true`, in order and with the changes that `f` made to
+    /// them, or returns the empty vector as an error if there is no such item.
     ///
-    /// `f` is asked once for each item, in order, and may be called at any value of the items'
-    /// type. `kept` speaks of an `f` whose answer, and what it writes, depend on the item alone,
-    /// and `asked` of every other one too.
+    /// `f` is called once for each item, in order. It must be callable with any value of the items'
+    /// type. The clause `kept` covers an `f` whose result and changes depend on the item alone;
+    /// `asked` covers any `f`.
     pub fn retain_mut<F: FnMut(&mut T) -> bool>(self, f: F) -> Result<Self, Vec<T>>
     where
         T: Drop,
@@ -239,7 +241,7 @@ impl<T> NEVec<T> {
         NEVec::try_from_kept(inner)
     }
 
-    // What `retain` left, in a non-empty vector, or as it is where it is empty.
+    // Returns what `retain` kept, as a non-empty vector, or as it is if it is empty.
     fn try_from_kept(inner: Vec<T>) -> Result<Self, Vec<T>>
         ensures none { IsErr result ↔ (kept_items result ≡ []) }
         ensures kept { kept_items result ≡ inner.items }
@@ -251,12 +253,11 @@ impl<T> NEVec<T> {
         }
     }
 
-    /// Puts `element` at the place `index`, and moves the items from there on one place to the
-    /// right.
+    /// Inserts `element` at `index`, and moves the items from there on one place to the right.
     ///
-    /// The condition is that `index` is at most the length; in the Rust crate it panics otherwise.
-    /// `AllocError` where the vector has to grow and there is no memory for it; the vector is then
-    /// as it was, and `element` is dropped.
+    /// `index` must be at most the length; the Rust crate panics otherwise. Returns `AllocError` if
+    /// the vector has to grow and the allocation fails; the vector is then unchanged, and `element`
+    /// is dropped.
     pub fn insert(&mut self, index: usize, element: T) -> Result<(), AllocError>
     where
         T: Drop,
@@ -268,16 +269,16 @@ impl<T> NEVec<T> {
         Ok(())
     }
 
-    /// How many items there are.
+    /// Returns the number of items.
     pub fn len(&self) -> NonZeroUsize
         ensures { non_zero_usize_get result ≡ length self.now }
     {
         NonZeroUsize::new(self.inner.len()).unwrap()
     }
 
-    /// `false`: there is an item.
+    /// Returns `false`, as there is always an item.
     ///
-    /// It is there for code that is written for `Vec` too. In the Rust crate it is deprecated.
+    /// It exists for code that is written for `Vec` too. In the Rust crate it is deprecated.
     pub fn is_empty(&self) -> bool
         ensures never { result ≡ false }
         ensures nonempty { 0 < length self.now }
@@ -286,24 +287,25 @@ impl<T> NEVec<T> {
         false
     }
 
-    /// How many items the vector can hold before it has to grow: at least as many as there are.
+    /// Returns how many items the vector can hold before it has to grow, which is at least the
+    /// length.
     ///
-    /// Where an item takes no memory std answers `usize::MAX`. The Rust crate trusts std for the
-    /// answer not to be 0; this is the greater of it and the length.
+    /// If the items have size 0, std returns `usize::MAX`. The Rust crate relies on std's capacity
+    /// not being 0; this returns the greater of std's capacity and the length.
     pub fn capacity(&self) -> NonZeroUsize
         ensures { length self.now ≤ non_zero_usize_get result }
     {
         NonZeroUsize::new(self.inner.capacity().max(self.inner.len())).unwrap()
     }
 
-    /// The last item, which is the first one where there is no other.
+    /// Returns the last item, which is also the first one if it is the only one.
     pub fn last(&self) -> &T
         ensures { slice_get self.now (length self.now - 1) ≡ Some result.now }
     {
         &self.inner[self.inner.len() - 1]
     }
 
-    /// The last item, for writing. The others stay as they are.
+    /// Returns a mutable reference to the last item. The other items stay unchanged.
     pub fn last_mut(&mut self) -> &mut T
         ensures* writes_back { sem 𝓛 (LendsItem T.row self.entry (length self.old - 1) result) }
         ensures value { slice_get self.old (length self.old - 1) ≡ Some result.now }
@@ -312,7 +314,7 @@ impl<T> NEVec<T> {
         &mut self.inner[last]
     }
 
-    /// Whether an item equals `x`.
+    /// Returns whether an item equals `x`.
     pub fn contains(&self, x: &T) -> bool
     where
         T: PartialEq,
@@ -321,7 +323,7 @@ impl<T> NEVec<T> {
         self.inner.contains(x)
     }
 
-    /// The item at the place `index`, or `None`, exactly where `index` is not below the length.
+    /// Returns the item at `index`, or `None` if `index` is not less than the length.
     pub fn get(&self, index: usize) -> Option<&T>
         ensures there { IsSome result ↔ (index < length self.now) }
         ensures nonempty { 0 < length self.now }
@@ -330,8 +332,8 @@ impl<T> NEVec<T> {
         self.inner.get(index)
     }
 
-    /// The item at the place `index`, for writing, or `None`, exactly where `index` is not below
-    /// the length. The others stay as they are.
+    /// Returns a mutable reference to the item at `index`, or `None` if `index` is not less than
+    /// the length. The other items stay unchanged.
     pub fn get_mut(&mut self, index: usize) -> Option<&mut T>
         ensures* writes_back { sem 𝓛 (LendsItemIf T.row self.entry index result) }
         ensures there { IsSome result ↔ (index < length self.old) }
@@ -341,10 +343,11 @@ impl<T> NEVec<T> {
         self.inner.get_mut(index)
     }
 
-    /// All items, for writing. They can be changed and exchanged, and stay as many as they are.
+    /// Returns all items as a mutable slice. They can be changed and swapped, but their number
+    /// stays the same.
     ///
-    /// It stands in the place of the Rust crate's `AsMut<Vec<T>>`, by which a caller could take the
-    /// last item out.
+    /// It replaces the Rust crate's `AsMut<Vec<T>>`, through which a caller could remove the last
+    /// item.
     pub fn as_mut_slice(&mut self) -> &mut [T]
         ensures* writes_back { sem 𝓛 (LendsItems T.row self.entry result) }
         ensures value { result.now ≡ self.old }
@@ -353,14 +356,14 @@ impl<T> NEVec<T> {
         self.inner.as_mut_slice()
     }
 
-    /// Std's walk over the items, in order.
+    /// Returns std's iterator over the items, in order.
     pub fn iter(&self) -> slice::Iter<'_, T>
         ensures { Walks self.now result }
     {
         self.inner.iter()
     }
 
-    /// Std's walk over the items, in order, for writing.
+    /// Returns std's mutable iterator over the items, in order.
     pub fn iter_mut(&mut self) -> slice::IterMut<'_, T>
         ensures* writes_back { sem 𝓛 (LendsWalk T.row self.entry result) }
         ensures rest { WalksMut self.old result }
@@ -368,7 +371,7 @@ impl<T> NEVec<T> {
         self.inner.iter_mut()
     }
 
-    /// The walk over the items, in order, that knows that there is one.
+    /// Returns a non-empty iterator over the items, in order.
     pub fn nonempty_iter(&self) -> Iter<'_, T>
         ensures items { result ≡ self.now }
         ensures shows { WalkShows result self.now }
@@ -378,7 +381,7 @@ impl<T> NEVec<T> {
         }
     }
 
-    /// The same, for writing.
+    /// Returns a non-empty mutable iterator over the items, in order.
     pub fn nonempty_iter_mut(&mut self) -> IterMut<'_, T>
         ensures* writes_back { sem 𝓛 (LendsWalk T.row self.entry (std_walk result)) }
         ensures rest { WalksMut self.old (std_walk result) }
@@ -388,14 +391,14 @@ impl<T> NEVec<T> {
         }
     }
 
-    /// Turns the order of the items round.
+    /// Reverses the items in place.
     pub fn reverse(&mut self)
         ensures { self.new ≡ reverse self.old }
     {
         self.inner.reverse();
     }
 
-    /// Keeps the first `len` items, or all where they are fewer, and drops the others.
+    /// Keeps the first `len` items and drops the others, or keeps all if there are fewer.
     pub fn truncate(&mut self, len: NonZeroUsize)
     where
         T: Drop,
@@ -404,10 +407,11 @@ impl<T> NEVec<T> {
         self.inner.truncate(len.get());
     }
 
-    /// Clones of the items of `slice`, in order, or `Ok(None)`, exactly where it is empty.
+    /// Returns a vector of clones of the items of `slice`, in order, or `Ok(None)` if `slice` is
+    /// empty.
     ///
-    /// `AllocError` where there is no memory for them, or where a clone was refused. That the items
-    /// are the same asks that a clone equals its original.
+    /// Returns `AllocError` if the allocation fails, or if cloning an item fails. The items are the
+    /// same if a clone equals its original.
     pub fn try_from_slice(alloc: Global, slice: &[T]) -> Result<Option<NEVec<T>>, AllocError>
     where
         T: Clone + Drop,
@@ -423,8 +427,8 @@ impl<T> NEVec<T> {
         Ok(Some(NEVec { inner }))
     }
 
-    /// The same items in the same place, or `None`, exactly where `vec` is empty. It takes no
-    /// memory.
+    /// Returns a vector of the items of `vec` in the same memory, or `None` if `vec` is empty. It
+    /// doesn't allocate.
     pub fn try_from_vec(vec: Vec<T>) -> Option<NEVec<T>>
         ensures empty { (result ≡ None) ↔ (vec.items ≡ []) }
         ensures same { IfSome result (λ v. v ≡ vec.items) }
@@ -437,10 +441,10 @@ impl<T> NEVec<T> {
         }
     }
 
-    /// Clones of the items, in order, in a vector of their own with the same allocator.
+    /// Returns a new vector of clones of the items, in order, with the same allocator.
     ///
-    /// `AllocError` where there is no memory for them, or where a clone was refused. That the items
-    /// are the same asks that a clone equals its original. The trait's call is this one.
+    /// Returns `AllocError` if the allocation fails, or if cloning an item fails. The items are the
+    /// same if a clone equals its original. `Clone` calls this method.
     pub fn clone(&self) -> Result<Self, AllocError>
     where
         T: Clone,
@@ -452,15 +456,15 @@ impl<T> NEVec<T> {
         Ok(NEVec { inner })
     }
 
-    /// The first item, and the others, of which there may be none.
+    /// Returns the first item, and a slice of the others, which may be empty.
     pub fn split_first(&self) -> (&T, &[T])
         ensures { self.now ≡ result.0.now ∷ result.1.now }
     {
         (&self.inner[0], &self.inner[1..])
     }
 
-    /// The first item, those in the middle, of which there may be none, and the last item. A single
-    /// item is both the first and the last.
+    /// Returns the first item, a slice of those in the middle, which may be empty, and the last
+    /// item. If there is only one item, it is both the first and the last.
     pub fn split(&self) -> (&T, &[T], &T)
         ensures first { slice_get self.now 0 ≡ Some result.0.now }
         ensures middle { result.1.now ≡ drop 1 (take (length self.now - 1) self.now) }
@@ -476,8 +480,8 @@ impl<T> NEVec<T> {
 
     /// Moves the items of `other` to the end, in order, and leaves `other` empty.
     ///
-    /// `AllocError` where the vector has to grow and there is no memory for it; both are then as
-    /// they were.
+    /// Returns `AllocError` if the vector has to grow and the allocation fails; both vectors are
+    /// then unchanged.
     pub fn append(&mut self, other: &mut Vec<T>) -> Result<(), AllocError>
         ensures added { OnOk result ((self.new ≡ self.old ++ other.old.items)
             × (other.new.items ≡ [])) }
@@ -487,11 +491,11 @@ impl<T> NEVec<T> {
         self.inner.append(other)
     }
 
-    /// Adds the items of `iter` at the end, in order.
+    /// Appends the items of `iter` to the end, in order.
     ///
-    /// The condition is that `iter` ends. `AllocError` where the vector has to grow and there is no
-    /// memory for it; the items that were drawn before that are then added, and one that found no
-    /// room is dropped. The trait's call is this one.
+    /// `iter` must end. Returns `AllocError` if the vector has to grow and the allocation fails;
+    /// the items taken from `iter` before that are then appended, and the item that had no room is
+    /// dropped. `Extend` calls this method.
     pub fn extend<I: IntoIterator<Item = T>>(&mut self, iter: I) -> Result<(), AllocError>
     where
         T: Drop,
@@ -503,7 +507,7 @@ impl<T> NEVec<T> {
         self.inner.extend(iter)
     }
 
-    /// All items, as a slice that has one.
+    /// Returns all items as a non-empty slice.
     pub fn as_nonempty_slice(&self) -> NESlice<'_, T>
         ensures { result ≡ self.now }
     {
@@ -512,8 +516,8 @@ impl<T> NEVec<T> {
         }
     }
 
-    /// The chunks of `chunk_size` items, in order, of which the last may be shorter. They are parts
-    /// of the vector: nothing is copied.
+    /// Returns the chunks of `chunk_size` items, in order; the last chunk may be shorter. They are
+    /// parts of the vector, so nothing is copied.
     pub fn nonempty_chunks(&self, chunk_size: NonZeroUsize) -> NEChunks<'_, T>
         ensures items { result ≡ chunks (non_zero_usize_get chunk_size) self.now }
         ensures lists { ChunksGive result (chunks (non_zero_usize_get chunk_size) self.now) }

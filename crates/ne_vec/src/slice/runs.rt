@@ -1,4 +1,4 @@
-//! The runs of a slice: consecutive parts of it, as a closure compares their items.
+//! The runs of a slice: consecutive parts of it, divided by a closure that compares items.
 ghost use Rattle.std.specs.Prelude.{◌≡◌, ◌<◌, ◌≤◌, Bool, length};
 ghost use Rattle.std.specs.Iterator.{item_count};
 ghost use Rattle.ne_vec.specs.Divisions.{by_first, by_previous};
@@ -7,9 +7,10 @@ ghost use Rattle.ne_vec.specs.SliceRuns.{ActsAsAtPair, CutsRun, IsFirstRun};
 use super::NESlice;
 use std::marker::Model;
 
-/// The runs of a slice, each item compared with its run's first one: see [`NESlice::runs_by`].
+/// The runs of a slice, where each item is compared with the first one of its run: see
+/// [`NESlice::runs_by`].
 ///
-/// A contract sees it as the items, at least one, and the closure.
+/// In contracts its value is the items, at least one, and the closure.
 #[derive(Drop)]
 pub struct SliceRuns<'a, T, F> {
     pub(super) items: &'a [T],
@@ -42,10 +43,11 @@ impl<'a, T, F: Fn(&T, &T) -> bool> IntoIterator for SliceRuns<'a, T, F> {
     }
 }
 
-/// The iterator of a [`SliceRuns`]: its runs, one after another, each an [`NESlice`].
+/// The iterator over a [`SliceRuns`]. It returns the runs one after another, each as an
+/// [`NESlice`].
 ///
-/// Each call of `next` compares the items of the run that it returns, and the one after it. A
-/// contract sees the items that are left, and the closure.
+/// Each call of `next` compares the items of the run that it returns, and the one after it. In
+/// contracts its value is the items that are left, and the closure.
 #[derive(Drop)]
 pub struct SliceRunsIter<'a, T, F> {
     items: &'a [T],
@@ -80,7 +82,7 @@ impl<'a, T, F: Fn(&T, &T) -> bool> Iterator for SliceRunsIter<'a, T, F> {
     }
 }
 
-// The length of the first run, each further item compared with the first one.
+// Returns the length of the first run, where each further item is compared with the first one.
 fn run_by_first<T, F: Fn(&T, &T) -> bool>(items: &[T], same: &F) -> usize
     requires not_empty { 0 < length items.now }
     requires callable { F.IsAlwaysCallable same.now }
@@ -100,9 +102,10 @@ fn run_by_first<T, F: Fn(&T, &T) -> bool>(items: &[T], same: &F) -> usize
     end
 }
 
-/// The runs of a slice, each item compared with the one before it: see [`NESlice::adjacent_runs`].
+/// The runs of a slice, where each item is compared with the one before it: see
+/// [`NESlice::adjacent_runs`].
 ///
-/// A contract sees it as the items, at least one, and the closure.
+/// In contracts its value is the items, at least one, and the closure.
 #[derive(Drop)]
 pub struct AdjacentRuns<'a, T, F> {
     pub(super) items: &'a [T],
@@ -135,10 +138,11 @@ impl<'a, T, F: Fn(&T, &T) -> bool> IntoIterator for AdjacentRuns<'a, T, F> {
     }
 }
 
-/// The iterator of an [`AdjacentRuns`]: its runs, one after another, each an [`NESlice`].
+/// The iterator over an [`AdjacentRuns`]. It returns the runs one after another, each as an
+/// [`NESlice`].
 ///
-/// Each call of `next` compares the items of the run that it returns, and the one after it. A
-/// contract sees the items that are left, and the closure.
+/// Each call of `next` compares the items of the run that it returns, and the one after it. In
+/// contracts its value is the items that are left, and the closure.
 #[derive(Drop)]
 pub struct AdjacentRunsIter<'a, T, F> {
     items: &'a [T],
@@ -173,7 +177,7 @@ impl<'a, T, F: Fn(&T, &T) -> bool> Iterator for AdjacentRunsIter<'a, T, F> {
     }
 }
 
-// The length of the first run, each further item compared with the one before it.
+// Returns the length of the first run, where each further item is compared with the one before it.
 fn run_by_previous<T, F: Fn(&T, &T) -> bool>(items: &[T], same: &F) -> usize
     requires not_empty { 0 < length items.now }
     requires callable { F.IsAlwaysCallable same.now }

@@ -1,4 +1,4 @@
-//! The calls of [`NEVec`] that drop items beside one that is the same.
+//! The methods of [`NEVec`] that drop repeated neighbours.
 ghost use Rattle.std.specs.Prelude.{◌<◌, Bool, length};
 ghost use Rattle.std.specs.List.Retain.{IsDeduped};
 ghost use Rattle.std.specs.Fn.{CalledAtPairMut, ComparesKeys};
@@ -8,12 +8,13 @@ use super::NEVec;
 impl<T: Drop> NEVec<T> {
     ghost use Rattle.ne_vec.specs.Kept.{ActsAsAtMut, ActsAsAtPairMut, KeepsFirsts};
 
-    /// Drops each item whose key equals that of the last item kept: of the runs of items whose keys
-    /// equal their first one's, the first items stay.
+    /// Drops each item whose key equals the key of the last item kept. So of each run of items
+    /// whose keys equal the key of the run's first item, the first item stays.
     ///
-    /// `key` is asked of the later item first, and may be called at any value of their type.
-    /// `firsts` speaks of a key that depends on the item alone and writes nothing, and `asked` of
-    /// every other one too. Of any key at least one item stays.
+    /// `key` is called with the later item first, then with the kept one. It must be callable with
+    /// any value of the items' type. The clause `firsts` covers a `key` whose result depends on the
+    /// item alone and that changes nothing; `asked` covers any `key`. At least one item stays,
+    /// whatever `key` does.
     pub fn dedup_by_key<K: PartialEq + Drop, F: FnMut(&mut T) -> K>(&mut self, key: F)
         requires { F.IsAlwaysCallable key }
         ensures stays { 0 < length self.new }
@@ -24,13 +25,13 @@ impl<T: Drop> NEVec<T> {
         self.inner.dedup_by_key(key);
     }
 
-    /// Drops each item of which `same_bucket(item, kept)` says `true`, where `kept` is the last
-    /// item that stayed: of the runs of items that are the same as their first one, the first items
-    /// stay.
+    /// Drops each item for which `same_bucket(item, kept)` returns `true`, where `kept` is the last
+    /// item kept. So of each run of items that are the same as the run's first item, the first item
+    /// stays.
     ///
-    /// `same_bucket` may be called at any two values of their type. `firsts` speaks of one whose
-    /// answer depends on them alone and that writes nothing, and `asked` of every other one too. Of
-    /// any one at least one item stays.
+    /// `same_bucket` must be callable with any two values of the items' type. The clause `firsts`
+    /// covers one whose result depends on the two items alone and that changes nothing; `asked`
+    /// covers any. At least one item stays, whatever `same_bucket` does.
     pub fn dedup_by<F: FnMut(&mut T, &mut T) -> bool>(&mut self, same_bucket: F)
         requires { F.IsAlwaysCallable same_bucket }
         ensures stays { 0 < length self.new }
@@ -41,8 +42,8 @@ impl<T: Drop> NEVec<T> {
         self.inner.dedup_by(same_bucket);
     }
 
-    /// Drops each item that equals the last item kept: of the runs of items that equal their first
-    /// one, the first items stay.
+    /// Drops each item that equals the last item kept. So of each run of items that equal the run's
+    /// first item, the first item stays.
     pub fn dedup(&mut self)
     where
         T: PartialEq,

@@ -1,4 +1,4 @@
-//! The calls of [`NEVec`] that search, sort and draw.
+//! The methods of [`NEVec`] that search, sort, shuffle and choose.
 ghost use Rattle.std.specs.Prelude.{◌≡◌, ◌≤◌, Bool, true, false, length, Some, IsSome, IfSome};
 ghost use Rattle.std.specs.Prelude.{IsOk, OnOk, OnErr, slice_get, IsPermutation, IsSorted};
 ghost use Rattle.std.specs.Prelude.{Contains};
@@ -19,11 +19,12 @@ use std::alloc::AllocError;
 use std::cmp::Ordering;
 
 impl<T> NEVec<T> {
-    /// Looks for an item that equals `x`: `Ok` of the place of one, any of them where there are
-    /// several, else `Err` of the place where `x` can be inserted so that the order stays.
+    /// Searches for an item that equals `x`. Returns `Ok` with its index, or `Err` with the index
+    /// at which `x` can be inserted so that the items stay sorted. If several items equal `x`, the
+    /// index is that of any of them.
     ///
-    /// That `Err` tells that place asks that the vector is sorted; unsorted, it is some place. An
-    /// `Ok` is right either way.
+    /// The index in `Err` has this meaning only if the vector is sorted; otherwise it is some index
+    /// up to the length. An `Ok` is right in either case.
     pub fn binary_search(&self, x: &T) -> Result<usize, usize>
     where
         T: Ord,
@@ -33,13 +34,13 @@ impl<T> NEVec<T> {
         self.inner.binary_search(x)
     }
 
-    /// Looks for an item at which `f` answers `Equal`: `Ok` of the place of one, any of them where
-    /// there are several, else `Err` of the place between the items at which it answers `Less` and
-    /// those at which it answers `Greater`.
+    /// Searches for an item for which `f` returns `Equal`. Returns `Ok` with its index, or `Err`
+    /// with the index between the items for which `f` returns `Less` and those for which it returns
+    /// `Greater`. If there are several such items, the index is that of any of them.
     ///
-    /// `f` may be called at the vector's items, in any order. What the places mean asks that its
-    /// answer depends on the item alone; `Err` also that the vector is sorted by it, first `Less`,
-    /// then `Equal`, then `Greater`.
+    /// `f` must be callable with the vector's items, in any order. The indices have this meaning if
+    /// what `f` returns depends on the item alone. For `Err` the vector must also be sorted by `f`:
+    /// first `Less`, then `Equal`, then `Greater`.
     pub fn binary_search_by<F: FnMut(&T) -> Ordering>(&self, f: F) -> Result<usize, usize>
         requires { CallableAtItems F.FnMut f self.now }
         ensures bound { IsSearchInRange result (length self.now) }
@@ -49,12 +50,12 @@ impl<T> NEVec<T> {
         search::binary_search_by(self.inner.as_slice(), f)
     }
 
-    /// Looks for an item whose key, by `f`, equals `b`: `Ok` of the place of one, any of them where
-    /// there are several, else `Err` of the place where such an item can be inserted so that the
-    /// order of the keys stays.
+    /// Searches for an item whose key, as `f` returns it, equals `b`. Returns `Ok` with its index,
+    /// or `Err` with the index at which such an item can be inserted so that the keys stay sorted.
+    /// If there are several such items, the index is that of any of them.
     ///
-    /// `f` may be called at the vector's items, in any order. What the places mean asks that the
-    /// key depends on the item alone; `Err` also that the vector is sorted by it.
+    /// `f` must be callable with the vector's items, in any order. The indices have this meaning if
+    /// the key depends on the item alone. For `Err` the vector must also be sorted by the key.
     pub fn binary_search_by_key<B: Ord + Drop, F: FnMut(&T) -> B>(
         &self,
         b: &B,
@@ -68,10 +69,10 @@ impl<T> NEVec<T> {
         search::binary_search_by_key(self.inner.as_slice(), b, f)
     }
 
-    /// Sorts the items, the least first. Equal ones keep their order.
+    /// Sorts the items in ascending order. Equal items keep their order.
     ///
-    /// `AllocError` where there is no memory for the work, which is asked for above 20 items only;
-    /// the vector is then as it was.
+    /// Returns `AllocError` if the allocation of working memory fails; the vector is then
+    /// unchanged. Up to 20 items need no such memory.
     pub fn sort(&mut self) -> Result<(), AllocError>
     where
         T: Ord,
@@ -84,10 +85,12 @@ impl<T> NEVec<T> {
         self.inner.sort()
     }
 
-    /// Sorts the items by `f`, the least first. Those that it calls equal keep their order.
+    /// Sorts the items in ascending order by `f`. Items for which `f` returns `Equal` keep their
+    /// order.
     ///
-    /// `f` may be called at any two values of the items' type. That the items are sorted asks that
-    /// its answers are a total preorder; else some permutation stands. `AllocError` as by `sort`.
+    /// `f` must be callable with any two values of the items' type. The items are sorted if the
+    /// results of `f` are a total preorder; otherwise they are in some order. Returns `AllocError`
+    /// as `sort` does.
     pub fn sort_by<F: FnMut(&T, &T) -> Ordering>(&mut self, f: F) -> Result<(), AllocError>
         requires { F.IsAlwaysCallable f }
         ensures permutation { IsPermutation self.old self.new }
@@ -99,11 +102,12 @@ impl<T> NEVec<T> {
         self.inner.sort_by(f)
     }
 
-    /// Sorts the items by their keys, by `f`, the least first. Those of equal keys keep their
-    /// order.
+    /// Sorts the items in ascending order of their keys, as `f` returns them. Items with equal keys
+    /// keep their order.
     ///
-    /// `f` may be called at any value of the items' type. That the items are sorted asks that the
-    /// key depends on the item alone; else some permutation stands. `AllocError` as by `sort`.
+    /// `f` must be callable with any value of the items' type. The items are sorted if the key
+    /// depends on the item alone; otherwise they are in some order. Returns `AllocError` as `sort`
+    /// does.
     pub fn sort_by_key<K: Ord + Drop, F: FnMut(&T) -> K>(&mut self, f: F) -> Result<(), AllocError>
         requires { F.IsAlwaysCallable f }
         ensures permutation { IsPermutation self.old self.new }
@@ -115,11 +119,11 @@ impl<T> NEVec<T> {
         self.inner.sort_by_key(f)
     }
 
-    /// How many items at the front meet `pred`.
+    /// Returns how many items at the front meet `pred`.
     ///
-    /// `pred` may be called at the vector's items, in any order. What the answer means asks that
-    /// `pred`'s answer depends on the item alone, and that no item which meets it stands behind one
-    /// that does not.
+    /// `pred` must be callable with the vector's items, in any order. The result has this meaning
+    /// if what `pred` returns depends on the item alone, and no item that meets `pred` comes after
+    /// one that doesn't. In any case it is at most the length.
     pub fn partition_point<P: FnMut(&T) -> bool>(&self, pred: P) -> usize
         requires { CallableAtItems P.FnMut pred self.now }
         ensures bound { result ≤ length self.now }
@@ -130,11 +134,10 @@ impl<T> NEVec<T> {
         search::partition_point(self.inner.as_slice(), pred)
     }
 
-    /// Puts the items in a random order: the permutation that `rand` draws for this list from this
-    /// source.
+    /// Shuffles the items: they become the permutation that `rand` draws for this list from `rng`.
     ///
-    /// In the Rust crate this is `SliceRandom::shuffle`. That each order is as likely as another is
-    /// not promised.
+    /// In the Rust crate this is `SliceRandom::shuffle`. It is not promised that all orders are
+    /// equally likely.
     pub fn shuffle<G: Rng>(&mut self, rng: &mut G)
         ensures permutation { IsPermutation self.old self.new }
         ensures drawn { (self.new, G.stream rng.new) ≡ shuffled self.old 0 (G.stream rng.old) }
@@ -142,10 +145,11 @@ impl<T> NEVec<T> {
         self.inner.shuffle(rng);
     }
 
-    /// A random item: the one that `rand` draws for this list from this source. It is never `None`.
+    /// Returns a random item: the one that `rand` draws for this list from `rng`. It never returns
+    /// `None`.
     ///
-    /// In the Rust crate this is `IndexedRandom::choose`, whose type it keeps. That each item is as
-    /// likely as another is not promised.
+    /// In the Rust crate this is `IndexedRandom::choose`, which has the same return type. It is not
+    /// promised that all items are equally likely.
     pub fn choose<G: Rng>(&self, rng: &mut G) -> Option<&T>
         ensures some { IsSome result }
         ensures member { IfSome result (λ x. Contains self.now x.now) }

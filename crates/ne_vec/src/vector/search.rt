@@ -1,8 +1,8 @@
 //! The searches of [`NEVec`](super::NEVec), over the slice of its items.
 //!
-//! They show the closure the items that std's searches show, in the same order, and answer the
-//! same. They are written out since std's ask a closure that may be called at any item; these ask
-//! one that may be called at the items of the slice.
+//! They call the closure with the same items as std's searches do, in the same order, and return
+//! the same results. They are written out here because std's searches need a closure that can be
+//! called with any value, while these need only one that can be called with the items of the slice.
 ghost use Rattle.std.specs.Prelude.{◌≡◌, ◌<◌, ◌≤◌, Bool, true, false, length};
 ghost use Rattle.std.specs.List.Sorted.{IsBinarySearchResult, IsSearchInRange};
 ghost use Rattle.std.specs.List.Sorted.{IsPartitionedBy, IsPartitionPoint};
@@ -12,7 +12,7 @@ ghost use Rattle.ne_vec.specs.Calls.{CallableAtItems};
 
 use std::cmp::Ordering;
 
-// As `NEVec::partition_point`.
+// See `NEVec::partition_point`.
 pub(super) fn partition_point<T, P: FnMut(&T) -> bool>(items: &[T], mut pred: P) -> usize
     requires some { 0 < length items.now }
     requires callable { CallableAtItems P.FnMut pred items.now }
@@ -34,7 +34,7 @@ pub(super) fn partition_point<T, P: FnMut(&T) -> bool>(items: &[T], mut pred: P)
     if pred(&items[base]) { base + 1 } else { base }
 }
 
-// As `NEVec::binary_search_by`.
+// See `NEVec::binary_search_by`.
 pub(super) fn binary_search_by<T, F: FnMut(&T) -> Ordering>(
     items: &[T],
     mut f: F,
@@ -62,7 +62,7 @@ pub(super) fn binary_search_by<T, F: FnMut(&T) -> Ordering>(
     }
 }
 
-// As `NEVec::binary_search_by_key`.
+// See `NEVec::binary_search_by_key`.
 pub(super) fn binary_search_by_key<T, B: Ord + Drop, F: FnMut(&T) -> B>(
     items: &[T],
     b: &B,

@@ -1,4 +1,4 @@
-//! What an [`NEVec`] implements: conversions, places, comparisons as a list, printing.
+//! The traits that [`NEVec`] implements: conversions, indexing, comparison as a list, and printing.
 ghost use Rattle.std.specs.Prelude.{◌≡◌, ◌-◌, ◌<◌, ◌≤◌, [], ◌++◌, length, Some, MatchResult};
 ghost use Rattle.std.specs.Prelude.{slice_get};
 ghost use Rattle.std.specs.Cmp.Lexicographic.{pointwise, slice_cmp, slice_partial_cmp, lists_equiv};
@@ -17,7 +17,7 @@ use std::fmt::Debug;
 use std::hash::{Hash, Hasher};
 use std::ops::{Index, IndexMut};
 
-/// The vector as it is, without the promise.
+/// Returns the inner `Vec`, which no longer guarantees an item.
 impl<T> From<NEVec<T>> for Vec<T> {
     ghost from_gives = { λ v w. w.items ≡ v };
 
@@ -26,7 +26,8 @@ impl<T> From<NEVec<T>> for Vec<T> {
     }
 }
 
-/// To read what only a `Vec` has. It cannot be written through; for that there is `as_mut_slice`.
+/// Returns the inner `Vec`, for the methods that only `Vec` has. It can't be changed through this
+/// reference; `as_mut_slice` gives mutable access to the items.
 impl<T> AsRef<Vec<T>> for NEVec<T> {
     fn as_ref(&self) -> &Vec<T>
         ensures same { result.now.items ≡ self.now }
@@ -36,7 +37,8 @@ impl<T> AsRef<Vec<T>> for NEVec<T> {
     }
 }
 
-/// To read it as a slice. It is not in the Rust crate, where `as_ref` comes before.
+/// Returns the items as a slice. The Rust crate doesn't implement this trait and uses `as_ref`
+/// first.
 impl<T> AsSlice<T> for NEVec<T> {
     ghost items = { λ v. v };
 
@@ -48,8 +50,8 @@ impl<T> AsSlice<T> for NEVec<T> {
     }
 }
 
-/// On the condition that the place is at most the last one, which 0 always is; in the Rust crate it
-/// panics otherwise, and ranges are taken too.
+/// Returns the item at `index`, which must be at most the last index; 0 always is. The Rust crate
+/// panics otherwise, and also takes ranges.
 impl<T> Index<usize> for NEVec<T> {
     type Output = T;
 
@@ -65,7 +67,8 @@ impl<T> Index<usize> for NEVec<T> {
     }
 }
 
-/// On the same condition. The other places stay as they are.
+/// Returns a mutable reference to the item at `index`, which must be at most the last index; 0
+/// always is. The other items stay unchanged.
 impl<T> IndexMut<usize> for NEVec<T> {
     ghost use Rattle.std.specs.Borrow.{sem};
     ghost use Rattle.ne_vec.specs.Lends.{LendsItem};
@@ -79,8 +82,8 @@ impl<T> IndexMut<usize> for NEVec<T> {
     }
 }
 
-/// By the inherent call `clone`. It may be refused, as the clone of a `Vec` may be, whatever the
-/// items are.
+/// Calls the inherent method `clone`. It may fail, like the clone of a `Vec`, whatever the type of
+/// the items is.
 impl<T: Clone> Clone for NEVec<T> {
     ghost use Rattle.ne_vec.specs.Clones.{IsCloneOfList};
 
@@ -91,7 +94,7 @@ impl<T: Clone> Clone for NEVec<T> {
     }
 }
 
-/// By the inherent call `extend`.
+/// Calls the inherent method `extend`.
 impl<T: Drop> Extend<T> for NEVec<T> {
     ghost extend_gives = { λ v xs w. w ≡ v ++ xs };
 
@@ -148,15 +151,15 @@ impl<T: Ord> Ord for NEVec<T> {
     }
 }
 
-/// Prints as std prints a list: `[1, 2, 3]`.
+/// Prints the vector as std prints a list: `[1, 2, 3]`.
 impl<T: Debug> Debug for NEVec<T> {
     fn fmt<W: fmt::Write>(&self, f: &mut fmt::Formatter<W>) -> fmt::Result {
         self.inner.fmt(f)
     }
 }
 
-/// The vector as `try_from_vec` has it, or `Error::Empty`, exactly where `vec` is empty. It takes
-/// no memory.
+/// Returns the vector that `try_from_vec` returns, or `Error::Empty` if `vec` is empty. It doesn't
+/// allocate.
 impl<T> TryFrom<Vec<T>> for NEVec<T> {
     ghost use Rattle.std.specs.Prelude.{Result};
     ghost use Rattle.ne_vec.specs.declared.Error.{Error};

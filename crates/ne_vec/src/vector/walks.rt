@@ -1,5 +1,5 @@
-//! The walks over an [`NEVec`], which know that there is an item, and how a vector and they become
-//! std's.
+//! The non-empty iterators over an [`NEVec`], and the conversions of them and of a vector into
+//! std's iterators.
 
 ghost use Rattle.std.specs.Prelude.{◌≡◌, ◌<◌, length, ⊤};
 ghost use Rattle.std.specs.Slice.Iter.{iter_mut_rest};
@@ -9,7 +9,8 @@ use std::alloc::AllocError;
 use std::marker::Model;
 use std::{slice, vec};
 
-/// A walk over the items of an [`NEVec`], at least one. A contract sees it as their list.
+/// An iterator over the items of an [`NEVec`], of which there is at least one. In contracts its
+/// value is the list of them.
 #[derive(Drop)]
 pub struct Iter<'a, T> {
     pub(super) inner: &'a [T],
@@ -49,8 +50,8 @@ impl<'a, T> Clone for Iter<'a, T> {
     }
 }
 
-/// A walk over the items of an [`NEVec`], at least one, for writing. A contract sees std's walk in
-/// it, by `std_walk`.
+/// A mutable iterator over the items of an [`NEVec`], of which there is at least one. In contracts
+/// `std_walk` is the std iterator that it holds.
 #[derive(Drop)]
 pub struct IterMut<'a, T> {
     pub(super) inner: slice::IterMut<'a, T>,
@@ -71,7 +72,7 @@ impl<'a, T> IntoIterator for IterMut<'a, T> {
     }
 }
 
-/// The items of an [`NEVec`], at least one, by value. A contract sees it as their list.
+/// The items of an [`NEVec`], at least one, by value. In contracts its value is the list of them.
 #[derive(Drop)]
 pub struct IntoIter<T> {
     inner: NEVec<T>,
