@@ -1,4 +1,4 @@
--- The chunks of a list: the first one, and those of what is left.
+-- The chunks of a list: the first one, and those of the items after it.
 use Rattle.std.proofs.Common.{◌≡◌, ℕ, zero, suc, ◌+◌, ◌-◌, ◌*◌, ◌/◌, ◌<◌, ◌≤◌, List, [], ◌∷◌, ◌++◌}
 use Rattle.std.proofs.Common.{map, length, take, drop, min, refl, sym, ap, ◌∙◌, arith, inl, inr}
 use Rattle.std.proofs.Common.{add-one, zero-mul}
@@ -29,7 +29,7 @@ pub chunks_counted : {X : Type 0} (n : ℕ) (xs : List X)
     → length (chunks n xs) ≡ chunk_count (length xs) n
 chunks_counted n xs = length-map-range_with_len (chunk n xs) 0 (chunk_count (length xs) n)
 
--- there is a chunk j where there is an item at j * n
+-- there is a chunk j exactly if there is an item at j * n
 pub chunk_there : {X : Type 0} (n : ℕ) (xs : List X) (j : ℕ) → 0 < n
     → ((j < length (chunks n xs)) ↔ (j * n < length xs))
 chunk_there n xs j p =
@@ -61,7 +61,7 @@ chunk_is n xs j h =
 none_of_none : (n : ℕ) → 0 < n → chunk_count 0 n ≡ 0
 none_of_none n p = parts_up 0 n p ∙ div-eq_of_lt (Prim.omega (arith, p))
 
--- of at least one item, one more than of those behind the first n
+-- if there is an item, there is one chunk more than of the items after the first n
 one_more : (n m : ℕ) → 0 < n → 0 < m → chunk_count m n ≡ suc (chunk_count (m - n) n)
 one_more n m p q =
     let split : m + n - 1 ≡ (m - 1) + n = Prim.omega (arith, p, q) in
@@ -106,7 +106,7 @@ whole : {X : Type 0} (n : ℕ) (xs : List X) → length xs ≤ n → take n xs �
 whole n xs h = sym (append-nil (take n xs)) ∙ ap (λ ys. take n xs ++ ys)
     (sym (drop_of_length-le xs h)) ∙ take-append-drop n xs
 
--- what std's iterator cuts off is the first one, and it has the others left
+-- what std's iterator cuts off is the first chunk, and it has the others left
 pub first_chunk : {X : Type 0} (n m : ℕ) (xs part left : List X) → 0 < n → m ≡ n → 0 < length xs
     → xs ≡ part ++ left → length part ≡ min n (length xs) → chunks n xs ≡ part ∷ chunks m left
 first_chunk n m xs part left p same q e l =

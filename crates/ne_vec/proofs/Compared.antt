@@ -1,4 +1,4 @@
--- The order of lists, which the first place decides at which they differ.
+-- The order of lists: the first place at which they differ decides.
 use Rattle.std.proofs.Common.{◌≡◌, ◌≢◌, ◌↔◌, List, [], ◌∷◌, ◌++◌, refl, ap, ◌∙◌}
 use Rattle.std.specs.Prelude.{Option, Some, None}
 use Rattle.std.specs.Cmp.{IsTotalOrder}
@@ -24,7 +24,7 @@ partly_decided (Some Less) p n = refl
 partly_decided (Some Equal) p n = absurd (n refl)
 partly_decided (Some Greater) p n = refl
 
--- two answers make `Equal` just if both are
+-- two results combine to `Equal` only if both are `Equal`
 both_equal : (o p : Ordering) → ordering_then o p ≡ Equal → (o ≡ Equal) × (p ≡ Equal)
 both_equal Less p e = absurd cc
 both_equal Equal p e = (refl, e)
@@ -37,7 +37,7 @@ both_some_equal (Some Less) p e = absurd cc
 both_some_equal (Some Equal) p e = (refl, e)
 both_some_equal (Some Greater) p e = absurd cc
 
--- Lists that tie at each place in front are passed over.
+-- Lists compare by what follows items that tie at each place.
 module _ {A : Type 0} (cmp : A → A → Ordering) where
   abbrev pub Tie : List A → List A → Type 0
   Tie v w = AllZip (λ a b. cmp a b ≡ Equal) v w
@@ -91,7 +91,7 @@ module _ {A : Type 0} (cmp : A → A → Ordering) where
   pub ties_equal : (v w : List A) → (slice_cmp cmp v w ≡ Equal) ↔ Tie v w
   ties_equal v w = (ties_from v w, ties_to v w)
 
--- And where two items may have no order.
+-- The same, if two items may have no order.
 module _ {A : Type 0} (cmp : A → A → Option Ordering) where
   abbrev pub PartlyTie : List A → List A → Type 0
   PartlyTie v w = AllZip (λ a b. cmp a b ≡ Some Equal) v w

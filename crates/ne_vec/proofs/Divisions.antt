@@ -1,11 +1,11 @@
--- The division of a list as a function, which is the only one, and what more items do to it.
+-- The division of a list as a function, that there is no other, and what further items change.
 use Rattle.std.proofs.Common.{◌≡◌, ◌≢◌, Bool, true, false, cond, List, [], ◌∷◌, ◌++◌, refl, sym, ap}
 use Rattle.std.proofs.Common.{subst, ◌∙◌, ◌⊎◌, inl, inr, append_assoc, append-nil}
 use Rattle.std.specs.List.{AllByRecursion}
 use Rattle.ne_vec.specs.Divisions.{joined, Neighbours, IsRun, Breaks, IsDivision, runs_from}
 use Rattle.ne_vec.proofs.Lists.{nil_is_no_append, head_is, tail_is}
 
--- where the last item of a list lies in a split of it
+-- where the last item of a list is in a split of it
 split_last : {A : Type 0} (r front : List A) (x y : A) (back : List A)
     → r ++ x ∷ [] ≡ front ++ y ∷ back → ((front ≡ r) × (y ≡ x))
     ⊎ ((inner : List A) × (r ≡ front ++ y ∷ inner))
@@ -108,7 +108,7 @@ module _ {A : Type 0} (goes_on : List A → A → Bool) where
     breaks = breaks_cut (x ∷ []) xs;
   }
 
-  -- ---- and the only one
+  -- ---- and there is no other
 
   cut_only : (xs r s t : List A) (rs : List (List A)) → t ≡ r ++ s → r ≢ [] → s ++ joined rs ≡ xs
       → IsRun goes_on t → AllByRecursion (IsRun goes_on) rs → Neighbours (Breaks goes_on) (t ∷ rs)
@@ -193,7 +193,7 @@ module _ {A : Type 0} (goes_on : List A → A → Bool) where
         (sym (divide_only xs (rs ++ last ∷ []) h)),
   )
 
-  -- one more item goes on the last run, or begins a run
+  -- one more item continues the last run, or begins a new one
   pub division_goes_on : (xs : List A) (x : A) (rs : List (List A)) (last : List A)
       → IsDivision goes_on xs (rs ++ last ∷ []) → goes_on last x ≡ true
       → IsDivision goes_on (xs ++ x ∷ []) (rs ++ (last ++ x ∷ []) ∷ [])

@@ -35,14 +35,14 @@ use Rattle.ne_vec.specs.Divisions.{Neighbours, IsRun, Breaks, IsDivision, by_fir
 use Rattle.ne_vec.specs.SliceRuns.{Cutting, ActsAsAtPair, CutsRun, IsFirstRun}
 use Rattle.ne_vec.proofs.Divisions.{run_one, run_more}
 
--- the item at place n ends the first n + 1 items
+-- the item at place n is the last of the first n + 1 items
 take_one_more : {A : Type 0} (xs : List A) (n : ℕ) (x : A)
     → slice_get xs n ≡ Some x → take (suc n) xs ≡ take n xs ++ x ∷ []
 take_one_more [] n x e = let e = e in cc
 take_one_more (y ∷ xs) zero x e = let e = e in cc
 take_one_more (y ∷ xs) (suc n) x e = ap (λ l. y ∷ l) (take_one_more xs n x e)
 
--- and begins the others
+-- the item at place n is the first of those that remain
 drop_at : {A : Type 0} (xs : List A) (n : ℕ) (x : A)
     → slice_get xs n ≡ Some x → (rest : List A) × (drop n xs ≡ x ∷ rest)
 drop_at [] n x e = let e = e in cc
@@ -59,7 +59,7 @@ module _ {A : Type 0} (goes_on : List A → A → Bool) where
   run_of_one [] some = absurd (omega (arith, some))
   run_of_one (x ∷ xs) some = run_one goes_on x
 
-  -- the item at place n goes on the run of those before it
+  -- if the item at place n continues the run of the items before it, the run is longer by one
   pub longer_run : (xs : List A) (n : ℕ) (x : A) → slice_get xs n ≡ Some x
       → IsRun goes_on (take n xs) → goes_on (take n xs) x ≡ true → IsRun goes_on (take (n + 1) xs)
   longer_run xs n x e run on =
@@ -68,19 +68,19 @@ module _ {A : Type 0} (goes_on : List A → A → Bool) where
       (subst (IsRun goes_on) (sym (take_one_more xs n x e))
       (run_more goes_on (take n xs) x run on))
 
-  -- it does not
+  -- if it doesn't, the run ends there
   pub run_breaks : (xs : List A) (n : ℕ) (x : A) → slice_get xs n ≡ Some x
       → IsRun goes_on (take n xs) → goes_on (take n xs) x ≡ false → IsFirstRun goes_on xs n
   run_breaks xs n x e run off =
       let rest = drop_at xs n x e in
       (run, subst (Breaks goes_on (take n xs)) (sym rest.1) off)
 
-  -- there is none
+  -- if there is no item at place n, the run is the whole list
   pub run_is_all : (xs : List A) (n : ℕ)
       → length xs ≤ n → IsRun goes_on (take n xs) → IsFirstRun goes_on xs n
   run_is_all xs n e run = (run, subst (Breaks goes_on (take n xs)) (sym (drop_all n xs e)) tt)
 
--- Whether an item goes on the first n items is asked of the first of them, or of the last.
+-- Whether an item continues the first n items depends on the first of them, or on the last.
 module _ {A : Type 0} (same : A → A → Bool) where
   pub by_first-take : (xs : List A) (n : ℕ) (first x : A)
       → 0 < n → slice_get xs 0 ≡ Some first → by_first same (take n xs) x ≡ same first x
@@ -120,7 +120,7 @@ module _ {A : Type 0} (goes_on : List A → A → Bool) where
     breaks = breaks_before run rest all breaks d;
   }
 
--- the runs that came, and the division of what is left then
+-- the runs that came, followed by the division of the items left
 pub runs_before : {A F : Type 0} (calls : Shared F (Bor A × (Bor A × Unit {0})) Bool)
     (place : (A → A → Bool) → List A → A → Bool) (same : A → A → Bool)
     (s t : Cutting A F) (rs all : List (List A))

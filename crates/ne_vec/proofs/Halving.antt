@@ -1,4 +1,4 @@
--- What a search by halving knows, and what it asks of its closure.
+-- What a binary search knows after each step, and what it requires of its closure.
 use Rattle.std.proofs.Common.{◌≡◌, ◌⊎◌, inl, inr, ℕ, zero, suc, ◌+◌, ◌<◌, ◌≤◌, Bool, true}
 use Rattle.std.proofs.Common.{false}
 use Rattle.std.proofs.Common.{List, [], ◌∷◌, length, refl, sym, ap, subst, arith}
@@ -18,7 +18,7 @@ all_cons P x xs first rest zero d h = first
 all_cons P x xs first rest (suc k) d h = rest k d (omega arith)
 
 module _ {F A R : Type 0} (calls : Mut F (Bor A × Unit {0}) R) (xs : List A) where
-  -- it stays so when it was called at an item
+  -- the closure may still be called after a call with an item
   pub items_next : (f : F) (i : ℕ) (x : A) (r : R) (g : F) → i < length xs
       → x ≡ slice_index_or xs i x → CalledAt calls f x r g
       → CallableAtItems calls f xs → CallableAtItems calls g xs
@@ -26,7 +26,7 @@ module _ {F A R : Type 0} (calls : Mut F (Bor A × Unit {0}) R) (xs : List A) wh
       callable (x ∷ shown) h (all_cons (Contains xs) x shown (i, inside, sym read) among)
       (g, (r, called), folds)
 
-  -- it may be called at the item at a place
+  -- it may be called with the item at a place
   pub items_take : (f : F) (i : ℕ) (x : Bor A) → i < length xs
       → x.now ≡ slice_index_or xs i x.now → CallableAtItems calls f xs → calls.pre f (x, tt)
   items_take f i x inside read callable =
@@ -40,7 +40,7 @@ module _ {F A R : Type 0} (calls : Mut F (Bor A × Unit {0}) R) (xs : List A) wh
       stays_callable shown j g later
       (mut_next calls f (called.shown, tt) r j j called.called refl always)
 
-  -- it may be where it may be called at any item
+  -- it may be called with the items if it may be called with any value
   pub items_always : (f : F) → always_mut calls f → CallableAtItems calls f xs
   items_always f always shown g among folds k d inside y read =
       ((stays_callable shown f g folds always).at ((y, tt) ∷ [])).0
@@ -62,7 +62,7 @@ is_false false h = refl
 -- ---- by a test
 
 module _ {A : Type 0} (meets : A → Bool) (xs : List A) where
-  -- The answer is not before base, nor behind base + size.
+  -- The result is not before base, and not after base + size.
   pub record Halved (base size : ℕ) : Type 0 where
     pub low : (base ≡ 0) ⊎ HoldsAt (λ y. meets y ≡ true) xs base
     pub high : IsPartitionedBy meets xs
@@ -120,7 +120,7 @@ greater Equal h = absurd cc
 greater Greater h = refl
 
 module _ {A : Type 0} (order : A → Ordering) (xs : List A) where
-  -- the items of rising order
+  -- the items are in ascending order
   abbrev Rises : Type 0
   Rises = IsNonDecreasingBy (λ y. ordering_index (order y)) xs
 

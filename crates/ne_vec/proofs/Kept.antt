@@ -58,7 +58,7 @@ module _ {A : Type 0} (same : A → A → Bool) where
         | false ↦ ap (λ l. k ∷ l) (firsts_from xs x [])
       ]
 
-  -- what `dedup` leaves are the first items of the runs
+  -- what `dedup` keeps are the first items of the runs
   pub keeps_firsts : (xs ys : List A) → ys ≡ dedup same xs → KeepsFirsts same xs ys
   keeps_firsts [] ys e = ([], divides goes_on [], e)
   keeps_firsts (x ∷ xs) ys e = (
@@ -77,7 +77,7 @@ module _ {A : Type 0} (same : A → A → Bool) where
   some_kept [] ys e some = absurd (Prim.omega (arith, some))
   some_kept (x ∷ xs) ys e some = rw e (kept_from xs x)
 
--- a comparison by keys, where the key is a function of the item
+-- a comparison by keys, if the key is a function of the item
 pub compares : {F X K : Type 0} (g : Mut F (MutBor X × Unit {0}) (K × (MutBor X × Unit {0})))
     (eq : K → K → Bool) (read : X → K) (f : F) → ActsAsAtMut g f read (λ x. x)
     → (x y : X) (b : Bool) (f' : F) (x' y' : X) → ComparesKeys g eq f x y b f' x' y'

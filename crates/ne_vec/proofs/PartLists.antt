@@ -29,7 +29,7 @@ module _ {A F : Type 0} (calls : Shared F (Bor A × (Bor A × Unit {0})) Bool)
   is_divide same [] = refl
   is_divide same (x ∷ xs) = refl
 
-  -- the runs that came are the first, and those of what is left are the others
+  -- the runs that came are the first, and those of the items left are the others
   runs_came : (same : A → A → Bool) (s t : Cutting A F) (rs : List (List A))
       → ActsAsAtPair calls s.closure same → Yields (CutsRun calls place) s rs t
       → runs_of place same s.left ≡ rs ++ runs_of place same t.left

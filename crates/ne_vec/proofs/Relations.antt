@@ -1,4 +1,4 @@
--- Divisions under relations that say the same.
+-- Divisions under relations that agree.
 use Rattle.std.proofs.Common.{◌≡◌, Bool, true, false, cond, List, [], ◌∷◌, ◌++◌, refl, sym, ap}
 use Rattle.std.proofs.Common.{subst, ◌∙◌, ◌⊎◌, inl, inr}
 use Rattle.std.specs.Cmp.{IsPartialEquivalence, per_alike}

@@ -1,4 +1,4 @@
--- What follows of the list that a source gives, run by run.
+-- What follows for each run of an iterator from the list that its source gives.
 use Rattle.std.proofs.Common.{arith, subst, sym, ap, ◌∙◌, map-id}
 use Rattle.std.proofs.iter.runs.Lists.{nth_left}
 use Rattle.std.proofs.iter.runs.Made.{at-is, took}
@@ -9,7 +9,7 @@ use Rattle.std.specs.Iterator.Runs.{Run}
 use Rattle.ne_vec.specs.Fronts.{Lists, Shows, GivesItems, GivesShown}
 use Rattle.ne_vec.specs.FrontLaws.{marked, view_marked}
 
--- what the calls of a run gave
+-- what the calls of a run returned
 pub run_drains : {S A : Type 0} (steps : S → Option A → S → Type 0) (p : Run steps) (it : S)
     → p.from ≡ it → DrainsIf steps (p.whole ≡ true) it p.items
 run_drains steps p it from = subst (λ s. DrainsIf steps (p.whole ≡ true) s p.items) from (took p)

@@ -1,10 +1,10 @@
--- What is asked of a closure that is called at the items of a list, in any order.
+-- What is required of a closure that is called with the items of a list, in any order.
 use Rattle.std.specs.Prelude.{List, All, Contains}
 use Rattle.std.specs.Borrow.{Bor}
 use Rattle.std.specs.Fn.{Mut, CalledAt, TakesAt}
 use Rattle.std.specs.List.{FoldsTo}
 
--- f, after any calls at items of xs, may be called at each item of xs
+-- f may be called with each item of xs, also after any calls with items of xs
 abbrev pub CallableAtItems : {F A R : Type 0} → Mut F (Bor A × Unit {0}) R → F → List A → Type 0
 CallableAtItems {F} {A} {R} calls f xs =
     (shown : List A) (g : F) → All (Contains xs) shown

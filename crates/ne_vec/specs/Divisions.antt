@@ -2,36 +2,36 @@
 use Rattle.std.specs.Prelude.{◌≡◌, ◌≢◌, ⊤, Bool, true, false, cond, List, [], ◌∷◌, ◌++◌}
 use Rattle.std.specs.List.{AllByRecursion}
 
--- the lists, one after another
+-- the lists joined, one after another
 abbrev pub joined : {A : Type 0} → List (List A) → List A
 joined [] = []
 joined (r ∷ rs) = r ++ joined rs
 
--- R holds of each list and the one after it
+-- R holds of each list and the next one
 abbrev pub Neighbours : {A : Type 0} → (A → A → Type 0) → List A → Type 0
 Neighbours R [] = ⊤
 Neighbours R (r ∷ []) = ⊤
 Neighbours R (r ∷ s ∷ rs) = R r s × Neighbours R (s ∷ rs)
 
--- whether x goes on a run, by the run's first item
+-- whether x continues a run, compared with the run's first item
 abbrev pub by_first : {A : Type 0} → (A → A → Bool) → List A → A → Bool
 by_first same [] x = true
 by_first same (first ∷ later) x = same first x
 
--- and by its last item, which is the one before x
+-- whether x continues a run, compared with the run's last item, which is the one before x
 abbrev pub by_previous : {A : Type 0} → (A → A → Bool) → List A → A → Bool
 by_previous same [] x = true
 by_previous same (last ∷ []) x = same last x
 by_previous same (first ∷ second ∷ later) x = by_previous same (second ∷ later) x
 
 module _ {A : Type 0} (goes_on : List A → A → Bool) where
-  -- r has an item, and each later item goes on the part of r before it
+  -- r is not empty, and each later item continues the part of r before it
   pub record IsRun (r : List A) : Type 0 where
     pub some : r ≢ []
     pub inside : (front : List A) (x : A) (back : List A) → front ≢ [] → r ≡ front ++ x ∷ back
         → goes_on front x ≡ true
 
-  -- the first item of s doesn't go on r
+  -- the first item of s, if there is one, doesn't continue r
   abbrev pub Breaks : List A → List A → Type 0
   Breaks r [] = ⊤
   Breaks r (x ∷ back) = goes_on r x ≡ false
@@ -42,21 +42,21 @@ module _ {A : Type 0} (goes_on : List A → A → Bool) where
     pub runs : AllByRecursion IsRun rs
     pub breaks : Neighbours Breaks rs
 
--- the first items of the lists
+-- the first items of the lists that have one
 abbrev pub firsts : {A : Type 0} → List (List A) → List A
 firsts [] = []
 firsts ([] ∷ rs) = firsts rs
 firsts ((x ∷ r) ∷ rs) = x ∷ firsts rs
 
 module _ {A : Type 0} (goes_on : List A → A → Bool) where
-  -- the runs of r ++ xs, where r is a front of the first
+  -- the runs of r ++ xs, if r is the beginning of the first run
   abbrev pub runs_from : List A → List A → List (List A)
   runs_from r [] = r ∷ []
   runs_from r (x ∷ xs) =
       cond (goes_on r x) (runs_from (r ++ x ∷ []) xs) (r ∷ runs_from (x ∷ []) xs)
 
 module _ {A : Type 0} (place : (A → A → Bool) → List A → A → Bool) (same : A → A → Bool) where
-  -- The runs of xs, as the test `same` divides it: its one division. `place` is `by_first` or
+  -- The runs of xs by the test `same`: the one division of xs. `place` is `by_first` or
   -- `by_previous`.
   abbrev pub runs_of : List A → List (List A)
   runs_of [] = []

@@ -10,11 +10,11 @@ use Rattle.std.specs.declared.slice.Iter.{Iter}
 use Rattle.std.specs.declared.vec.IntoIter.{IntoIter}
 use Rattle.ne_vec.specs.Fronts.{mark, view_mark}
 
--- an iterator each of whose calls takes the first item of the list that it has left
+-- an iterator that takes the first item of the list it has left at each call
 module _ {S A B : Type 0} (steps : S → Option A → S → Type 0) (view : A → B) (rest : S → List B)
     (took : (s t : S) (x : A) → steps s (Some x) t → rest s ≡ view x ∷ rest t)
     (ended : (s t : S) → steps s None t → rest s ≡ []) where
-  -- the items that came are a front of that list, and all of it where the end came
+  -- the items that came are the first of that list, and all of it if the end was reached
   pub viewed_front : {W : Type 0} (s : S) (ys : List A) → DrainsIf steps W s ys
       → (more : List B) × (rest s ≡ map view ys ++ more) × (W → more ≡ [])
   viewed_front s [] (t, e, fin) = (rest s, refl, λ w. ap rest e ∙ ended t (fin w).0 (fin w).1)
@@ -22,7 +22,7 @@ module _ {S A B : Type 0} (steps : S → Option A → S → Type 0) (view : A �
       let m = viewed_front j ys (t, run, fin) in
       (m.0, took s j y st ∙ ap (λ l. view y ∷ l) m.1, m.2)
 
--- the same, where the items are those of the list
+-- the same, if the items are those of the list, without a view
 pub front : {S A W : Type 0} (steps : S → Option A → S → Type 0) (rest : S → List A)
     → ((s t : S) (x : A) → steps s (Some x) t → rest s ≡ x ∷ rest t)
     → ((s t : S) → steps s None t → rest s ≡ []) → (s : S) (ys : List A) → DrainsIf steps W s ys
@@ -31,19 +31,19 @@ front steps rest took ended s ys run =
     let m = viewed_front steps (λ x. x) rest took ended s ys run in
     (m.0, subst (λ l. rest s ≡ l ++ m.0) (map-id ys) m.1, m.2)
 
--- the walks of slices
+-- for the iterators of slices
 pub shown_front : {T W : Type 0} (s : Iter T) (ys : List (Bor T)) → DrainsIf iter_steps W s ys
     → (more : List T) × (iter_rest s ≡ map (λ y. y.now) ys ++ more) × (W → more ≡ [])
 shown_front s ys run = viewed_front iter_steps (λ y. y.now) iter_rest (λ s t x st. st)
     (λ s t st. nil_from_length (iter_rest s) st.0) s ys run
 
--- what shows its list by `YieldsFirst`
+-- for an iterator whose calls are `YieldsFirst`
 pub first_front : {S T W : Type 0} (rest : S → List T) (s : S) (ys : List T)
     → DrainsIf (YieldsFirst rest) W s ys
     → (more : List T) × (rest s ≡ ys ++ more) × (W → more ≡ [])
 first_front rest s ys run = front (YieldsFirst rest) rest (λ s t x st. st) (λ s t st. st.0) s ys run
 
--- vectors by value, whose iterator counts its items
+-- for vectors by value, whose iterator counts its items
 pub counted_front : {T Z W : Type 0} (s : IntoIter T Z) (ys : List T)
     → into_iter_len s ≡ length (into_iter_items s) → DrainsIf into_iter_steps W s ys
     → (more : List T) × (into_iter_items s ≡ ys ++ more) × (W → more ≡ [])

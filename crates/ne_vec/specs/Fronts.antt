@@ -1,15 +1,15 @@
--- The list that a source gives from its first item to its last.
+-- The list that a source gives, from its first item to its last.
 use Rattle.std.specs.Prelude.{◌≡◌, ◌≤◌, ◌<◌, ℕ, Bool, slice_get, true, List, [], ◌++◌, map, length}
 use Rattle.std.specs.Prelude.{Option}
 use Rattle.std.specs.List.{fold}
 use Rattle.std.specs.Iterator.{DrainsIf}
 use Rattle.std.specs.Iterator.Runs.{EachRunFrom, FoldIsAtMost}
 
--- us are the first of xs, and all of them where `whole` is true
+-- us are the first items of xs, and all of them if `whole` is true
 abbrev pub AreFirst : {A : Type 0} → Bool → List A → List A → Type 0
 AreFirst {A} whole xs us = (more : List A) × (xs ≡ us ++ more) × (whole ≡ true → more ≡ [])
 
--- 0 for each source and each list: the term at which `grind` takes what is said of both
+-- 0 for each source and each list: the term from which `grind` finds what is said about both
 unfoldable pub mark : {U A : Type 0} → U → List A → ℕ
 mark u xs = 0
 
@@ -18,18 +18,18 @@ unfoldable pub view_mark : {U A B : Type 0} → (A → B) → U → List B → �
 view_mark view u xs = 0
 
 module _ {U S A : Type 0} (becomes : U → S → Type 0) (steps : S → Option A → S → Type 0) where
-  -- The source u gives the items of xs: what comes of an iterator that it becomes are the first of
-  -- them, and all of them at its end. `grind` does not look into it.
+  -- The source u gives the items of xs: what comes from an iterator that it becomes are the first
+  -- of them, and all of them at the end. `grind` does not unfold it.
   unfoldable pub Lists : U → List A → Type 0
   Lists u xs = (it : S) → becomes u it → (whole : Bool) (ys : List A)
       → DrainsIf steps (whole ≡ true) it ys → AreFirst whole xs ys
 
-  -- The same of what `view` makes of its items.
+  -- The source u gives items of which `view` makes the items of xs.
   unfoldable pub Shows : {B : Type 0} → (A → B) → U → List B → Type 0
   Shows view u xs = (it : S) → becomes u it → (whole : Bool) (ys : List A)
       → DrainsIf steps (whole ≡ true) it ys → AreFirst whole xs (map view ys)
 
-  -- the same with the marks at which `grind` takes it
+  -- `Lists` with the mark from which `grind` finds it
   abbrev pub Listed : U → List A → Type 0
   Listed u xs = (mark u xs ≡ 0) × Lists u xs
 
@@ -37,9 +37,9 @@ module _ {U S A : Type 0} (becomes : U → S → Type 0) (steps : S → Option A
   Shown view u xs = (mark u xs ≡ 0) × (view_mark view u xs ≡ 0) × Shows view u xs
 
 module _ {S A : Type 0} (steps : S → Option A → S → Type 0) where
-  -- What `grind` is told of each run of an iterator that gives the items of xs: how many came, all
-  -- of them if it is whole, that a fold which never falls is at most the one over xs, and which
-  -- item stands at a place.
+  -- What `grind` gets to know of each run of an iterator that gives the items of xs: at most as
+  -- many came; all of them if the run is whole; a fold that never decreases is at most the fold
+  -- over xs; and which item is at each place.
   abbrev pub GivesFronts : List A → S → Type 0
   GivesFronts xs it = EachRunFrom steps it (λ p.
       (p.len ≤ length xs) × (p.whole ≡ true → p.items ≡ xs)
@@ -47,7 +47,8 @@ module _ {S A : Type 0} (steps : S → Option A → S → Type 0) where
       → fold h n p.items ≤ fold h n xs)
       × ((k : ℕ) → k < p.len → p.at k ≡ slice_get xs k))
 
-  -- And of one whose items show those of xs.
+  -- What `grind` gets to know of each run of an iterator whose items, through `view`, are those of
+  -- xs.
   abbrev pub ShowsFronts : {B : Type 0} → (A → B) → List B → S → Type 0
   ShowsFronts {B} view xs it = EachRunFrom steps it (λ p.
       (p.len ≤ length xs) × (p.whole ≡ true → p.len ≡ length xs)
@@ -55,7 +56,7 @@ module _ {S A : Type 0} (steps : S → Option A → S → Type 0) where
       × FoldIsAtMost p view xs)
 
 module _ {U S A : Type 0} (becomes : U → S → Type 0) (steps : S → Option A → S → Type 0) where
-  -- all that `grind` is told of a source that gives the items of xs
+  -- all that `grind` gets to know of a source that gives the items of xs
   abbrev pub GivesItems : U → List A → Type 0
   GivesItems u xs = Listed becomes steps u xs
       × ((it : S) → becomes u it → GivesFronts steps xs it)

@@ -1,4 +1,4 @@
--- What `retain` and `dedup_by` and their forms keep, and what it is for their closures to be pure.
+-- What `retain`, `dedup_by` and their variants keep, and when their closures are pure.
 use Rattle.std.specs.Prelude.{◌≡◌, Bool, Result, Ok, Err, List}
 use Rattle.std.specs.Borrow.{MutBor}
 use Rattle.std.specs.Fn.{CalledAtMut, CalledAtPairMut}
@@ -6,24 +6,24 @@ use Rattle.std.specs.Global.{Vec}
 use denote.Param.Members.{Mut}
 use Rattle.ne_vec.specs.Divisions.{by_first, IsDivision, firsts}
 
--- the items that are handed back, in a non-empty vector or in the empty one
+-- the items that are returned, in a non-empty vector or in the empty one
 abbrev pub kept_items : {X : Type 0} → Result (List X) (Vec X) → List X
 kept_items (Ok v) = v
 kept_items (Err v) = v.items
 
--- each call of f at a `&mut` to x answers h x, leaves w x there, and leaves f as it was
+-- each call of f with a `&mut` to x returns h x, leaves w x there, and leaves f unchanged
 abbrev pub ActsAsAtMut : {F X R : Type 0} → Mut F (MutBor X × Unit {0}) (R × (MutBor X × Unit {0}))
     → F → (X → R) → (X → X) → Type 0
 ActsAsAtMut {F} {X} {R} g f h w = (x : X) (r : R) (f' : F) (x' : X) → CalledAtMut g f x r f' x'
     → (f' ≡ f) × (r ≡ h x) × (x' ≡ w x)
 
--- and at two: it answers h x y, and leaves both and f as they were
+-- each call of f with `&mut`s to x and y returns h x y, and leaves x, y and f unchanged
 abbrev pub ActsAsAtPairMut : {F X : Type 0} → Mut F (MutBor X × (MutBor X × Unit {0}))
     (Bool × (MutBor X × (MutBor X × Unit {0}))) → F → (X → X → Bool) → Type 0
 ActsAsAtPairMut {F} {X} g f h = (x y : X) (r : Bool) (f' : F) (x' y' : X)
     → CalledAtPairMut g f x y r f' x' y' → (f' ≡ f) × (r ≡ h x y) × (x' ≡ x) × (y' ≡ y)
 
--- ys are the first items of the runs of xs, where an item goes on a run by `same(item, first)`
+-- ys are the first items of the runs of xs, where an item continues a run by `same(item, first)`
 abbrev pub KeepsFirsts : {X : Type 0} → (X → X → Bool) → List X → List X → Type 0
 KeepsFirsts {X} same xs ys = (rs : List (List X))
     × IsDivision (by_first (λ kept later. same later kept)) xs rs × (ys ≡ firsts rs)

@@ -16,14 +16,14 @@ pub record Cutting (A F : Type 0) : Type 0 where
   pub closure : F
 
 module _ {A F : Type 0} (calls : Shared F (Bor A × (Bor A × Unit {0})) Bool) where
-  -- each call of f at references to x and y returns same x y
+  -- each call of f with references to x and y returns same x y
   abbrev pub ActsAsAtPair : F → (A → A → Bool) → Type 0
   ActsAsAtPair f same = (x y : A) (r : Bool) → FnReturnsAtPair calls f x y r → r ≡ same x y
 
   -- One call of `next` takes a run from the front of the items that are left, or returns `None` if
-  -- none is left. What comes is not empty; and if the closure acts as a test of two items, then it
-  -- is a run and breaks where the rest begins. `place` is `by_first` or `by_previous`: it makes of
-  -- the test whether an item goes on a run.
+  -- none is left. What it returns is not empty. If the closure acts as a test of two items, it is a
+  -- run, and the next item doesn't continue it. `place` is `by_first` or `by_previous`: it turns
+  -- the test of two items into whether an item continues a run.
   abbrev pub CutsRun : ((A → A → Bool) → List A → A → Bool)
       → Cutting A F → Option (List A) → Cutting A F → Type 0
   CutsRun place s r t = (t.closure ≡ s.closure) × MatchOption r
@@ -32,7 +32,7 @@ module _ {A F : Type 0} (calls : Shared F (Bor A × (Bor A × Unit {0})) Bool) w
       × ((same : A → A → Bool) → ActsAsAtPair s.closure same
       → IsRun (place same) run × Breaks (place same) run t.left))
 
-  -- The source s of runs gives those of xs, if its closure f acts as a test of two items.
+  -- The source s of runs gives the runs of xs, if its closure f acts as a test of two items.
   abbrev pub RunsGive : ((A → A → Bool) → List A → A → Bool)
       → F → Cutting A F → List A → Type 0
   RunsGive place f s xs = (same : A → A → Bool) → ActsAsAtPair f same

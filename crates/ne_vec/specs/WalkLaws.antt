@@ -1,4 +1,4 @@
--- A walk gives the items that it has before it.
+-- An iterator gives the items that it has left.
 use Rattle.std.proofs.Common.{sym, ap, subst, ◌∙◌, ◌≡◌}
 use Rattle.std.specs.Prelude.{List, length, map}
 use Rattle.std.specs.Slice.Iter.{iter_steps}

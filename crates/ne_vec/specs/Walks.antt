@@ -1,4 +1,4 @@
--- What a walk over a non-empty list has before it.
+-- The items that an iterator over a non-empty list has left.
 use Rattle.std.specs.Prelude.{◌≡◌, ◌^◌, ◌<◌, List, length}
 use Rattle.std.specs.Iterator.Runs.{EveryRun, ItemsAre, ItemsMapTo}
 use Rattle.std.specs.Iterator.Adapters.{IterYieldsInOrder}
@@ -8,18 +8,19 @@ use Rattle.std.specs.declared.slice.Iter.{Iter}
 use Rattle.std.specs.declared.slice.IterMut.{IterMut}
 use Rattle.std.specs.declared.vec.IntoIter.{IntoIter}
 
--- The items of xs, by reference. The last part says what calls of `next` give, for `search`.
+-- The iterator has the items of xs left, by reference. The last part says what calls of `next`
+-- return; `search` uses it.
 abbrev pub Walks : {X : Type 0} → List X → Iter X → Type 0
 Walks {X} xs it = (0 < length xs) × (iter_rest it ≡ xs) × (length (iter_rest it) < 2 ^ 64)
     × IterYieldsInOrder X
 
--- The same, for writing.
+-- The mutable iterator has the items of xs left.
 abbrev pub WalksMut : {X : Type 0} → List X → IterMut X → Type 0
 WalksMut {X} xs it = (0 < length xs) × (iter_mut_rest it ≡ xs)
     × (length (iter_mut_rest it) < 2 ^ 64)
     × EveryRun (iter_mut_steps {A = X}) (λ p. ItemsMapTo p (λ y. y.now) (iter_mut_rest p.from))
 
--- And by value.
+-- The iterator has the items of xs left, by value.
 abbrev pub WalksOut : {X Z : Type 0} → List X → IntoIter X Z → Type 0
 WalksOut {X} {Z} xs it = (0 < length xs) × (into_iter_items it ≡ xs)
     × (into_iter_len it ≡ length xs) × (into_iter_len it < 2 ^ 64)

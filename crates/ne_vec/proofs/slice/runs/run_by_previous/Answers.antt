@@ -18,7 +18,7 @@ loop-end-init g c = (
   λ test acts. run_of_one (by_previous test) c.args.items.now c.requires.not_empty,
 )
 
--- an item does not go on
+-- an item doesn't continue the run
 pub returns-then-not-same-clause-run : goal.returns-then-not-same-clause-run
 returns-then-not-same-clause-run g c test acts =
     let i = c.loop-end.invariant in
