@@ -9,22 +9,22 @@ use std::alloc::{AllocError, Global};
 use std::array;
 use std::num::NonZeroUsize;
 
-/// What arrays of 1 to 32 items can do.
+/// Methods of arrays of 1 to 32 items.
 ///
 /// `items` is the list of an array's items.
 pub trait NonEmptyArrayExt<T> {
     ghost items: { Self → List T };
 
-    /// The items as a slice, which is not copied.
+    /// Returns the items as a slice, without copying them.
     fn as_nonempty_slice(&self) -> NESlice<'_, T>
         ensures { result ≡ items self.now };
 
-    /// How many items there are.
+    /// Returns the number of items.
     fn nonzero_len(&self) -> NonZeroUsize
         ensures { non_zero_usize_get result ≡ length (items self.now) };
 
-    /// The items as a vector. `AllocError` where there is no memory for it; the items are then
-    /// dropped.
+    /// Returns the items as a vector. Returns `AllocError` if the allocation fails; the items are
+    /// then dropped.
     fn into_nonempty_vec(self, alloc: Global) -> Result<NEVec<T>, AllocError>
         ensures { IfOk result (λ v. v ≡ items self) };
 }
@@ -55,7 +55,7 @@ where
     }
 }
 
-/// The items of an array, by value.
+/// A source of the items of an array, by value.
 #[derive(Drop)]
 pub struct ArrayNonEmptyIterator<T, const N: usize> {
     items: [T; N],
@@ -115,7 +115,7 @@ where
     }
 }
 
-/// By reference an array becomes the slice's walk, as a slice does.
+/// A reference to an array becomes the slice's iterator, as a slice does.
 impl<'a, T, const N: usize> IntoNonEmptyIterator for &'a [T; N]
 where
     [T; N]: NonEmptyArray<N>,
@@ -160,10 +160,10 @@ where
     }
 }
 
-/// A mark of the arrays that have an item, of 1 to 32 of them. It is for contracts alone.
+/// Marks the arrays of 1 to 32 items. It is used in contracts only.
 ///
-/// Its law is that there is an item. The Rust crate writes the implementations above for each
-/// length, by a macro, instead.
+/// Its law is that there is at least one item. The Rust crate instead writes the implementations
+/// above for each length, with a macro.
 pub trait NonEmptyArray<const N: usize> {
     ghost has_item: { 0 < N };
 }

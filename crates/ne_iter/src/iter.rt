@@ -1,4 +1,4 @@
-//! Sources that give at least one item: the traits, and the adapters that keep an item.
+//! Sources that give at least one item: the traits, and the adapters that keep a source non-empty.
 ghost use Rattle.std.specs.Prelude.{◌≡◌, ◌∷◌, []};
 ghost use Rattle.ne_iter.specs.Parts.{once_item};
 ghost use Rattle.ne_iter.specs.Gives.{GivesList};
@@ -27,7 +27,7 @@ pub use peek::Peekable;
 pub use scan::{Scan, ScanIter};
 pub use sources::{FromNonEmptyIterator, IntoNonEmptyIterator, SourceWords};
 
-/// The source of one item.
+/// Returns a source of one item, `value`.
 pub fn once<T: Drop>(value: T) -> Once<T>
     ensures holds { once_item result ≡ value }
     ensures gives { GivesList (⟦<Once<T> as SourceWords>⟧.reads) result (value ∷ []) }

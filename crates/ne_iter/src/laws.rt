@@ -1,8 +1,8 @@
-//! Laws on sources, adapters, closures and what is collected. Each is the contract of a function
+//! Laws about sources, adapters, closures and collecting. Each law is the contract of a function
 //! that does nothing: a caller calls it, and then knows what it ensures.
 //!
-//! A law is called where a proof has to name what a chain gives: in a generic function, over a
-//! source of one's own, or where a chain does not prove itself.
+//! A law is needed if a proof has to say what a chain gives: in a generic function, over a source
+//! of the caller's own type, or if the chain isn't proved without it.
 
 mod adapters;
 mod closures;

@@ -1,11 +1,11 @@
-//! Iterators that give at least one item, and what is collected from them.
+//! Iterators that give at least one item, and collecting from them.
 //!
-//! This is the part of the port of `nonempty-collections` that its collections of keys stand on.
-//! Its modules and the items in them have the Rust crate's names.
+//! This is the part of the port of `nonempty-collections` that the crates of maps and sets build
+//! on. Its modules and the items in them have the Rust crate's names.
 //!
-//! A contract says of a source what it may give: the lists `xs` of which `reads whole source xs`
-//! holds. At `whole` it gives them and ends, else it may give more. That no list of items is empty
-//! is the law of [`NonEmptyIterator`].
+//! Contracts describe a source by the items that it may give: the lists `xs` for which `reads whole
+//! source xs` holds. If `whole` is true, the source gives `xs` and ends; otherwise it may give more
+//! after `xs`. That a source gives at least one item is the law of [`NonEmptyIterator`].
 #![tactic(auto)]
 
 pub mod array;

@@ -1,4 +1,4 @@
-//! Slices, their walks and their chunks as sources.
+//! Slices, their iterators, their chunks and their runs as sources.
 
 use crate::iter::{IntoNonEmptyIterator, NonEmptyIterator};
 use ne_vec::{NESlice, slice};

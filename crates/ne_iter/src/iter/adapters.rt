@@ -1,10 +1,10 @@
-//! The plain adapters. Each holds its source, and becomes std's adapter of the same name.
+//! The simple adapters. Each holds its source, and becomes std's adapter of the same name.
 
 use super::{IntoNonEmptyIterator, NonEmptyIterator};
 use std::iter;
 use std::num::NonZeroUsize;
 
-/// The answers of a closure, called on the items of a source: see [`NonEmptyIterator::map`].
+/// A source of what a closure returns for the items of a source: see [`NonEmptyIterator::map`].
 #[derive(Drop)]
 pub struct Map<I, F> {
     pub(super) iter: I,
@@ -39,7 +39,7 @@ impl<U, I: NonEmptyIterator, F: FnMut(I::Item) -> U> NonEmptyIterator for Map<I,
         (std_map_source t) ended.0 };
 }
 
-/// The items of a source with their places: see [`NonEmptyIterator::enumerate`].
+/// A source of the items of a source with their indices: see [`NonEmptyIterator::enumerate`].
 #[derive(Drop)]
 pub struct Enumerate<I> {
     pub(super) iter: I,
@@ -72,7 +72,7 @@ impl<I: NonEmptyIterator> NonEmptyIterator for Enumerate<I> {
         (std_enumerate_source it) made.0 (std_enumerate_source t) ended.0 };
 }
 
-/// The first items of a source: see [`NonEmptyIterator::take`].
+/// A source of the first items of a source: see [`NonEmptyIterator::take`].
 #[derive(Drop)]
 pub struct Take<I> {
     pub(super) iter: I,
@@ -109,7 +109,7 @@ impl<I: NonEmptyIterator> NonEmptyIterator for Take<I> {
         Prim.search rules)) };
 }
 
-/// The items of a source and then those of another: see [`NonEmptyIterator::chain`].
+/// A source of the items of two sources, one after the other: see [`NonEmptyIterator::chain`].
 #[derive(Drop)]
 pub struct Chain<A, B> {
     pub(super) a: A,
@@ -178,7 +178,8 @@ impl<T: Drop> NonEmptyIterator for Once<T> {
     ghost not_empty = { λ s it made. HasFirst-once it (once_item s) made.0 };
 }
 
-/// Pairs of an item of one source and an item of another: see [`NonEmptyIterator::zip`].
+/// A source of pairs of an item of one source and an item of another: see
+/// [`NonEmptyIterator::zip`].
 #[derive(Drop)]
 pub struct Zip<A, B> {
     pub(super) a: A,

@@ -1,5 +1,5 @@
-//! The loop that the extremes share: the item that is kept of those that come, by a test that says
-//! which further ones are better.
+//! The loop that the methods for the least and the greatest item share. It keeps one item, and
+//! replaces it by a later one that a test says is better.
 ghost use Rattle.std.specs.Prelude.{◌≡◌, true, List, ◌∷◌, map};
 ghost use Rattle.std.specs.Fn.{CalledAt, FnReturnsAtPair, TakesAt};
 ghost use Rattle.std.specs.Iterator.{CallableOnAllAt};
@@ -10,9 +10,10 @@ ghost use Rattle.ne_iter.specs.Calls.{ShownEach};
 use super::NonEmptyIterator;
 use super::sources::SourceWords;
 
-/// The item that is kept: the first one, until `better` answers that a further one is better.
+/// Returns the item that is kept: at first the first one, then each later one for which `better`
+/// returns `true`.
 ///
-/// `better` is called with the item that is kept so far and the next one, in this order.
+/// `better` is called with the item kept so far and the next one, in this order.
 pub(super) fn best<S: NonEmptyIterator, F: Fn(&S::Item, &S::Item) -> bool>(
     source: S,
     better: F,
@@ -36,8 +37,9 @@ where
     best
 }
 
-/// The same of the items' keys: `better` is called with the key of the item that is kept so far
-/// and that of the next one. The key is asked once for each item, as it comes.
+/// Returns the item that is kept when items are compared by their keys. `better` is called with the
+/// key of the item kept so far and the key of the next one. `key` is called once for each item,
+/// when it is taken.
 pub(super) fn best_by_key<
     S: NonEmptyIterator,
     B: Drop,

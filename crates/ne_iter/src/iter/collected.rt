@@ -1,5 +1,5 @@
-//! Collecting into the standard library's types: here into nothing, vectors and results; into texts
-//! and paths in `texts`, into maps and sets in `keys`.
+//! Collecting into the standard library's types: into `()`, vectors and results here, into texts
+//! and paths in `texts`, and into maps and sets in `keys`.
 ghost use Rattle.std.specs.Result.{is_ok};
 ghost use Rattle.ne_iter.specs.Collected.{ResultsMake};
 
@@ -10,7 +10,7 @@ use super::{FromNonEmptyIterator, IntoNonEmptyIterator, NonEmptyIterator};
 use ne_vec::NEVec;
 use std::alloc::{AllocError, Global};
 
-/// Nothing is made; every item is drawn.
+/// Makes nothing, but takes every item.
 impl FromNonEmptyIterator<()> for () {
     ghost use Rattle.std.specs.Prelude.{⊤};
 
@@ -25,7 +25,7 @@ impl FromNonEmptyIterator<()> for () {
     }
 }
 
-/// The items, in order.
+/// Makes a vector of the items, in order.
 impl<T: Drop> FromNonEmptyIterator<T> for Vec<T> {
     ghost use Rattle.std.specs.Prelude.{◌≡◌};
 
@@ -39,9 +39,9 @@ impl<T: Drop> FromNonEmptyIterator<T> for Vec<T> {
     }
 }
 
-/// `Ok` of what the values make, or the first `Err`, and then no later item is drawn.
+/// Makes `Ok` of what the values make, or the first `Err`; no item after that is taken.
 ///
-/// The values are kept in an [`NEVec`] until all are there, so they take memory of their own.
+/// The values are kept in an [`NEVec`] until all are there, which takes an allocation of its own.
 impl<T: Drop, E: Drop, V: FromNonEmptyIterator<T>> FromNonEmptyIterator<Result<T, E>>
     for Result<V, E> {
     ghost collected = { ResultsMake V.collected V.is_complete };

@@ -1,10 +1,10 @@
-//! The adapters over references: what they show, copied or cloned.
+//! The adapters over references, which copy or clone the referenced items.
 
 use super::NonEmptyIterator;
 use std::alloc::AllocError;
 use std::iter;
 
-/// Clones of what the references of a source show: see [`NonEmptyIterator::cloned`].
+/// A source of clones of the items that a source references: see [`NonEmptyIterator::cloned`].
 #[derive(Drop)]
 pub struct Cloned<I> {
     pub(super) iter: I,
@@ -37,10 +37,10 @@ impl<'a, T: Clone + 'a, I: NonEmptyIterator<Item = &'a T>> NonEmptyIterator for 
         ended.1 ended.2) };
 }
 
-/// The iterator of a [`Cloned`]: for each reference a clone of what it shows, or an `Err` where
-/// that clone was refused.
+/// The iterator of a [`Cloned`]. It returns a clone of each referenced item, or an `Err` if cloning
+/// the item fails.
 ///
-/// The Rust crate has std's `Cloned` here, whose clones cannot be refused.
+/// The Rust crate has std's `Cloned` here, whose clones cannot fail.
 #[derive(Drop)]
 pub struct ClonedIter<I> {
     iter: I,
@@ -71,7 +71,7 @@ impl<'a, T: Clone + 'a, I: Iterator<Item = &'a T>> Iterator for ClonedIter<I> {
     }
 }
 
-/// What the references of a source show: see [`NonEmptyIterator::copied`].
+/// A source of copies of the items that a source references: see [`NonEmptyIterator::copied`].
 #[derive(Drop)]
 pub struct Copied<I> {
     pub(super) iter: I,

@@ -1,11 +1,11 @@
-//! The adapters that give the items of inner sources, one source after another: of a closure's
-//! answers, or of the items themselves.
+//! The adapters that give the items of inner sources, one source after another. The inner sources
+//! are what a closure returns, or the items themselves.
 
 use super::{IntoNonEmptyIterator, NonEmptyIterator};
 use std::iter;
 use std::marker::PhantomData;
 
-/// The items of what a closure answers at each item of a source: see
+/// A source of the items of the sources that a closure returns for the items of a source: see
 /// [`NonEmptyIterator::flat_map`].
 #[derive(Drop)]
 pub struct FlatMap<I, U, F> {
@@ -56,7 +56,7 @@ impl<U: IntoNonEmptyIterator, I: NonEmptyIterator, F: FnMut(I::Item) -> U> NonEm
         U.same_lists U.IntoNEIter.not_empty) };
 }
 
-/// The items of a source's items, which are sources: see [`NonEmptyIterator::flatten`].
+/// A source of the items of a source's items, which are sources: see [`NonEmptyIterator::flatten`].
 #[derive(Drop)]
 pub struct Flatten<I> {
     pub(super) iter: I,

@@ -9,7 +9,7 @@ use std::alloc::{AllocError, Global};
 use std::marker::Model;
 use std::mem;
 
-/// The runs of items with equal keys: see [`NonEmptyIterator::group_by`].
+/// A source of the runs of items with equal keys: see [`NonEmptyIterator::group_by`].
 #[derive(Drop)]
 pub struct NEGroupBy<I, F> {
     pub(super) iter: I,
@@ -57,12 +57,12 @@ where
         (I.not_empty (group_by_source s) g.source made.0) };
 }
 
-/// The iterator of a [`NEGroupBy`]: one run after the other, each a vector in `Ok`, or an `Err`
-/// where there was no memory for a run; what it has drawn and not given is then dropped. After an
-/// `Err` it answers `None`, and draws nothing more.
+/// The iterator of an [`NEGroupBy`]. It returns one run after the other, each as a vector in `Ok`,
+/// or an `Err` if an allocation for a run fails; the items taken and not returned are then dropped.
+/// After an `Err` it returns `None`, and takes nothing more.
 ///
-/// Between two calls a contract sees its source, its closure, and what is ahead: nothing was drawn
-/// yet, or one item is held with its key, or no more will come.
+/// Between two calls its value in contracts is its source, its closure, and what is ahead: nothing
+/// was taken yet, or one item is held with its key, or nothing more comes.
 #[derive(Drop)]
 pub struct GroupBy<I, K, V, F> {
     iter: I,
@@ -71,8 +71,8 @@ pub struct GroupBy<I, K, V, F> {
     alloc: Global,
 }
 
-// What is ahead: nothing was drawn yet; one item, with its key, was drawn beyond the runs that were
-// given; or nothing more comes.
+// What is ahead: nothing was taken yet; or one item, with its key, was taken after the runs that
+// were returned; or nothing more comes.
 #[derive(Drop)]
 enum State<K, V> {
     Unread,

@@ -3,7 +3,7 @@
 use super::NonEmptyIterator;
 use std::alloc::AllocError;
 
-/// A source whose first item was drawn, with clones of a separator between its items: see
+/// A source whose first item was already taken, with clones of a separator between the items: see
 /// [`NonEmptyIterator::intersperse`].
 #[derive(Drop)]
 pub struct Intersperse<I: Iterator>
@@ -40,7 +40,7 @@ where
         × IntersperseRuns I.next_gives I.Item.is_clone I.Item.is_infallible
         (intersperse_separator s) (intersperse_first s) (intersperse_rest s) it };
 
-    /// In the Rust crate the separator is cloned once more here; it is moved.
+    /// Returns the iterator. It moves the separator; the Rust crate clones it once more here.
     fn into_iter(self) -> RawIntersperse<I> {
         RawIntersperse {
             iter: self.rest,
@@ -63,12 +63,13 @@ where
         (TriesClone I.Item.is_clone I.Item.is_infallible) it (intersperse_first s) made.0 made.3 };
 }
 
-/// The iterator of an [`Intersperse`]: each item in `Ok`, and between each two a clone of the
-/// separator, or an `Err` where that clone was refused. After an `Err` it answers `None`, and draws
+/// The iterator of an [`Intersperse`]. It returns each item in `Ok`, and between each two a clone
+/// of the separator, or an `Err` if that clone fails. After an `Err` it returns `None`, and takes
 /// nothing more.
 ///
-/// It draws the item behind a separator before it clones that one. After its end it asks its source
-/// again at each `next`. In the Rust crate the items are plain, as clones cannot be refused there.
+/// It takes the item after a separator before it clones the separator. After its end each `next`
+/// calls its source again. In the Rust crate the items are not in a `Result`, as clones cannot fail
+/// there.
 #[derive(Drop)]
 pub struct RawIntersperse<I: Iterator>
 where
@@ -76,9 +77,9 @@ where
 {
     iter: I,
     separator: I::Item,
-    // What was drawn, and comes before a further item is drawn.
+    // An item that was taken and is returned before the next one is taken.
     next: Option<I::Item>,
-    // Whether a clone was refused.
+    // Whether a clone has failed.
     is_over: bool,
 }
 

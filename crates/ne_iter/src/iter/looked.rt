@@ -1,4 +1,4 @@
-//! Any iterator, where it has an item.
+//! Any iterator as a non-empty source, if it has an item.
 ghost use Rattle.std.specs.Prelude.{◌≡◌, Bool, Option, true};
 ghost use Rattle.ne_iter.specs.Looked.{has_looked, LooksWhole, LooksRuns, LooksOn};
 ghost use Rattle.ne_iter.specs.FirstItemLaws.{HasFirst-looked};
@@ -9,8 +9,8 @@ ghost use Rattle.std.specs.Iterator.Adapters.{peekable_steps};
 use super::{NonEmptyIterator, SourceWords};
 use std::iter;
 
-/// An iterator that can tell whether it has an item in hand. It is for contracts alone, and has no
-/// method.
+/// An iterator that knows whether it holds an item that it has already taken. It is used in
+/// contracts only, and has no method.
 pub trait LooksAhead {
     ghost has_looked: { Self → Bool };
 }
@@ -52,10 +52,10 @@ where
 
 /// Sources that may be empty.
 pub trait IntoIteratorExt {
-    /// What it gives.
+    /// The type of its items.
     type Item;
 
-    /// The source that it becomes, where it has an item.
+    /// The non-empty source that it becomes if it has an item.
     type IntoIter: NonEmptyIterator<Item = Self::Item>;
 
     ghost can_look: { Self → Type 0 };
@@ -68,8 +68,8 @@ pub trait IntoIteratorExt {
 
     ghost looks_on: { Self → Option Self.IntoIter → Type 0 };
 
-    /// Draws the first item, to see whether there is one: `None` exactly where there is none. What
-    /// it gives has all items, with the one that was drawn.
+    /// Takes the first item to see whether there is one, and returns a non-empty source of all
+    /// items, with the one that was taken; returns `None` if there is no item.
     fn try_into_nonempty_iter(self) -> Option<Self::IntoIter>
         requires { can_look self }
         ensures looks { looks self result }

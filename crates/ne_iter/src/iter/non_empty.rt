@@ -71,19 +71,20 @@ use std::iter::{self, Product, Sum};
 use std::marker::PhantomData;
 use std::num::NonZeroUsize;
 
-/// A source that gives at least one item.
+/// A source that gives at least one item. A source is a value that `into_iter` makes into an
+/// iterator.
 ///
-/// Its law is `not_empty`: whatever `into_iter` makes of a value answers an item first. An
-/// implementation proves it, and has to do nothing else; all methods but `next` are final.
+/// The law of this trait is `not_empty`: the iterator made from any value first returns an item. An
+/// implementation proves this law and needs nothing else; all methods but `next` are final.
 ///
-/// The methods that use up the source ask that it ends. A closure is called on the items in order,
-/// once for each that is drawn, and may have state. No method takes memory but those that answer
-/// `AllocError`.
+/// The methods that use up the source require that it ends. A closure is called with the items in
+/// order, once for each item taken, and may have state. Only methods that return `AllocError`
+/// allocate.
 pub trait NonEmptyIterator: IntoIterator {
-    /// The first item, which always is there, and the iterator of the others.
+    /// Returns the first item, which always exists, and the iterator over the others.
     ///
-    /// Not final, unlike the others: the toolchain refuses a trait without such a method where an
-    /// implementation asks for a closure. The contract leaves no room for another answer.
+    /// Unlike the other methods this one is not final: the toolchain rejects a trait with only
+    /// final methods if an implementation requires a closure. The contract allows no other result.
     fn next(self) -> (Self::Item, Self::IntoIter)
     where
         Self: Sized,
@@ -100,8 +101,8 @@ pub trait NonEmptyIterator: IntoIterator {
         }
     }
 
-    /// A source of the same items whose first item can be seen and written. That item is drawn at
-    /// once.
+    /// Returns a source of the same items whose first item can be read and changed. The first item
+    /// is taken immediately.
     final fn peekable(self) -> Peekable<Self::IntoIter>
     where
         Self: Sized,
@@ -122,7 +123,8 @@ pub trait NonEmptyIterator: IntoIterator {
         Peekable { first, rest }
     }
 
-    /// Whether `f` answers true at each item. It stops at the first item at which it does not.
+    /// Returns whether `f` returns `true` for every item. It stops at the first item for which `f`
+    /// returns `false`.
     final fn all<F: FnMut(Self::Item) -> bool>(self, f: F) -> bool
     where
         Self: Sized,
@@ -140,7 +142,7 @@ pub trait NonEmptyIterator: IntoIterator {
         self.into_iter().all(f)
     }
 
-    /// Whether `f` answers true at an item. It stops at the first item at which it does.
+    /// Returns whether `f` returns `true` for any item. It stops at the first such item.
     final fn any<F: FnMut(Self::Item) -> bool>(self, f: F) -> bool
     where
         Self: Sized,
@@ -158,10 +160,10 @@ pub trait NonEmptyIterator: IntoIterator {
         self.into_iter().any(f)
     }
 
-    /// The items, and then those of `other`, which may have none.
+    /// Returns a source of the items of `self`, followed by those of `other`, which may be empty.
     ///
-    /// In the Rust crate a [`Chain`] holds the iterators; here it holds what they are made of, and
-    /// its own iterator is std's.
+    /// In the Rust crate a [`Chain`] holds the iterators. Here it holds the two sources, and
+    /// becomes std's iterator.
     final fn chain<U: IntoIterator<Item = Self::Item>>(self, other: U) -> Chain<Self, U>
     where
         Self: Sized,
@@ -178,10 +180,11 @@ pub trait NonEmptyIterator: IntoIterator {
         Chain { a: self, b: other }
     }
 
-    /// For each reference a clone of what it shows, or an `Err` where that clone is refused.
+    /// Returns a source that gives, for each reference, a clone of the referenced item in `Ok`, or
+    /// an `Err` if cloning it fails.
     ///
-    /// What follows an `Err` is up to the clones that come then. In the Rust crate the items are
-    /// plain.
+    /// What comes after an `Err` depends on the later clones. In the Rust crate the items are not
+    /// in a `Result`.
     final fn cloned<'a, T: Clone + 'a>(self) -> Cloned<Self>
     where
         Self: Sized + IntoIterator<Item = &'a T>,
@@ -199,9 +202,9 @@ pub trait NonEmptyIterator: IntoIterator {
         Cloned { iter: self }
     }
 
-    /// What the items make: see [`FromNonEmptyIterator`].
+    /// Collects the items: see [`FromNonEmptyIterator`].
     ///
-    /// `AllocError` where there is no memory for it; what was taken is dropped.
+    /// Returns `AllocError` if the allocation fails; the items taken are then dropped.
     final fn collect<B: FromNonEmptyIterator<Self::Item>>(
         self,
         alloc: Global,
@@ -220,10 +223,10 @@ pub trait NonEmptyIterator: IntoIterator {
         B::from_nonempty_iter(alloc, self)
     }
 
-    /// What the references show, copied.
+    /// Returns a source of copies of the referenced items.
     ///
-    /// In the Rust crate a [`Copied`] holds the iterator; here it holds what that is made of, and
-    /// its own iterator is std's.
+    /// In the Rust crate a [`Copied`] holds the iterator. Here it holds the source, and becomes
+    /// std's iterator.
     final fn copied<'a, T: Copy + 'a>(self) -> Copied<Self>
     where
         Self: Sized + IntoIterator<Item = &'a T>,
@@ -237,7 +240,7 @@ pub trait NonEmptyIterator: IntoIterator {
         Copied { iter: self }
     }
 
-    /// How many items there are, at least 1. The number has to fit.
+    /// Returns the number of items, which is at least 1. It must fit in a `usize`.
     final fn count(self) -> NonZeroUsize
     where
         Self: Sized,
@@ -258,7 +261,7 @@ pub trait NonEmptyIterator: IntoIterator {
         }
     }
 
-    /// Each item with its place before it, from 0.
+    /// Returns a source of pairs of an index, from 0, and the item at that index.
     final fn enumerate(self) -> Enumerate<Self>
     where
         Self: Sized,
@@ -273,7 +276,8 @@ pub trait NonEmptyIterator: IntoIterator {
         Enumerate { iter: self }
     }
 
-    /// The items at which `predicate` answers true. There may be none, so this is std's iterator.
+    /// Returns an iterator over the items for which `predicate` returns `true`. There may be none,
+    /// so it is std's iterator.
     final fn filter<P: FnMut(&Self::Item) -> bool>(
         self,
         predicate: P,
@@ -298,7 +302,8 @@ pub trait NonEmptyIterator: IntoIterator {
         self.into_iter().filter(predicate)
     }
 
-    /// The values among the answers of `f`. There may be none, so this is std's iterator.
+    /// Returns an iterator over the values that `f` returns in `Some`. There may be none, so it is
+    /// std's iterator.
     final fn filter_map<B, F: FnMut(Self::Item) -> Option<B>>(
         self,
         f: F,
@@ -321,7 +326,8 @@ pub trait NonEmptyIterator: IntoIterator {
         self.into_iter().filter_map(f)
     }
 
-    /// The first item at which `predicate` answers true, if there is one. It stops there.
+    /// Returns the first item for which `predicate` returns `true`, or `None` if there is none. It
+    /// stops at that item.
     final fn find<P: FnMut(&Self::Item) -> bool>(self, predicate: P) -> Option<Self::Item>
     where
         Self: Sized,
@@ -340,10 +346,11 @@ pub trait NonEmptyIterator: IntoIterator {
         self.into_iter().find(predicate)
     }
 
-    /// The items of what `f` answers at each item, one after another. Each answer has an item.
+    /// Returns a source of the items of the sources that `f` returns, one source after another.
+    /// Each of these has at least one item.
     ///
-    /// In the Rust crate a [`FlatMap`] holds the iterator; here it holds what that is made of, and
-    /// its own iterator is std's.
+    /// In the Rust crate a [`FlatMap`] holds the iterator. Here it holds the source, and becomes
+    /// std's iterator.
     final fn flat_map<U: IntoNonEmptyIterator, F: FnMut(Self::Item) -> U>(
         self,
         f: F,
@@ -365,11 +372,11 @@ pub trait NonEmptyIterator: IntoIterator {
         }
     }
 
-    /// The items of the source's items, each of which is itself a source with at least one item,
-    /// one after another.
+    /// Returns a source of the items of the inner sources, one source after another. Each item of
+    /// `self` is an inner source, which has at least one item.
     ///
-    /// It takes no memory of its own, and draws an inner source when the one before it has ended.
-    /// It is ours, after std's `flatten`: it stays non-empty.
+    /// It doesn't allocate, and takes the next inner source only when the one before it has ended.
+    /// The Rust crate has no such method: it is like std's `flatten`, but stays non-empty.
     ///
     /// `[[1, 2], [3]]` flattened is 1, 2 and 3.
     final fn flatten(self) -> Flatten<Self>
@@ -388,7 +395,8 @@ pub trait NonEmptyIterator: IntoIterator {
         Flatten { iter: self }
     }
 
-    /// The total: `init`, to which `f` adds each item.
+    /// Folds the items into one value: starting from `init`, `f` takes the value so far and the
+    /// next item, and returns the new value.
     final fn fold<B, F: FnMut(B, Self::Item) -> B>(self, init: B, f: F) -> B
     where
         Self: Sized,
@@ -405,22 +413,21 @@ pub trait NonEmptyIterator: IntoIterator {
         self.into_iter().fold(init, f)
     }
 
-    /// The items, divided into runs: each run is a vector, in `Ok`.
+    /// Returns a source of the runs of the items, each run as a vector in `Ok`.
     ///
-    /// `f` is asked for the key of each item that is drawn, once and in order. The first item
-    /// begins a run. Each further one goes on it while `==` says so of the key of the run's first
-    /// item, which stands on the left, and its own; else it begins the next run. So no item is
-    /// compared with the one before it. A run is given once the first item of the next one was
-    /// drawn, or the source has ended. Nothing further is drawn, so that a grouping that is stopped
-    /// has drawn one item beyond its runs, at most.
+    /// `f` is called once for each item taken, in order, and returns its key. The first item begins
+    /// a run. Each further item continues the run if `key of the run's first item == its own key`;
+    /// otherwise it begins the next run. So no item is compared with the one before it. A run is
+    /// returned when the first item of the next one was taken, or when the source has ended. No
+    /// more is taken, so if the caller stops, at most one item after the returned runs was taken.
     ///
-    /// `f` has to be callable at each item that comes of the source, in order, and at no other:
-    /// over items above 0, `|x| 100 / *x` may be the key.
+    /// `f` must be callable with each item of the source, in order, and with no other value: for
+    /// items above 0 the key may be `|x| 100 / *x`.
     ///
-    /// A run takes its memory when it is asked for, from `alloc`, and none is taken for the run
-    /// that comes after it. If there is no memory for the items of a run, an `Err` comes in its
-    /// place. What was drawn and not given is then dropped, and `None` comes after it. In the Rust
-    /// crate the runs are plain vectors.
+    /// A run is allocated from `alloc` when it is requested; nothing is allocated for the next run
+    /// yet. If an allocation for a run fails, `Err` is returned in its place. The items that were
+    /// taken and not returned are then dropped, and `None` follows. In the Rust crate the runs are
+    /// vectors without a `Result`.
     final fn group_by<K: PartialEq + Drop, F: FnMut(&Self::Item) -> K + Drop>(
         self,
         alloc: Global,
@@ -446,12 +453,13 @@ pub trait NonEmptyIterator: IntoIterator {
         }
     }
 
-    /// The items, and between each two of them a clone of `separator`: each in `Ok`, and an `Err`
-    /// in the place of a clone that was refused, after which no item comes. So of n items come 2n -
-    /// 1, and no separator comes first or last. One clone is made for each separator that is given.
+    /// Returns a source of the items with a clone of `separator` between each two. Each item or
+    /// clone is in `Ok`; if a clone fails, an `Err` comes in its place and nothing after it. So n
+    /// items become 2n - 1, and no separator is first or last. One clone is made for each separator
+    /// given.
     ///
-    /// The first item is drawn at once. In the Rust crate `into_iter` of what is answered draws it,
-    /// and clones the separator once more; the items are plain there.
+    /// The first item is taken immediately. In the Rust crate `into_iter` of the result takes it,
+    /// and clones the separator once more; the items there are not in a `Result`.
     final fn intersperse(self, separator: Self::Item) -> Intersperse<Self::IntoIter>
     where
         Self: Sized,
@@ -483,7 +491,7 @@ pub trait NonEmptyIterator: IntoIterator {
         }
     }
 
-    /// The answers of `f`, called on the items.
+    /// Returns a source of what `f` returns for each item.
     final fn map<U, F: FnMut(Self::Item) -> U>(self, f: F) -> Map<Self, F>
     where
         Self: Sized,
@@ -499,8 +507,8 @@ pub trait NonEmptyIterator: IntoIterator {
         Map { iter: self, f }
     }
 
-    /// The greatest item, and of several equal ones the first. std's `max` answers the last of
-    /// them.
+    /// Returns the greatest item. If several are equally great, returns the first of them; std's
+    /// `max` returns the last.
     final fn max(self) -> Self::Item
     where
         Self: Sized,
@@ -517,12 +525,12 @@ pub trait NonEmptyIterator: IntoIterator {
         best(self, |kept, next| kept < next)
     }
 
-    /// The greatest item by `compare`, and of several equal ones the first. std's `max_by` answers
-    /// the last of them.
+    /// Returns the greatest item by `compare`. If several are equally great, returns the first of
+    /// them; std's `max_by` returns the last.
     ///
-    /// `compare` is called with the best item so far and the next one, in this order. That the
-    /// answer is the greatest item asks that the answers of `compare` are a total preorder; else it
-    /// is some item.
+    /// `compare` is called with the greatest item so far and the next one, in this order. The
+    /// result is the greatest item if what `compare` returns is a total preorder; otherwise it is
+    /// some item.
     final fn max_by<F: Fn(&Self::Item, &Self::Item) -> Ordering>(self, compare: F) -> Self::Item
     where
         Self: Sized,
@@ -543,8 +551,8 @@ pub trait NonEmptyIterator: IntoIterator {
         )
     }
 
-    /// The item of the greatest key, and of several equal ones the first. std's `max_by_key`
-    /// answers the last of them. The key is asked once for each item.
+    /// Returns the item with the greatest key. If several keys are equally great, returns the first
+    /// such item; std's `max_by_key` returns the last. `key` is called once for each item.
     final fn max_by_key<B: Ord + Drop, F: FnMut(&Self::Item) -> B>(self, key: F) -> Self::Item
     where
         Self: Sized,
@@ -560,7 +568,7 @@ pub trait NonEmptyIterator: IntoIterator {
         best_by_key(self, key, |kept, next| kept < next)
     }
 
-    /// The least item, and of several equal ones the first.
+    /// Returns the least item. If several are equally small, returns the first of them.
     final fn min(self) -> Self::Item
     where
         Self: Sized,
@@ -577,11 +585,11 @@ pub trait NonEmptyIterator: IntoIterator {
         best(self, |kept, next| next < kept)
     }
 
-    /// The least item by `compare`, and of several equal ones the first.
+    /// Returns the least item by `compare`. If several are equally small, returns the first of
+    /// them.
     ///
-    /// `compare` is called with the best item so far and the next one, in this order. That the
-    /// answer is the least item asks that the answers of `compare` are a total preorder; else it is
-    /// some item.
+    /// `compare` is called with the least item so far and the next one, in this order. The result
+    /// is the least item if what `compare` returns is a total preorder; otherwise it is some item.
     final fn min_by<F: Fn(&Self::Item, &Self::Item) -> Ordering>(self, compare: F) -> Self::Item
     where
         Self: Sized,
@@ -602,8 +610,8 @@ pub trait NonEmptyIterator: IntoIterator {
         )
     }
 
-    /// The item of the least key, and of several equal ones the first. The key is asked once for
-    /// each item.
+    /// Returns the item with the least key. If several keys are equally small, returns the first
+    /// such item. `key` is called once for each item.
     final fn min_by_key<B: Ord + Drop, F: FnMut(&Self::Item) -> B>(self, key: F) -> Self::Item
     where
         Self: Sized,
@@ -619,11 +627,11 @@ pub trait NonEmptyIterator: IntoIterator {
         best_by_key(self, key, |kept, next| next < kept)
     }
 
-    /// The items in the order of their keys, the least first; those of equal keys keep their order.
+    /// Returns the items in ascending order of their keys. Items with equal keys keep their order.
     ///
-    /// `f` may be called at any item. That they are in order asks that the key depends on the item
-    /// alone; else it is some permutation. `AllocError` where there is no memory for the items or
-    /// for the work; they are then dropped.
+    /// `f` must be callable with any value of the items' type. The items are in order if the key
+    /// depends on the item alone; otherwise they are some permutation. Returns `AllocError` if the
+    /// allocation for the items or for sorting them fails; the items are then dropped.
     final fn sorted_by_key<K: Ord + Drop, F: FnMut(&Self::Item) -> K>(
         self,
         alloc: Global,
@@ -651,7 +659,7 @@ pub trait NonEmptyIterator: IntoIterator {
         Ok(vector::IntoIter::from(items))
     }
 
-    /// The item behind `n` others, so from 0; `None` where there is none.
+    /// Returns the item at index `n`, from 0, or `None` if there is no such item.
     final fn nth(self, n: usize) -> Option<Self::Item>
     where
         Self: Sized,
@@ -667,12 +675,13 @@ pub trait NonEmptyIterator: IntoIterator {
         self.into_iter().nth(n)
     }
 
-    /// The answers of `f`, called once on each item in order. It is lent a state, `init` at the
-    /// first call, which it may write to, and which the next call finds as it was left.
+    /// Returns a source of what `f` returns for each item. `f` is called once for each item, in
+    /// order, with a mutable reference to a state: `init` at first, and then as the call before
+    /// left it.
     ///
-    /// It takes no memory of its own. It is ours, after std's `scan`: the closure always returns
-    /// an item, so that no item is lost and the iterator ends only when its source does. In std
-    /// it returns an `Option`, and `None` ends the iterator.
+    /// It doesn't allocate. The Rust crate has no such method. It is like std's `scan`, but `f`
+    /// always returns an item, so no item is lost and the iterator ends only when its source does.
+    /// In std `f` returns an `Option`, and `None` ends the iterator.
     ///
     /// The running sums of 1, 2 and 3 are 1, 3 and 6.
     final fn scan<St: Drop, B, F: FnMut(&mut St, Self::Item) -> B>(
@@ -703,7 +712,8 @@ pub trait NonEmptyIterator: IntoIterator {
         }
     }
 
-    /// All items but the first `n`. There may be none, so this is std's iterator.
+    /// Returns an iterator over all items but the first `n`. There may be none, so it is std's
+    /// iterator.
     final fn skip(self, n: usize) -> iter::Skip<Self::IntoIter>
     where
         Self: Sized,
@@ -720,8 +730,8 @@ pub trait NonEmptyIterator: IntoIterator {
         self.into_iter().skip(n)
     }
 
-    /// The items from the first one on at which `pred` answers false; it is not asked after that
-    /// one. There may be none, so this is std's iterator.
+    /// Returns an iterator over the items from the first one for which `pred` returns `false`;
+    /// `pred` is not called after that. There may be none, so it is std's iterator.
     final fn skip_while<P: FnMut(&Self::Item) -> bool>(
         self,
         pred: P,
@@ -745,7 +755,7 @@ pub trait NonEmptyIterator: IntoIterator {
         self.into_iter().skip_while(pred)
     }
 
-    /// The sum of the items. No partial sum may leave the range of `S`.
+    /// Returns the sum of the items. No partial sum may leave the range of `S`.
     final fn sum<S: Sum<Self::Item>>(self) -> S
     where
         Self: Sized,
@@ -764,7 +774,7 @@ pub trait NonEmptyIterator: IntoIterator {
         self.into_iter().sum()
     }
 
-    /// The first `n` items, or all where there are no more.
+    /// Returns a source of the first `n` items, or of all items if there are fewer.
     final fn take(self, n: NonZeroUsize) -> Take<Self>
     where
         Self: Sized,
@@ -780,8 +790,8 @@ pub trait NonEmptyIterator: IntoIterator {
         Take { iter: self, n }
     }
 
-    /// The items before the first one at which `pred` answers false; that one is drawn too. There
-    /// may be none, so this is std's iterator.
+    /// Returns an iterator over the items before the first one for which `pred` returns `false`;
+    /// that one is taken too. There may be none, so it is std's iterator.
     final fn take_while<P: FnMut(&Self::Item) -> bool>(
         self,
         pred: P,
@@ -806,7 +816,7 @@ pub trait NonEmptyIterator: IntoIterator {
         self.into_iter().take_while(pred)
     }
 
-    /// The product of the items. No partial product may leave the range of `P`.
+    /// Returns the product of the items. No partial product may leave the range of `P`.
     final fn product<P: Product<Self::Item>>(self) -> P
     where
         Self: Sized,
@@ -825,10 +835,11 @@ pub trait NonEmptyIterator: IntoIterator {
         self.into_iter().product()
     }
 
-    /// Pairs of an item of this source and an item of `other`, as many as the shorter one has.
+    /// Returns a source of pairs of an item of `self` and an item of `other`, as many as the
+    /// shorter one has.
     ///
-    /// How far the longer one is drawn is not said. In the Rust crate a [`Zip`] holds the
-    /// iterators; here it holds what they are made of, and its own iterator is std's.
+    /// It is not specified how many items of the longer one are taken. In the Rust crate a [`Zip`]
+    /// holds the iterators. Here it holds the two sources, and becomes std's iterator.
     final fn zip<U: IntoNonEmptyIterator>(self, other: U) -> Zip<Self, U>
     where
         Self: Sized,
@@ -844,11 +855,11 @@ pub trait NonEmptyIterator: IntoIterator {
         Zip { a: self, b: other }
     }
 
-    /// Two collections: of the first parts of the items, and of the second parts. Each begins with
-    /// one item and takes the others one at a time: see [`Singleton`].
+    /// Returns two collections: one of the first parts of the items, one of the second parts. Each
+    /// begins with one item and then grows one item at a time: see [`Singleton`].
     ///
-    /// `AllocError` where there is no memory for them; what was taken is dropped. The Rust crate
-    /// asks for `Extend` besides [`Singleton`].
+    /// Returns `AllocError` if an allocation fails; the items taken are then dropped. The Rust
+    /// crate requires `Extend` as well as [`Singleton`].
     final fn unzip<
         A: Drop,
         B: Drop,
@@ -880,7 +891,8 @@ pub trait NonEmptyIterator: IntoIterator {
         Ok((firsts, seconds))
     }
 
-    /// The total: the first item, to which `f` adds each other one.
+    /// Folds the items into one value: starting from the first item, `f` takes the value so far and
+    /// the next item, and returns the new value.
     final fn reduce<F: FnMut(Self::Item, Self::Item) -> Self::Item>(self, f: F) -> Self::Item
     where
         Self: Sized,

@@ -1,9 +1,9 @@
-//! The adapter that shows the first item.
+//! The adapter that gives access to the first item.
 
 use super::NonEmptyIterator;
 use std::iter;
 
-/// A source whose first item was drawn, and can be seen and written: see
+/// A source whose first item was already taken and can be read and changed: see
 /// [`NonEmptyIterator::peekable`].
 #[derive(Drop)]
 pub struct Peekable<I: Iterator>
@@ -23,14 +23,15 @@ where
     ghost use Rattle.ne_iter.specs.Peeks.{peekable_first};
     ghost use Rattle.ne_iter.specs.PeekLends.{lends_first};
 
-    /// The first item. There always is one, so this is no `Option`, unlike std's.
+    /// Returns the first item. It always exists, so unlike std's `peek` this returns no `Option`.
     pub fn peek(&self) -> &I::Item
         ensures { result.now ≡ peekable_first self.now }
     {
         &self.first
     }
 
-    /// The first item, for writing: the source gives it as it was last written.
+    /// Returns a mutable reference to the first item. The source gives the item as it was last
+    /// changed.
     pub fn peek_mut(&mut self) -> &mut I::Item
         ensures* writes_back { sem 𝓛 (lends_first I.row I.Item.row self.entry result) }
         ensures value { result.now ≡ peekable_first self.old }

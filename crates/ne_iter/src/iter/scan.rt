@@ -1,8 +1,9 @@
-//! The adapter whose closure is lent a state.
+//! The adapter whose closure has a state.
 
 use super::NonEmptyIterator;
 
-/// The answers of a closure that is lent a state: see [`NonEmptyIterator::scan`].
+/// A source of what a closure with a state returns for the items of a source: see
+/// [`NonEmptyIterator::scan`].
 #[derive(Drop)]
 pub struct Scan<I, St, F> {
     pub(super) iter: I,
@@ -41,10 +42,11 @@ impl<St: Drop, B, I: NonEmptyIterator, F: FnMut(&mut St, I::Item) -> B> NonEmpty
         I.not_empty (scan_source s) (scanned_from it) made.0 (scanned_from t) ended.0 };
 }
 
-/// The iterator of a [`Scan`]: for each item of its source the answer of the closure, which is lent
-/// the state and may write to it. It ends when its source does.
+/// The iterator of a [`Scan`]. For each item of its source it returns what the closure returns; the
+/// closure takes a mutable reference to the state. It ends when its source does.
 ///
-/// The name is ours: std's iterator of this kind ends when the closure returns `None`.
+/// The Rust crate has no such type. Std's iterator of this kind also ends when the closure returns
+/// `None`.
 #[derive(Drop)]
 pub struct ScanIter<I, St, F> {
     iter: I,

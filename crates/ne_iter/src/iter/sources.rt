@@ -1,4 +1,4 @@
-//! What a source is, what becomes one, and what is collected from one.
+//! Sources, values that become sources, and what is collected from them.
 ghost use Rattle.std.specs.Prelude.{◌≡◌, ℕ, Bool, true, List, IfOk};
 ghost use Rattle.std.specs.Iterator.{IsFiniteIterable};
 ghost use Rattle.ne_vec.specs.Fronts.{Lists, Shows, GivesItems, GivesShown};
@@ -8,17 +8,17 @@ ghost use Rattle.ne_iter.specs.SourceLaws.{SameLists-self};
 use super::NonEmptyIterator;
 use std::alloc::{AllocError, Global};
 
-/// A source by what it may give: every `IntoIterator`. It is for contracts alone, and has no
-/// method.
+/// Says what a source may give; every `IntoIterator` implements it. It is used in contracts only,
+/// and has no method.
 ///
-/// `reads whole source xs` says that `source` may give the items `xs` first, and where `whole` is
-/// true may then end. `starts source` says that the first item may be drawn, and `ends source`
-/// that all of them may be, and that they end.
+/// `reads whole source xs` says that `source` may first give the items `xs`, and, if `whole` is
+/// true, may end after them. `starts source` says that the first item may be taken. `ends source`
+/// says that all items may be taken, and that they come to an end.
 ///
-/// `lists source xs` says that `source` gives the items `xs` and no others, as far as it is drawn,
-/// and `shows view source xs` the same of what `view` makes of its items. The check's search does
-/// not look into these two; `gives_items` and `gives_shown` say besides what it is told of each run
-/// of the iterator.
+/// `lists source xs` says that `source` gives the items `xs` and no others, as far as they are
+/// taken. `shows view source xs` says the same of what `view` makes of its items. The search of the
+/// checker does not unfold these two; `gives_items` and `gives_shown` add what it gets to know of
+/// each run of the iterator.
 pub trait SourceWords: IntoIterator {
     ghost reads: { Bool → Self → List Self.Item → Type 0 };
 
@@ -51,19 +51,19 @@ impl<S: IntoIterator> SourceWords for S {
     ghost ends = { IsFiniteIterable S.into_iter_gives S.IntoIter.can_next S.IntoIter.remaining };
 }
 
-/// What can be made of one item or more.
+/// A type that can be made from one item or more.
 ///
-/// `collected xs c` says that `c` is what the items `xs` make, and `is_complete c` that `c` was
-/// made of all items of its source. It is false where collecting may stop early, as at a first
-/// `Err`.
+/// `collected xs c` says that `c` is what the items `xs` make. `is_complete c` says that `c` was
+/// made from all items of its source; it is false if collecting may have stopped early, for example
+/// at a first `Err`.
 pub trait FromNonEmptyIterator<T>: Sized {
     ghost collected: { List T → Self → Type 0 };
 
     ghost is_complete: { Self → Bool } = { λ _. true };
 
-    /// Collects the items. They must end.
+    /// Collects the items. They must come to an end.
     ///
-    /// `AllocError` where there is no memory for them; what was taken is dropped.
+    /// Returns `AllocError` if the allocation fails; the items taken are then dropped.
     fn from_nonempty_iter<I: IntoNonEmptyIterator<Item = T>>(
         alloc: Global,
         iter: I,
@@ -75,17 +75,17 @@ pub trait FromNonEmptyIterator<T>: Sized {
             × ⟦<I as SourceWords>⟧.reads (is_complete c) iter xs × collected xs c) };
 }
 
-/// What becomes a source that gives at least one item.
+/// A value that becomes a source with at least one item.
 ///
-/// Its law is that such a source, made of a value, may give the same lists as `into_iter` of that
-/// value: `same_lists`. A value may so be handed to what asks for either.
+/// Its law `same_lists` says that this source may give the same lists as `into_iter` of the value.
+/// So the value can be passed to code that expects either.
 pub trait IntoNonEmptyIterator: IntoIterator {
-    /// The source that it becomes.
+    /// The type of the source that it becomes.
     type IntoNEIter: NonEmptyIterator<Item = Self::Item>;
 
     ghost into_nonempty_iter_gives: { Self → Self.IntoNEIter → Type 0 };
 
-    /// The source of its items.
+    /// Returns a source of its items.
     fn into_nonempty_iter(self) -> Self::IntoNEIter
         ensures into_nonempty_iter_gives { into_nonempty_iter_gives self result };
 

@@ -1,5 +1,5 @@
-//! Collecting into maps and sets. Keys and items count as the same where `==` says so; which of
-//! several equal ones is kept is left open.
+//! Collecting into maps and sets. Keys and items are the same if `==` returns `true`; it is not
+//! specified which of several equal ones is kept.
 ghost use Rattle.std.specs.Prelude.{◌<◌, length};
 ghost use Rattle.std.specs.BTreeMap.{IsOrdered};
 ghost use Rattle.std.specs.BTreeSet.{IsOrdered as AreOrdered};
@@ -10,7 +10,7 @@ use std::alloc::{AllocError, Global};
 use std::collections::{BTreeMap, BTreeSet, HashMap, HashSet};
 use std::hash::{BuildHasher, Hash};
 
-/// Each key once, with the value of the last pair that has it.
+/// Makes a map with each key once, with the value of the last pair that has it.
 impl<K: Eq + Hash + Drop, V: Drop, S: BuildHasher + Default + Drop> FromNonEmptyIterator<(K, V)>
     for HashMap<K, V, S> {
     ghost collected = { λ xs m. IsMapOf K.eq xs m.entries × (0 < length m.entries) };
@@ -23,7 +23,8 @@ impl<K: Eq + Hash + Drop, V: Drop, S: BuildHasher + Default + Drop> FromNonEmpty
     }
 }
 
-/// Each key once, with the value of the last pair that has it; the keys ascend.
+/// Makes a map with each key once, with the value of the last pair that has it. The keys are in
+/// ascending order.
 impl<K: Ord + Drop, V: Drop> FromNonEmptyIterator<(K, V)> for BTreeMap<K, V> {
     ghost collected = { λ xs m. IsMapOf K.eq xs m.entries × IsOrdered K.cmp m
         × (0 < length m.entries) };
@@ -36,7 +37,7 @@ impl<K: Ord + Drop, V: Drop> FromNonEmptyIterator<(K, V)> for BTreeMap<K, V> {
     }
 }
 
-/// Each item once.
+/// Makes a set with each item once.
 impl<T: Eq + Hash + Drop, S: BuildHasher + Default + Drop> FromNonEmptyIterator<T>
     for HashSet<T, S> {
     ghost collected = { λ xs s. IsSetOf T.eq xs s.keys × (0 < length s.keys) };
@@ -49,7 +50,7 @@ impl<T: Eq + Hash + Drop, S: BuildHasher + Default + Drop> FromNonEmptyIterator<
     }
 }
 
-/// Each item once; the items ascend.
+/// Makes a set with each item once. The items are in ascending order.
 impl<T: Ord + Drop> FromNonEmptyIterator<T> for BTreeSet<T> {
     ghost collected = { λ xs s. IsSetOf T.eq xs s.keys × AreOrdered T.cmp s × (0 < length s.keys) };
 

@@ -1,4 +1,4 @@
-//! Collecting into texts and paths. A text is the list of its bytes.
+//! Collecting into texts and paths. In contracts a text is the list of its bytes.
 ghost use Rattle.std.specs.Prelude.{◌≡◌, [], IfSome};
 ghost use Rattle.std.specs.Char.{encode_utf8};
 ghost use Rattle.std.specs.Cow.{cow_str_bytes};
@@ -12,7 +12,7 @@ use std::alloc::{AllocError, Global};
 use std::borrow::CowStr;
 use std::path::{AsPath, PathBuf};
 
-/// The texts joined, in order.
+/// Makes a text of the texts joined in order.
 impl FromNonEmptyIterator<String> for String {
     ghost collected = { λ xs s. string_bytes s ≡ flat_map string_bytes xs };
 
@@ -24,7 +24,7 @@ impl FromNonEmptyIterator<String> for String {
     }
 }
 
-/// The texts joined, in order.
+/// Makes a text of the texts joined in order.
 impl<'a> FromNonEmptyIterator<&'a str> for String {
     ghost collected = { λ xs s. string_bytes s ≡ flat_map (λ x. x.now) xs };
 
@@ -36,7 +36,7 @@ impl<'a> FromNonEmptyIterator<&'a str> for String {
     }
 }
 
-/// The texts joined, in order, borrowed and owned ones alike.
+/// Makes a text of the texts joined in order, whether they are borrowed or owned.
 impl<'a> FromNonEmptyIterator<CowStr<'a>> for String {
     ghost collected = { λ xs s. string_bytes s ≡ flat_map cow_str_bytes xs };
 
@@ -48,7 +48,7 @@ impl<'a> FromNonEmptyIterator<CowStr<'a>> for String {
     }
 }
 
-/// The characters, in order.
+/// Makes a text of the characters in order.
 impl FromNonEmptyIterator<char> for String {
     ghost collected = { λ xs s. string_bytes s ≡ encode_utf8_all xs };
 
@@ -60,7 +60,7 @@ impl FromNonEmptyIterator<char> for String {
     }
 }
 
-/// The characters, in order.
+/// Makes a text of the characters in order.
 impl<'a> FromNonEmptyIterator<&'a char> for String {
     ghost collected = { λ xs s. string_bytes s ≡ flat_map (λ x. encode_utf8 x.now) xs };
 
@@ -72,10 +72,11 @@ impl<'a> FromNonEmptyIterator<&'a char> for String {
     }
 }
 
-/// The path that is empty, with each part pushed in turn: an absolute part takes the place of what
-/// came before it.
+/// Makes a path: the empty path, with each part pushed in turn. An absolute part replaces what came
+/// before it.
 ///
-/// It is said of parts whose text is known, as that of each of the standard library's is.
+/// The contract covers parts whose text is known, as it is for each of the standard library's
+/// types.
 impl<P: AsPath> FromNonEmptyIterator<P> for PathBuf {
     ghost collected = { λ xs p. IfSome (path_join_all P.path_text [] xs)
         (λ joined. path_buf_bytes p ≡ joined) };
