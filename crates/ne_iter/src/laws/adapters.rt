@@ -1,7 +1,8 @@
-//! What each adapter gives where its source gives a list, by the adapter's clause `gives`.
+//! Laws about the adapters: what each gives if its source gives a list, by the adapter's clause
+//! `gives`.
 //!
 //! Each law takes the source, and the closure, by reference, since their types may have no name:
-//! `list_of_map(&source, &f)` and then `source.map(f)`.
+//! first `list_of_map(&source, &f)`, then `source.map(f)`.
 ghost use Rattle.std.specs.Prelude.{◌≡◌, ◌++◌, [], ℕ, Bool, true, List, Option, Result, Ok, length};
 ghost use Rattle.std.specs.Prelude.{map, take};
 ghost use Rattle.std.specs.Borrow.{Bor};
@@ -23,8 +24,8 @@ use crate::iter::{
 use ne_vec::laws;
 use std::alloc::AllocError;
 
-/// `map` gives the function's values at the items of its source, in order, where its closure acts
-/// as a function.
+/// If its closure acts as a function, `map` gives the function's values at the items of its source,
+/// in order.
 pub fn list_of_map<S: IntoIterator, B, F: FnMut(S::Item) -> B>(source: &S, f: &F)
     ensures { (mapped : _) (h : S.Item → B) (xs : List S.Item)
         → MapGives (⟦<S as SourceWords>⟧.reads) (⟦<Map<S, F> as SourceWords>⟧.reads) F.FnMut
@@ -33,8 +34,8 @@ pub fn list_of_map<S: IntoIterator, B, F: FnMut(S::Item) -> B>(source: &S, f: &F
         → GivesList (⟦<Map<S, F> as SourceWords>⟧.reads) mapped (map h xs) }
 {}
 
-/// `map` over references gives the function's values at what they show, in order, where its
-/// closure acts as a function of that.
+/// If its closure acts as a function of the referenced item, `map` over references gives the
+/// function's values at the referenced items, in order.
 pub fn list_of_map_of_references<'a, T: 'a, S: IntoIterator<Item = &'a T>, B, F: FnMut(&'a T) -> B>(
     source: &S,
     f: &F,
@@ -46,7 +47,7 @@ pub fn list_of_map_of_references<'a, T: 'a, S: IntoIterator<Item = &'a T>, B, F:
         → GivesList (⟦<Map<S, F> as SourceWords>⟧.reads) mapped (map h xs) }
 {}
 
-/// `copied` gives what the references of its source show, in order.
+/// `copied` gives the items that its source references, in order.
 pub fn list_of_copied<'a, T: Copy + 'a, S: IntoIterator<Item = &'a T>>(source: &S)
     ensures { (copied : _) (xs : List T)
         → CopiedGives (⟦<S as SourceWords>⟧.reads) (⟦<Copied<S> as SourceWords>⟧.reads) source.now
@@ -55,8 +56,8 @@ pub fn list_of_copied<'a, T: Copy + 'a, S: IntoIterator<Item = &'a T>>(source: &
         → GivesList (⟦<Copied<S> as SourceWords>⟧.reads) copied xs }
 {}
 
-/// `cloned` gives what the references of its source show, each in `Ok`, where no clone can be
-/// refused and each equals its original.
+/// `cloned` gives the items that its source references, each in `Ok`, if no clone can fail and each
+/// clone equals its original.
 pub fn list_of_cloned<'a, T: Clone + 'a, S: IntoIterator<Item = &'a T>>(source: &S)
     ensures { (cloned : _) (xs : List T)
         → ClonedGives (⟦<S as SourceWords>⟧.reads) (TriesClone T.is_clone T.is_infallible)
@@ -66,7 +67,7 @@ pub fn list_of_cloned<'a, T: Clone + 'a, S: IntoIterator<Item = &'a T>>(source: 
         → GivesList (⟦<Cloned<S> as SourceWords>⟧.reads) cloned (map Ok xs) }
 {}
 
-/// `enumerate` gives each item of its source with its place before it, from 0.
+/// `enumerate` gives pairs of an index, from 0, and the item of its source at that index.
 pub fn list_of_enumerate<S: IntoIterator>(source: &S)
     ensures { (numbered : _) (xs : List S.Item)
         → EnumerateGives (⟦<S as SourceWords>⟧.reads) (⟦<Enumerate<S> as SourceWords>⟧.reads)
@@ -75,7 +76,7 @@ pub fn list_of_enumerate<S: IntoIterator>(source: &S)
         → GivesList (⟦<Enumerate<S> as SourceWords>⟧.reads) numbered (enumerate_from 0 xs) }
 {}
 
-/// `take` gives the first `n` items of its source, or all where there are no more.
+/// `take` gives the first `n` items of its source, or all items if there are fewer.
 pub fn list_of_take<S: IntoIterator>(source: &S)
     ensures { (taken : _) (n : ℕ) (xs : List S.Item)
         → TakeGives (⟦<S as SourceWords>⟧.reads) (⟦<Take<S> as SourceWords>⟧.reads) n source.now
@@ -93,8 +94,8 @@ pub fn list_of_take_of_references<'a, T: 'a, S: IntoIterator<Item = &'a T>>(sour
         → ShowsList (⟦<Take<S> as SourceWords>⟧.reads) taken (take n xs) }
 {}
 
-/// `chain` gives the items of its first source, and then those of the second, which may be one of
-/// std's.
+/// `chain` gives the items of its first source, followed by those of the second, which may be one
+/// of std's.
 pub fn list_of_chain<S: IntoIterator, U: IntoIterator<Item = S::Item>>(source: &S, other: &U)
     ensures { (chained : _) (xs ys : List S.Item)
         → ChainGives (⟦<S as SourceWords>⟧.reads) (⟦<U as SourceWords>⟧.reads)
@@ -104,7 +105,7 @@ pub fn list_of_chain<S: IntoIterator, U: IntoIterator<Item = S::Item>>(source: &
         → GivesList (⟦<Chain<S, U> as SourceWords>⟧.reads) chained (xs ++ ys) }
 {}
 
-/// `chain` over references shows what its first source shows, and then what the second does.
+/// `chain` over references shows the items of its first source, followed by those of the second.
 pub fn list_of_chain_of_references<
     'a,
     T: 'a,
@@ -131,8 +132,9 @@ where
         → GivesList (⟦<Zip<S, U> as SourceWords>⟧.reads) zipped (zip xs ys) }
 {}
 
-/// `flat_map` gives the lists of its closure's answers, one after another, where the closure acts
-/// as a function, and its answer at each item of the source gives the list that `lists` names.
+/// `flat_map` gives the lists of what its closure returns, one after another, if the closure acts
+/// as a function, and for each item of the source it returns a source that gives the list that
+/// `lists` names.
 pub fn list_of_flat_map<S: IntoIterator, U: IntoNonEmptyIterator, F: FnMut(S::Item) -> U>(
     source: &S,
     f: &F,
@@ -147,8 +149,8 @@ pub fn list_of_flat_map<S: IntoIterator, U: IntoNonEmptyIterator, F: FnMut(S::It
         → GivesList (⟦<FlatMap<S, U, F> as SourceWords>⟧.reads) spread (flat_map lists xs) }
 {}
 
-/// `flatten` gives the lists of the items of its source, one after another, where each of them
-/// gives the list that `lists` names.
+/// `flatten` gives the lists of the items of its source, one after another, if each item gives the
+/// list that `lists` names.
 pub fn list_of_flatten<U: IntoNonEmptyIterator, S: IntoIterator<Item = U>>(source: &S)
     ensures { (flat : _) (lists : U → List U.Item) (us : List U)
         → FlattenGives (⟦<S as SourceWords>⟧.reads) (⟦<U as SourceWords>⟧.reads)
@@ -158,8 +160,8 @@ pub fn list_of_flatten<U: IntoNonEmptyIterator, S: IntoIterator<Item = U>>(sourc
         → GivesList (⟦<Flatten<S> as SourceWords>⟧.reads) flat (flat_map lists us) }
 {}
 
-/// `scan` gives what std's `scan` of lists does, where its closure acts as a function of the state
-/// and the item: `next` is the state that it leaves, and `out` its answer.
+/// `scan` gives what std's `scan` of lists gives, if its closure acts as a function of the state
+/// and the item: `next` is the state that it leaves, and `out` is what it returns.
 pub fn list_of_scan<St: Drop, S: IntoIterator, B, F: FnMut(&mut St, S::Item) -> B>(
     source: &S,
     f: &F,
@@ -173,8 +175,8 @@ pub fn list_of_scan<St: Drop, S: IntoIterator, B, F: FnMut(&mut St, S::Item) -> 
         → GivesList (⟦<Scan<S, St, F> as SourceWords>⟧.reads) scanned (scan next out init xs) }
 {}
 
-/// `peekable` gives the items of its source; and where `w` was written to the first one, the same
-/// with `w` in its place.
+/// `peekable` gives the items of its source. If `w` was written to the first item, it gives the
+/// same items with `w` in place of the first.
 pub fn list_of_peekable<S: IntoIterator>(source: &S)
 where
     S::Item: Drop,
@@ -194,7 +196,7 @@ where
 {}
 
 /// `intersperse` gives the items of its source with the separator between each two, each in `Ok`,
-/// where no clone of the separator can be refused and each equals it.
+/// if no clone of the separator can fail and each clone equals it.
 ///
 /// `V` is the type that `intersperse` of an `S` returns.
 pub fn list_of_intersperse<S: IntoIterator, V: IntoIterator<Item = Result<S::Item, AllocError>>>(
@@ -212,9 +214,9 @@ where
         → GivesList (⟦<V as SourceWords>⟧.reads) spaced (map Ok (interspersed separator xs)) }
 {}
 
-/// `group_by` gives the first runs of its source's list by the keys, as long as no run is refused,
-/// and all of them at its end, where the closure acts as a function: they are the one division of
-/// the list in which an item goes on a run while its key equals that of the run's first item.
+/// If its closure acts as a function, `group_by` gives the first runs of its source's list by the
+/// keys, as long as no run fails, and all runs at its end. They are the one division of the list in
+/// which an item continues a run if its key equals the key of the run's first item.
 pub fn runs_of_group_by<K: PartialEq + Drop, S: IntoIterator, F: FnMut(&S::Item) -> K + Drop>(
     source: &S,
     f: &F,

@@ -1,4 +1,4 @@
-//! What is collected, and lists with separators.
+//! Laws about collecting, and about lists with separators.
 ghost use Rattle.std.specs.Prelude.{◌≡◌, ◌+◌, ◌-◌, ◌*◌, ℕ, true, List, [], ◌∷◌, ◌++◌, Option, Some};
 ghost use Rattle.std.specs.Prelude.{Result, Ok, Err, is_ok, MatchResult, IsSomeAnd, IfOk, length};
 ghost use Rattle.std.specs.Prelude.{map, slice_get};
@@ -10,8 +10,8 @@ use crate::iter::{FromNonEmptyIterator, SourceWords};
 use ne_vec::NEVec;
 use std::alloc::AllocError;
 
-/// A vector that was collected from results holds the values, where all are `Ok`; else the first
-/// `Err` came last.
+/// A vector collected from results holds the values if all results are `Ok`; otherwise the first
+/// `Err` is returned, and it came last.
 pub fn results_make_a_vector<T: Drop, E: Drop>()
     ensures { (items : List (Result T E)) (result : Result (List T) E)
         → ⟦<Result<NEVec<T>, E> as FromNonEmptyIterator<Result<T, E>>>⟧.collected items result
@@ -19,8 +19,8 @@ pub fn results_make_a_vector<T: Drop, E: Drop>()
         (λ e. (values : List T) × (items ≡ map Ok values ++ Err e ∷ [])) }
 {}
 
-/// Where a source of results was collected into `Ok` of a vector, it gave the vector's items, each
-/// in `Ok`, and ended. What stands before the last arrow is the clause `gives` of `collect`.
+/// If a source of results was collected into `Ok` of a vector, it gave the items of the vector,
+/// each in `Ok`, and ended. What is before the last arrow is the clause `gives` of `collect`.
 pub fn results_are_read_whole<T: Drop, E: Drop, S: IntoIterator<Item = Result<T, E>>>()
     ensures { (source : S) (result : Result (List T) E)
         → (items : List (Result T E)) × ⟦<S as SourceWords>⟧.reads (is_ok result) source items
@@ -30,8 +30,9 @@ pub fn results_are_read_whole<T: Drop, E: Drop, S: IntoIterator<Item = Result<T,
     results_make_a_vector::<T, E>();
 }
 
-/// The items xs with separators: where no clone was refused, one less than twice as many; item i at
-/// place 2i, in `Ok`, what came of a clone at each odd place, and an `Err` at the last place alone.
+/// The items xs with separators: item i is at place 2i, in `Ok`; at each odd place is the result of
+/// a clone; an `Err` can only be at the last place. If no clone failed, the length is one less than
+/// twice the number of items.
 pub fn interspersed_lists_have_their_places<T: Clone>()
     ensures count { (separator : T) (xs : List T) (zs : List (Result T AllocError))
         → Interspersed (TriesClone T.is_clone T.is_infallible separator) xs zs
@@ -50,9 +51,8 @@ pub fn interspersed_lists_have_their_places<T: Clone>()
         → length zs ≡ i + 1 }
 {}
 
-/// Items with a separator between each two, each of which stands for a list as a text for its
-/// bytes: these lists, one after the other, are std's `join` of the items. `f` gives the list of an
-/// item.
+/// If `f` gives the list that an item stands for, such as the bytes of a text, then the lists of
+/// the items with a separator between each two, one after the other, are std's `join` of the items.
 pub fn interspersed_lists_are_joined<T, X>()
     ensures { (f : T → List X) (separator : T) (xs : List T)
         → flat_map f (interspersed separator xs) ≡ join_by f (f separator) xs }

@@ -1,6 +1,6 @@
-//! That an adapter ends where its source does. `ends` says of a source that its items may be drawn
-//! one after another, and that they come to an end; an adapter that calls a closure asks besides
-//! that the closure may be called.
+//! Laws about when an adapter ends. `ends` says of a source that its items may be taken one after
+//! another, and that they come to an end. An adapter ends if its source does; an adapter that calls
+//! a closure also requires that the closure can be called.
 ghost use Rattle.std.specs.Prelude.{◌^◌, ◌<◌};
 ghost use Rattle.std.specs.Iterator.{CallableOnAllAt, CallableOnAll, IsFinite, size};
 ghost use Rattle.std.specs.Iterator.Runs.{CountFits};
@@ -17,7 +17,7 @@ use crate::iter::{
     Peekable, Scan, SourceWords, Take, Zip,
 };
 
-/// `map` ends where its source does, if its closure may be called at each item.
+/// `map` ends if its source does and its closure can be called with each item.
 pub fn map_ends<S: IntoIterator, B, F: FnMut(S::Item) -> B>()
     ensures { (mapped : _) → ⟦<S as SourceWords>⟧.ends (map_source mapped)
         → ((it : S.IntoIter) → S.into_iter_gives (map_source mapped) it
@@ -25,19 +25,19 @@ pub fn map_ends<S: IntoIterator, B, F: FnMut(S::Item) -> B>()
         → ⟦<Map<S, F> as SourceWords>⟧.ends mapped }
 {}
 
-/// `copied` ends where its source does.
+/// `copied` ends if its source does.
 pub fn copied_ends<'a, T: Copy + 'a, S: IntoIterator<Item = &'a T>>()
     ensures { (copied : _) → ⟦<S as SourceWords>⟧.ends (copied_source copied)
         → ⟦<Copied<S> as SourceWords>⟧.ends copied }
 {}
 
-/// `cloned` ends where its source does.
+/// `cloned` ends if its source does.
 pub fn cloned_ends<'a, T: Clone + 'a, S: IntoIterator<Item = &'a T>>()
     ensures { (cloned : _) → ⟦<S as SourceWords>⟧.ends (cloned_source cloned)
         → ⟦<Cloned<S> as SourceWords>⟧.ends cloned }
 {}
 
-/// `enumerate` ends where its source does, if the places fit.
+/// `enumerate` ends if its source does and the indices fit in a `usize`.
 pub fn enumerate_ends<S: IntoIterator>()
     ensures { (numbered : _) → ⟦<S as SourceWords>⟧.ends (enumerate_source numbered)
         → ((it : S.IntoIter) → S.into_iter_gives (enumerate_source numbered) it
@@ -45,20 +45,20 @@ pub fn enumerate_ends<S: IntoIterator>()
         → ⟦<Enumerate<S> as SourceWords>⟧.ends numbered }
 {}
 
-/// `take` ends if its first item may be drawn, whether its source ends or not.
+/// `take` ends if its first item may be taken, whether or not its source ends.
 pub fn take_ends<S: IntoIterator>()
     ensures { (taken : _) → ⟦<S as SourceWords>⟧.starts (take_source taken)
         → ⟦<Take<S> as SourceWords>⟧.ends taken }
 {}
 
-/// `chain` ends where both its sources do.
+/// `chain` ends if both its sources do.
 pub fn chain_ends<S: IntoIterator, U: IntoIterator<Item = S::Item>>()
     ensures { (chained : _) → ⟦<S as SourceWords>⟧.ends (chain_first chained)
         → ⟦<U as SourceWords>⟧.ends (chain_second chained)
         → ⟦<Chain<S, U> as SourceWords>⟧.ends chained }
 {}
 
-/// `zip` ends where both its sources do.
+/// `zip` ends if both its sources do.
 pub fn zip_ends<S: IntoIterator, U: IntoNonEmptyIterator>()
 where
     S::Item: Drop,
@@ -67,14 +67,14 @@ where
         → ⟦<Zip<S, U> as SourceWords>⟧.ends zipped }
 {}
 
-/// `scan` ends where its source does, if its closure may be called at every value.
+/// `scan` ends if its source does and its closure can be called with any value.
 pub fn scan_ends<St: Drop, S: IntoIterator, B, F: FnMut(&mut St, S::Item) -> B>()
     ensures { (scanned : _) → ⟦<S as SourceWords>⟧.ends (scan_source scanned)
         → F.IsAlwaysCallable (scan_callee scanned)
         → ⟦<Scan<S, St, F> as SourceWords>⟧.ends scanned }
 {}
 
-/// `group_by` ends where its source does, if its closure may be called at each item that comes.
+/// `group_by` ends if its source does and its closure can be called with each item that comes.
 pub fn group_by_ends<K: PartialEq + Drop, S: IntoIterator, F: FnMut(&S::Item) -> K + Drop>()
 where
     S::Item: Drop,
@@ -84,7 +84,7 @@ where
         → ⟦<NEGroupBy<S, F> as SourceWords>⟧.ends grouped }
 {}
 
-/// `flatten` ends where its source does and all sources of its items do.
+/// `flatten` ends if its source does and so do all inner sources.
 pub fn flatten_ends<U: IntoNonEmptyIterator, S: IntoIterator<Item = U>>()
     ensures { (flat : _) → ⟦<S as SourceWords>⟧.ends (flatten_source flat)
         → ((inner : U) (it : U.IntoIter) → U.into_iter_gives inner it
@@ -93,8 +93,8 @@ pub fn flatten_ends<U: IntoNonEmptyIterator, S: IntoIterator<Item = U>>()
         → ⟦<Flatten<S> as SourceWords>⟧.ends flat }
 {}
 
-/// `flat_map` ends where its source does and all sources that its closure may answer do, if the
-/// closure may be called at each item.
+/// `flat_map` ends if its source does, so do all sources that its closure may return, and the
+/// closure can be called with each item.
 pub fn flat_map_ends<S: IntoIterator, U: IntoNonEmptyIterator, F: FnMut(S::Item) -> U>()
     ensures { (spread : _) → ⟦<S as SourceWords>⟧.ends (flat_map_source spread)
         → ((it : S.IntoIter) → S.into_iter_gives (flat_map_source spread) it
@@ -105,8 +105,7 @@ pub fn flat_map_ends<S: IntoIterator, U: IntoNonEmptyIterator, F: FnMut(S::Item)
         → ⟦<FlatMap<S, U, F> as SourceWords>⟧.ends spread }
 {}
 
-/// `peekable` ends where its source does. What stands before the last arrow is its clause
-/// `drawn`.
+/// `peekable` ends if its source does. What is before the last arrow is its clause `drawn`.
 pub fn peekable_ends<S: IntoIterator>()
 where
     S::Item: Drop,
@@ -116,7 +115,7 @@ where
         → ⟦<Peekable<S::IntoIter> as SourceWords>⟧.ends peeked }
 {}
 
-/// The source of one item ends.
+/// A source of one item ends.
 pub fn once_ends<T: Drop>()
     ensures { (s : _) → ⟦<Once<T> as SourceWords>⟧.ends s }
 {}

@@ -1,13 +1,13 @@
-//! The first items of lists, by which a proof goes from what was read so far to a list function.
-//! `AreFirst whole xs us` says that `us` are the first of `xs`, and all of them where `whole` is
-//! true: it is what `GivesList` says of each list that is read.
+//! Laws about the first items of lists, for proofs that go from what was read so far to a list
+//! function. `AreFirst whole xs us` says that `us` are the first items of `xs`, and all of them if
+//! `whole` is true. `GivesList` says this of each list that is read.
 ghost use Rattle.std.specs.Prelude.{◌≡◌, ◌≤◌, ◌++◌, ◌||◌, ◌&&◌, ℕ, Bool, true, List, length, ltb};
 ghost use Rattle.std.specs.Prelude.{map, take};
 ghost use Rattle.std.specs.List.{enumerate_from};
 ghost use Rattle.ne_vec.specs.Fronts.{AreFirst};
 
-/// What list functions make of the first items of a list are the first items of what they make of
-/// the list; and the first items are the list, where they are all.
+/// What a list function makes of the first items of a list are the first items of what it makes of
+/// the list. If the first items are all items, they are the list.
 pub fn first_items_stay_first<A, B>()
     ensures all { (xs us : List A) → AreFirst true xs us → us ≡ xs }
     ensures mapped { (h : A → B) (whole : Bool) (xs us : List A) → AreFirst whole xs us

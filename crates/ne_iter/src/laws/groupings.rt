@@ -1,4 +1,4 @@
-//! What a grouping has read at any moment, and the runs of items with keys.
+//! Laws about what a grouping has read at any moment, and about the runs of items with keys.
 ghost use Rattle.std.specs.Prelude.{◌≡◌, ◌≢◌, Bool, List, [], ◌++◌, Option, Result};
 ghost use Rattle.std.specs.Iterator.{ActsAsAt, Drains};
 ghost use Rattle.std.specs.List.{AllByRecursion, FoldsTo};
@@ -11,12 +11,11 @@ ghost use Rattle.ne_iter.specs.Grouping.{Grouping, Unread};
 use ne_vec::laws;
 use std::alloc::AllocError;
 
-/// A grouping has read as its contract says, whatever calls of its `next` were made: it
-/// answered runs, and then it may have answered `None` or an `Err`, and nothing but `None` after
-/// it.
+/// After any calls of its `next`, a grouping has read what its contract says. It has returned runs,
+/// then possibly `None` or an `Err`, and only `None` after that.
 ///
-/// `HasRead s f rs g` says that it began with the source `s` and the closure `f`, answered the runs
-/// `rs`, and now is `g`.
+/// `HasRead s f rs g` says that the grouping began with the source `s` and the closure `f`, has
+/// returned the runs `rs`, and is now `g`.
 pub fn groupings_stand_at_any_moment<I: Iterator, K: PartialEq, F: FnMut(&I::Item) -> K>()
     ensures fresh { (g : Grouping I K I.Item F) → g.ahead ≡ Unread
         → HasRead I.next_gives F.FnMut K.eq g.source g.closure [] g }
@@ -27,8 +26,8 @@ pub fn groupings_stand_at_any_moment<I: Iterator, K: PartialEq, F: FnMut(&I::Ite
         → AnswersOn I.next_gives F.FnMut K.eq s f done answers h }
 {}
 
-/// A grouping that has nothing ahead has drawn all that its source gave, and answered the runs of
-/// that.
+/// A grouping that has nothing ahead has taken everything that its source gave, and has returned
+/// the runs of that.
 pub fn whole_reading_gives_the_division<I: Iterator, K: PartialEq, F: FnMut(&I::Item) -> K>()
     ensures { (s : I) (f : F) (rs : List (List I.Item)) (g : Grouping I K I.Item F)
         → HasRead I.next_gives F.FnMut K.eq s f rs g → IsOver g
@@ -36,8 +35,8 @@ pub fn whole_reading_gives_the_division<I: Iterator, K: PartialEq, F: FnMut(&I::
         × ShownEach F.FnMut f ps g.closure × DividesByKey K.eq ps rs }
 {}
 
-/// A grouping may be stopped at any moment: whatever items come behind those that it has drawn, and
-/// whatever keys they get, the runs that it has answered are the first runs of them all.
+/// A grouping may be stopped at any moment: whatever items come after those that it has taken, and
+/// whatever keys they have, the runs that it has returned are the first runs of all items.
 pub fn stopped_grouping_has_the_first_runs<I: Iterator, K: PartialEq, F: FnMut(&I::Item) -> K>()
     ensures { (s : I) (f : F) (rs : List (List I.Item)) (g : Grouping I K I.Item F)
         (read : HasRead I.next_gives F.FnMut K.eq s f rs g)
@@ -49,8 +48,8 @@ pub fn stopped_grouping_has_the_first_runs<I: Iterator, K: PartialEq, F: FnMut(&
     laws::longer_list_keeps_runs::<(I::Item, K)>();
 }
 
-/// Items with keys have exactly one division by them. One after another its runs are the items, and
-/// no run is empty.
+/// Items with keys have exactly one division by their keys. One after another its runs are the
+/// items, and no run is empty.
 pub fn runs_make_the_whole<T, K>()
     ensures exists { (eq : K → K → Bool) (ps : List (T × K))
         → (rs : List (List T)) × DividesByKey eq ps rs }
@@ -64,7 +63,7 @@ pub fn runs_make_the_whole<T, K>()
     laws::has_one_division::<(T, K)>();
 }
 
-/// Where the closure acts as a function, the runs are those of the items by the function's values.
+/// If the closure acts as a function, the runs are those of the items by the function's values.
 pub fn runs_by_a_function<T, K, F: FnMut(&T) -> K>(f: &F)
     ensures { (eq : K → K → Bool) (h : T → K) (ps : List (T × K)) (rs : List (List T)) (g : F)
         → ActsAsAt F.FnMut f.now h → ShownEach F.FnMut f.now ps g → DividesByKey eq ps rs
@@ -75,9 +74,9 @@ pub fn runs_by_a_function<T, K, F: FnMut(&T) -> K>(f: &F)
     laws::mapped_list_has_the_mapped_runs::<T, (T, K)>();
 }
 
-/// Runs by the keys that a function gives are the division of the items by these keys, each
-/// compared with that of its run's first item. Callers of `group_by` that know the first of its
-/// runs, by `IsDividedBy`, call this law for what a division says of its parts.
+/// Runs by the keys that a function gives are the division of the items by these keys, where each
+/// key is compared with the key of its run's first item. Callers of `group_by` that know the
+/// former, by `IsDividedBy`, call this law for what a division says about its parts.
 pub fn runs_by_keys_are_the_division<T, K>()
     ensures { (eq : K → K → Bool) (h : T → K) (xs : List T) (rs : List (List T))
         → IsDividedBy h eq xs rs → IsDivision (by_first (λ x y. eq (h x) (h y))) xs rs }

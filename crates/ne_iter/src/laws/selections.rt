@@ -1,6 +1,6 @@
-//! What the methods that answer std's iterators give where their source gives a list: these may
-//! have no item. Each is stated of the method's clause `gives`, and takes the source, and the
-//! closure, by reference.
+//! Laws about the methods that return std's iterators, which may have no items: what each gives if
+//! its source gives a list. Each law uses the method's clause `gives`, and takes the source, and
+//! the closure, by reference.
 ghost use Rattle.std.specs.Prelude.{◌≡◌, ℕ, Bool, List, Option, drop, filter, filter_map};
 ghost use Rattle.std.specs.Iterator.{ActsAs, ActsAsAt};
 ghost use Rattle.std.specs.List.{prefix_len, take_while};
@@ -10,7 +10,7 @@ ghost use Rattle.ne_iter.specs.Gives.{SkipWhileGives, TakeWhileGives};
 use crate::iter::SourceWords;
 use std::iter;
 
-/// `filter` gives the items of its source that pass, in order, where its closure acts as a test.
+/// If its closure acts as a test, `filter` gives the items of its source that pass, in order.
 pub fn list_of_filter<S: IntoIterator, P: FnMut(&S::Item) -> bool>(source: &S, predicate: &P)
 where
     S::Item: Drop,
@@ -22,8 +22,8 @@ where
         → GivesList (⟦<iter::Filter<S::IntoIter, P> as SourceWords>⟧.reads) kept (filter test xs) }
 {}
 
-/// `filter_map` gives the values among the function's answers at the items of its source, in
-/// order, where its closure acts as a function.
+/// If its closure acts as a function, `filter_map` gives the values that the function has in `Some`
+/// at the items of its source, in order.
 pub fn list_of_filter_map<S: IntoIterator, B, F: FnMut(S::Item) -> Option<B>>(source: &S, f: &F)
     ensures { (kept : _) (h : S.Item → Option B) (xs : List S.Item)
         → FilterMapGives (⟦<S as SourceWords>⟧.reads)
@@ -44,8 +44,8 @@ where
         → GivesList (⟦<iter::Skip<S::IntoIter> as SourceWords>⟧.reads) left (drop n xs) }
 {}
 
-/// `skip_while` gives the items of its source from the first one on that does not pass, where its
-/// closure acts as a test. `prefix_len test xs` is how many items pass before that one.
+/// If its closure acts as a test, `skip_while` gives the items of its source from the first one
+/// that doesn't pass. `prefix_len test xs` is the number of items before that one.
 pub fn list_of_skip_while<S: IntoIterator, P: FnMut(&S::Item) -> bool>(source: &S, pred: &P)
 where
     S::Item: Drop,
@@ -57,8 +57,8 @@ where
         (drop (prefix_len test xs) xs) }
 {}
 
-/// `take_while` gives the items of its source before the first one that does not pass, where its
-/// closure acts as a test.
+/// If its closure acts as a test, `take_while` gives the items of its source before the first one
+/// that doesn't pass.
 pub fn list_of_take_while<S: IntoIterator, P: FnMut(&S::Item) -> bool>(source: &S, pred: &P)
 where
     S::Item: Drop,

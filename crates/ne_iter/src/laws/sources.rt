@@ -1,4 +1,4 @@
-//! What sources give: the laws of the traits, and the list of each kind of source.
+//! Laws about what sources give: the laws of the traits, and the list of each kind of source.
 ghost use Rattle.std.specs.Prelude.{◌≡◌, ◌<◌, ◌++◌, Bool, true, List, [], ◌∷◌, Option, Some, None};
 ghost use Rattle.std.specs.Prelude.{length, map, Vec};
 ghost use Rattle.std.specs.Global.{Global};
@@ -19,19 +19,20 @@ use crate::iter::{IntoNonEmptyIterator, NonEmptyIterAdapter, NonEmptyIterator, O
 use ne_vec::{NESlice, NEVec, laws, slice, vector};
 use std::iter;
 
-/// A source that gives at least one item never gives the empty list, whatever its type.
+/// A `NonEmptyIterator` never gives the empty list.
 pub fn no_list_is_empty<S: NonEmptyIterator>()
     ensures { (source : S) (xs : List S.Item) → ⟦<S as SourceWords>⟧.reads true source xs
         → 0 < length xs }
 {}
 
-/// Nor does what becomes one.
+/// A value that becomes a `NonEmptyIterator` never gives the empty list.
 pub fn no_list_becomes_empty<S: IntoNonEmptyIterator>()
     ensures { (source : S) (xs : List S.Item) → ⟦<S as SourceWords>⟧.reads true source xs
         → 0 < length xs }
 {}
 
-/// What becomes a source may itself give the lists that this source may give, and no others.
+/// A value that becomes a source may itself give the lists that this source may give, and no
+/// others.
 pub fn lists_stay_the_same<S: IntoNonEmptyIterator>()
     ensures there { (value : S) (whole : Bool) (xs : List S.Item)
         → ⟦<S as SourceWords>⟧.reads whole value xs
@@ -60,14 +61,14 @@ pub fn slices_show_their_items<'a, T: 'a>()
     ensures walk { (s : List T) → ShowsList (⟦<slice::Iter<'a, T> as SourceWords>⟧.reads) s s }
 {}
 
-/// Chunks are given in order.
+/// A source of chunks gives its chunks, in order.
 pub fn chunks_give_themselves<'a, T: 'a>()
     ensures { (c : List (List T)) → GivesList (⟦<slice::NEChunks<'a, T> as SourceWords>⟧.reads) c
         c }
 {}
 
-/// The runs of a slice are its one division under the test that the closure acts as: by the first
-/// item of a run for `runs_by`, and by the previous item for `adjacent_runs`.
+/// The runs of a slice are its one division by the test that the closure acts as: compared with the
+/// first item of the run for `runs_by`, and with the previous item for `adjacent_runs`.
 pub fn slice_runs_are_the_division<'a, T: 'a, F: Fn(&T, &T) -> bool>()
     ensures by_first { (s : Cutting T F) (same : T → T → Bool)
         → ActsAsAtPair F.Fn s.closure same
@@ -97,9 +98,9 @@ pub fn std_vectors_give_their_items<T: Drop>()
     ensures { (v : Vec T Global) → GivesList (⟦<Vec<T> as SourceWords>⟧.reads) v v.items }
 {}
 
-/// A source whose iterator shows what it has left gives that and nothing else.
+/// If an iterator shows what it has left, its source gives that and nothing else.
 ///
-/// `left` is the list that an iterator has left: an item that comes was its first, and where none
+/// `left` is the list that an iterator has left: an item that comes was its first, and if none
 /// comes it is empty.
 pub fn sources_give_what_is_left<S: IntoIterator>()
     ensures { (left : S.IntoIter → List S.Item)
@@ -111,7 +112,8 @@ pub fn sources_give_what_is_left<S: IntoIterator>()
         → GivesList (⟦<S as SourceWords>⟧.reads) source xs }
 {}
 
-/// The same of a source of references: `left` is the list of what they show.
+/// If an iterator over references shows what it has left, its source shows that and nothing else.
+/// `left` is the list of the referenced items.
 pub fn sources_show_what_is_left<'a, T: 'a, S: IntoIterator<Item = &'a T>>()
     ensures { (left : S.IntoIter → List T)
         → ((it rest : S.IntoIter) (x : Bor T) → S.IntoIter.next_gives it (Some x) rest
@@ -122,7 +124,8 @@ pub fn sources_show_what_is_left<'a, T: 'a, S: IntoIterator<Item = &'a T>>()
         → ShowsList (⟦<S as SourceWords>⟧.reads) source xs }
 {}
 
-/// A walk for writing shows the items that it has before it, as they are when they are lent.
+/// A mutable iterator shows the items that it has left, with the values that they have when they
+/// are borrowed.
 pub fn writing_walks_show_their_items<'a, T: 'a>()
     ensures { (walk : _) (whole : Bool) (ys : List (MutBor T))
         → ⟦<vector::IterMut<'a, T> as SourceWords>⟧.reads whole walk ys
@@ -130,13 +133,13 @@ pub fn writing_walks_show_their_items<'a, T: 'a>()
         × (whole ≡ true → more ≡ []) }
 {}
 
-/// The source of one item gives that item.
+/// A source of one item gives that item.
 pub fn once_gives_its_item<T: Drop>()
     ensures { (s : _) → GivesList (⟦<Once<T> as SourceWords>⟧.reads) s (once_item s ∷ []) }
 {}
 
-/// What `try_into_nonempty_iter` makes of a source gives the source's list; `None` comes only where
-/// that list is empty.
+/// The source that `try_into_nonempty_iter` returns gives the list of the original source; it
+/// returns `None` only if that list is empty.
 pub fn looked_sources_give_their_list<S: IntoIterator>(source: &S)
 where
     S::Item: Drop,
@@ -153,15 +156,15 @@ where
         → GivesList (⟦<S as SourceWords>⟧.reads) source.now xs → xs ≡ [] }
 {}
 
-/// What is read of a source to its end is the source's list, where it gives one.
+/// If a source gives a list, then what is read from it to the end is that list.
 pub fn lists_are_read_whole<S: IntoIterator>(source: &S)
     ensures { (xs ys : List S.Item) → GivesList (⟦<S as SourceWords>⟧.reads) source.now xs
         → ⟦<S as SourceWords>⟧.reads true source.now ys → ys ≡ xs }
 {}
 
-/// A source gives a list exactly if `Lists` holds of it, the word by which the clauses `lists` of
-/// adapters and consumers speak of lists; `GivesItems` says besides what follows for a run of its
-/// iterator: a whole one has the list's items.
+/// A source gives a list if and only if `Lists` holds for it; the clauses `lists` of adapters and
+/// consumers use `Lists`. `GivesItems` adds what follows for a run of its iterator: a whole run has
+/// the items of the list.
 pub fn lists_of_iterators<S: IntoIterator>(source: &S)
     ensures items { (xs : List S.Item) → GivesList (⟦<S as SourceWords>⟧.reads) source.now xs
         → GivesItems S.into_iter_gives S.IntoIter.next_gives source.now xs }
@@ -170,7 +173,7 @@ pub fn lists_of_iterators<S: IntoIterator>(source: &S)
         → GivesList (⟦<S as SourceWords>⟧.reads) source.now xs }
 {}
 
-/// Where each source of a kind gives the list that `lists` names, what was read of the first of
+/// If each source of a type gives the list that `lists` names, then what was read from the first of
 /// the sources `all`, one after another, are the first items of all their lists.
 pub fn lists_follow_one_another<U: IntoIterator>()
     ensures { (lists : U → List U.Item)
