@@ -1,12 +1,12 @@
--- The calls of a closure on the items of a list, one after the other, and its answers. A closure
--- may have state, so each call leaves it as it may be at the next.
+-- The calls of a closure with the items of a list, one after the other, and what they return. A
+-- closure may have state, so each call takes it as the call before left it.
 use Rattle.std.specs.Prelude.{◌≡◌, List, [], ◌∷◌}
 use Rattle.std.specs.Iterator.{FoldTurn}
 use Rattle.std.specs.Fn.{Called, CalledAt, CalledWithState, Mut}
 use Rattle.std.specs.List.{FoldsTo}
 use Rattle.std.specs.Borrow.{Bor, MutBor}
 
--- f, called on the items of xs, may answer ys, and then stands as g.
+-- f, called with the items of xs, may return ys, and is then g.
 abbrev pub Calls : {F A B : Type 0} → Mut F (A × Unit {0}) B → F → List A → List B → F → Type 0
 Calls calls f [] [] g = f ≡ g
 Calls calls f [] (y ∷ ys) g = ⊥
@@ -14,26 +14,26 @@ Calls calls f (x ∷ xs) [] g = ⊥
 Calls {F = F} calls f (x ∷ xs) (y ∷ ys) g = (h : F) × Called calls f (x, tt) y h
     × Calls calls h xs ys g
 
--- f, shown the items of ps, may answer the second parts of ps, and then stands as g.
+-- f, called with references to the items of ps, may return the second parts of ps, and is then g.
 abbrev pub ShownEach : {F A B : Type 0} → Mut F (Bor A × Unit {0}) B → F → List (A × B) → F → Type 0
 ShownEach calls f ps g = FoldsTo (λ p x q. CalledAt calls p x.0 x.1 q) f ps g
 
--- f, called on the items of xs, may answer y each time, and then stands as g.
+-- f, called with the items of xs, may return y each time, and is then g.
 abbrev pub AnswersEach : {F A B : Type 0} → Mut F (A × Unit {0}) B → B → F → List A → F → Type 0
 AnswersEach calls y f xs g = FoldsTo (λ p x q. Called calls p (x, tt) y q) f xs g
 
--- f, shown the items of xs, may answer y each time, and then stands as g.
+-- f, called with references to the items of xs, may return y each time, and is then g.
 abbrev pub AnswersEachAt : {F A B : Type 0} → Mut F (Bor A × Unit {0}) B → B → F → List A → F
     → Type 0
 AnswersEachAt calls y f xs g = FoldsTo (λ p x q. CalledAt calls p x y q) f xs g
 
--- f, called on the total so far and the next item of xs, may take the total from init to r, and
--- then stands as g.
+-- f, called with the total so far and the next item of xs, may take the total from init to r, and
+-- is then g.
 abbrev pub Folds : {F A B : Type 0} → Mut F (B × (A × Unit {0})) B → F → B → List A → B → F → Type 0
 Folds {F = F} {B = B} calls f init xs r g = FoldsTo {P = F × B} (FoldTurn calls) (f, init) xs (g, r)
 
--- The same of a closure that is lent a state: f, lent the state s at the first call and at each
--- later one as the call before left it, may return ys, and then stands as g and leaves the state t.
+-- f, called with the items of xs and a `&mut` to a state, may return ys, and is then g. The state
+-- is s at the first call, at each later call what the call before left, and t at the end.
 abbrev pub CallsWithState : {F S A B : Type 0}
     → Mut F (MutBor S × (A × Unit {0})) (B × (MutBor S × Unit {0}))
     → F → S → List A → List B → F → S → Type 0
@@ -43,8 +43,8 @@ CallsWithState calls f s (x ∷ xs) [] g t = ⊥
 CallsWithState {F} {S} calls f s (x ∷ xs) (y ∷ ys) g t =
     (h : F) × (u : S) × CalledWithState calls f s x y h u × CallsWithState calls h u xs ys g t
 
--- Each call of f, lent the state s, on x returns out s x, and leaves the state next s x and f as it
--- was.
+-- Each call of f with the state s and x returns out s x, leaves the state next s x, and leaves f
+-- unchanged.
 abbrev pub ActsAsWithState : {F S A B : Type 0}
     → Mut F (MutBor S × (A × Unit {0})) (B × (MutBor S × Unit {0}))
     → F → (S → A → S) → (S → A → B) → Type 0

@@ -1,4 +1,4 @@
--- What the items of a list make, where they are collected into a type of the standard library.
+-- What the items of a list make when they are collected into a type of the standard library.
 use Rattle.std.specs.Prelude.{◌≡◌, Bool, List, [], ◌∷◌, ◌++◌, reverse, map, Option, Result, Ok, Err}
 use Rattle.std.specs.Prelude.{MatchResult}
 use Rattle.std.specs.Bool.{MatchBool}
@@ -12,8 +12,8 @@ module _ {K : Type 0} (eq : K → K → Bool) where
   abbrev pub last_value : {V : Type 0} → List (K × V) → K → Option V
   last_value pairs q = lookup (eq q) (reverse pairs)
 
-  -- The entries are the map of the pairs: each key is there once, and has the value of the last
-  -- pair whose key equals it.
+  -- The entries are the map of the pairs: each key is there once, with the value of the last pair
+  -- whose key equals it.
   abbrev pub IsMapOf : {V : Type 0} → List (K × V) → List (K × V) → Type 0
   IsMapOf pairs entries = IsDistinct eq (keys_of entries)
       × ((q : K) → lookup (eq q) entries ≡ last_value pairs q)
@@ -29,13 +29,13 @@ values_or_first_err (Ok x ∷ rs) = result_map_both (λ xs. x ∷ xs) (λ e. e) 
 values_or_first_err (Err e ∷ rs) = Err e
 
 module _ {T V : Type 0} (collected : List T → V → Type 0) (is_complete : V → Bool) where
-  -- The items make v; where v is not complete, a front of them does.
+  -- The items make v; if v is not complete, the first of them do.
   abbrev pub FrontMakes : List T → V → Type 0
   FrontMakes items v = MatchBool (is_complete v) (collected items v)
       ((front : List T) × (more : List T) × (items ≡ front ++ more) × collected front v)
 
-  -- `Ok` of what the values make, where each item is the `Ok` of one; else the first `Err`, with
-  -- which the items end: so it is the first of each list that begins with them.
+  -- `Ok` of what the values make if each item is `Ok`; otherwise the first `Err`. The items end
+  -- with this `Err`, so it is the first one of each list that begins with them.
   abbrev pub ResultsMake : {E : Type 0} → List (Result T E) → Result V E → Type 0
   ResultsMake {E} items result = MatchResult result
       (λ v. (values : List T) × (items ≡ map Ok values)

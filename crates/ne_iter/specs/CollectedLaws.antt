@@ -1,5 +1,5 @@
--- Pairs and items that are inserted in turn, one or many, into what was made before make the map or
--- set of all of them. The crates of maps and sets cite these lemmas.
+-- Pairs or items that are inserted in turn, one or many, into an earlier map or set make the map or
+-- set of all of them. The crates of maps and sets use these lemmas.
 use mathlib.Core.Path.{fun_ext}
 use Rattle.std.proofs.Common.{◌≡◌, ◌<◌, length, arith, is_some, true≢false, Bool, true, false, cond}
 use Rattle.std.proofs.Common.{◌||◌, List, [], ◌∷◌, ◌++◌, reverse, refl, sym, ap, subst, ◌∙◌}
@@ -61,7 +61,7 @@ module _ {K V : Type 0} {eq : K → K → Bool} (laws : IsEquivalence eq) where
   update_all-append f [] qs = refl
   update_all-append f (p ∷ ps) qs = update_all-append (update eq f p.0 (Some p.1)) ps qs
 
-  -- a map, and pairs inserted in turn, are the map of the entries followed by the pairs
+  -- a map into which pairs are inserted in turn is the map of its entries followed by the pairs
   last_value-extended : (es ps : List (K × V)) (q : K) → IsDistinct eq (keys_of es)
       → update_all eq (λ k. lookup (eq k) es) ps q ≡ last_value eq (es ++ ps) q
   last_value-extended es ps q d =
@@ -147,7 +147,7 @@ list_any-append t (x ∷ xs) y = by (t x) (t y) (list_any t xs) (list_any-append
     by false true c h = h
     by false false c h = h
 
--- one pair or item more
+-- one more pair or item
 module _ {K : Type 0} {eq : K → K → Bool} (laws : IsEquivalence eq) where
   pub map_of-more : {V : Type 0} (ps es fs : List (K × V)) (p : K × V)
       → IsDistinct eq (keys_of fs)
@@ -176,7 +176,7 @@ module _ {K : Type 0} {eq : K → K → Bool} (laws : IsEquivalence eq) where
 
 -- the key list
 module _ {K : Type 0} {eq : K → K → Bool} (laws : IsEquivalence eq) where
-  -- where keys differ, one is not among those before it
+  -- if keys differ, none of them is among those before it
   absent_before : (before ks : List K) (k : K) → IsDistinct eq (before ++ k ∷ ks)
       → is_member eq before k ≡ false
   absent_before [] ks k d = refl

@@ -1,5 +1,5 @@
--- The answers of the methods that use a source up. Each is said of a list that the source may give,
--- to its end or up to the item that decided.
+-- The results of the methods that use a source up. Each is stated for a list that the source may
+-- give, to the end or up to the item that decided.
 use Rattle.std.specs.Prelude.{◌≡◌, ℕ, ◌≤◌, Bool, true, false, cond, List, [], ◌∷◌, ◌++◌, length}
 use Rattle.std.specs.Prelude.{map, Option, Some, MatchOption, slice_get}
 use Rattle.std.specs.Bool.{MatchBool}
@@ -14,7 +14,7 @@ use Rattle.ne_iter.specs.Calls.{AnswersEach, AnswersEachAt, Folds, ShownEach}
 use Rattle.ne_iter.specs.Keys.{items_of}
 
 module _ {U A : Type 0} (reads : Bool → U → List A → Type 0) where
-  -- An item came behind the items xs, and f answered y at it.
+  -- After the items xs an item came, and f returned y for it.
   pub record StopsAtItem {F : Type 0} (calls : Mut F (A × Unit {0}) Bool) (y : Bool) (source : U)
       (xs : List A) (f : F) : Type 0 where
     pub item : A
@@ -22,8 +22,8 @@ module _ {U A : Type 0} (reads : Bool → U → List A → Type 0) where
     pub read : reads false source (xs ++ item ∷ [])
     pub called : Called calls f (item, tt) y f_then
 
-  -- `all`: f answered true at the items, and then, at `true`, the source ended; at `false`, f
-  -- answered false at the next item.
+  -- `all`: f returned true for the items. If the result is `true`, the source then ended; if it is
+  -- `false`, f returned false for the next item.
   pub record TellsAll {F : Type 0} (calls : Mut F (A × Unit {0}) Bool) (source : U) (f : F)
       (result : Bool) : Type 0 where
     pub items : List A
@@ -32,8 +32,8 @@ module _ {U A : Type 0} (reads : Bool → U → List A → Type 0) where
     pub decided : MatchBool result (reads true source items)
         (StopsAtItem calls false source items f_then)
 
-  -- `any`: f answered false at the items, and then, at `true`, f answered true at the next item; at
-  -- `false`, the source ended.
+  -- `any`: f returned false for the items. If the result is `true`, f returned true for the next
+  -- item; if it is `false`, the source then ended.
   pub record TellsAny {F : Type 0} (calls : Mut F (A × Unit {0}) Bool) (source : U) (f : F)
       (result : Bool) : Type 0 where
     pub items : List A
@@ -42,8 +42,8 @@ module _ {U A : Type 0} (reads : Bool → U → List A → Type 0) where
     pub decided : MatchBool result (StopsAtItem calls true source items f_then)
         (reads true source items)
 
-  -- `find`: f answered false at the items, and then the source ended, or the result came, at which
-  -- f answered true.
+  -- `find`: f returned false for the items. Then either the source ended, or the result came, and f
+  -- returned true for it.
   pub record FindsFirst {F : Type 0} (calls : Mut F (Bor A × Unit {0}) Bool) (source : U) (f : F)
       (result : Option A) : Type 0 where
     pub items : List A
@@ -52,13 +52,13 @@ module _ {U A : Type 0} (reads : Bool → U → List A → Type 0) where
     pub decided : MatchOption result (reads true source items)
         (λ x. (g : F) × reads false source (items ++ x ∷ []) × CalledAt calls f_then x true g)
 
-  -- `nth`: the item behind n others, or `None` where the source ended with at most n.
+  -- `nth`: the item after n others, or `None` if the source ended after at most n items.
   abbrev pub GivesNth : U → ℕ → Option A → Type 0
   GivesNth source n result = (xs : List A)
       × MatchOption result (reads true source xs × (length xs ≤ n))
       (λ x. reads false source (xs ++ x ∷ []) × (length xs ≡ n))
 
-  -- `fold`: f, called on the total so far and the next item, took the total from init to the
+  -- `fold`: f, called with the total so far and the next item, took the total from init to the
   -- result.
   pub record FoldsAll {B F : Type 0} (calls : Mut F (B × (A × Unit {0})) B) (source : U) (f : F)
       (init result : B) : Type 0 where
@@ -67,7 +67,8 @@ module _ {U A : Type 0} (reads : Bool → U → List A → Type 0) where
     pub read : reads true source items
     pub folded : Folds calls f init items result f_then
 
-  -- `reduce`: the same over the others, from the first item.
+  -- `reduce`: f, called with the total so far and the next item, took the total from the first item
+  -- to the result.
   pub record ReducesAll {F : Type 0} (calls : Mut F (A × (A × Unit {0})) A) (source : U) (f : F)
       (result : A) : Type 0 where
     pub first : A
@@ -81,55 +82,55 @@ abbrev pub less_by : {A : Type 0} → (A → A → Ordering) → A → A → Boo
 less_by cmp x y = is_lt (cmp x y)
 
 module _ {A : Type 0} (less : A → A → Bool) where
-  -- m is the first greatest of xs: it stands at a place such that it is less than none, and each
-  -- item before it is less.
+  -- m is the first greatest item of xs: it is less than no item, and each item before it is less
+  -- than it.
   abbrev pub IsFirstGreatest : List A → A → Type 0
   IsFirstGreatest xs m = (place : ℕ) × IsFirstBest (λ x y. less y x) xs (length xs) place
       × (slice_get xs place ≡ Some m)
 
-  -- m is the first least of xs: no item is less, and it is less than each item before it.
+  -- m is the first least item of xs: no item is less, and it is less than each item before it.
   abbrev pub IsFirstLeast : List A → A → Type 0
   IsFirstLeast xs m = (place : ℕ) × IsFirstBest less xs (length xs) place
       × (slice_get xs place ≡ Some m)
 
 module _ {A : Type 0} where
-  -- f may be called at any two items that the iterator may give.
+  -- f may be called with any two items that the iterator may give.
   abbrev pub CallableOnTwo : {S F R : Type 0} → (S → Option A → S → Type 0)
       → Shared F (Bor A × (Bor A × Unit {0})) R → S → F → Type 0
   CallableOnTwo {S} steps calls it f = (xs : List A) (t : S) (x y : Bor A) → Yields steps it xs t
       → Contains xs x.now → Contains xs y.now → calls.pre f (x, (y, tt))
 
-  -- Of the item that is kept so far and the next one, x, the one that is kept then: x where f,
-  -- called on what view sees of the two, answers true.
+  -- `next` is the item kept of the one kept so far, `kept`, and the next one, x: it is x if f,
+  -- called with what `view` makes of the two, returns true, and otherwise `kept`.
   abbrev pub KeepsBetter : {V F : Type 0} → (A → V) → Shared F (Bor V × (Bor V × Unit {0})) Bool
       → F → A → A → A → Type 0
   KeepsBetter view calls f kept x next = (better : Bool)
       × FnReturnsAtPair calls f (view kept) (view x) better × (next ≡ cond better x kept)
 
-  -- f, called at two items x and y of xs, gives the answer that is meant, `Less` by `is_lt` or
-  -- `Greater` by `is_gt`, just where `test x y`.
+  -- For any two items x and y of xs, what f returns is `meant` if and only if `test x y`. `meant`
+  -- is `is_lt` for `Less` or `is_gt` for `Greater`.
   abbrev pub AnswersJustWhere : {F : Type 0} → Shared F (Bor A × (Bor A × Unit {0})) Ordering → F
       → List A → (Ordering → Bool) → (A → A → Bool) → Type 0
   AnswersJustWhere calls f xs meant test = (x y : A) (r : Ordering) → Contains xs x → Contains xs y
       → FnReturnsAtPair calls f x y r → meant r ≡ test x y
 
-  -- `max_by`: m is an item of xs; where f answers `Less` just as a total preorder does, the first
-  -- greatest.
+  -- `max_by`: m is an item of xs. If f returns `Less` exactly as a total preorder does, m is the
+  -- first greatest item.
   abbrev pub PicksGreatest : {F : Type 0} → Shared F (Bor A × (Bor A × Unit {0})) Ordering → F
       → List A → A → Type 0
   PicksGreatest calls f xs m = Contains xs m × ((less : A → A → Bool) → IsStrictWeakOrder less
       → AnswersJustWhere calls f xs is_lt less → IsFirstGreatest less xs m)
 
-  -- `min_by`: m is an item of xs; where f answers `Greater` just as a total preorder does, the
-  -- first least.
+  -- `min_by`: m is an item of xs. If f returns `Greater` exactly as a total preorder does, m is the
+  -- first least item.
   abbrev pub PicksLeast : {F : Type 0} → Shared F (Bor A × (Bor A × Unit {0})) Ordering → F → List A
       → A → Type 0
   PicksLeast calls f xs m = Contains xs m × ((less : A → A → Bool) → IsStrictWeakOrder less
       → AnswersJustWhere calls f xs is_gt (λ x y. less y x) → IsFirstLeast less xs m)
 
 -- `max_by_key` and `min_by_key`: `best` says that the result, with its key, is the best of the
--- items that the source gave to its end, each with the key that f, shown the items in order,
--- answered.
+-- items that the source gave to the end, where each item has the key that f returned for it. f was
+-- called with the items in order.
 pub record PicksByKey {U A K F : Type 0} (reads : Bool → U → List A → Type 0)
     (calls : Mut F (Bor A × Unit {0}) K) (source : U) (f : F) (result : A)
     (best : List (A × K) → A × K → Type 0) : Type 0 where
@@ -143,18 +144,18 @@ pub record PicksByKey {U A K F : Type 0} (reads : Bool → U → List A → Type
 module _ {U A K F : Type 0} (reads : Bool → U → List A → Type 0)
     (calls : Mut F (Bor A × Unit {0}) K) (cmp : K → K → Ordering) (source : U) (f : F) (result : A)
   where
-    -- `max_by_key`: the first of the items of the greatest key
+    -- `max_by_key`: the first of the items with the greatest key
     abbrev pub PicksGreatestKey : Type 0
     PicksGreatestKey = PicksByKey reads calls source f result
         (IsFirstGreatest (λ p q. less_by cmp p.1 q.1))
 
-    -- `min_by_key`: the first of the items of the least key
+    -- `min_by_key`: the first of the items with the least key
     abbrev pub PicksLeastKey : Type 0
     PicksLeastKey = PicksByKey reads calls source f result
         (IsFirstLeast (λ p q. less_by cmp p.1 q.1))
 
--- m is an item of xs; if f acts as a function h, none of the values of h on xs is greater than that
--- at m, or less.
+-- m is an item of xs. If f acts as a function h, no value of h on xs is greater (for the greatest
+-- key) or less (for the least key) than its value at m.
 module _ {A K F : Type 0} (calls : Mut F (Bor A × Unit {0}) K) (cmp : K → K → Ordering) (f : F)
     (xs : List A) (m : A) where
   abbrev pub HasGreatestKey : Type 0

@@ -1,9 +1,9 @@
--- What `extend` of a map or a set says of the list that its source gives.
+-- What `extend` of a map or a set says about the list that its source gives.
 use Rattle.std.specs.Prelude.{◌≡◌, ◌++◌, List}
 use Rattle.ne_iter.specs.SourceLists.{EachList}
 
--- The items that were there, and then those that the source gives, make what stands now. The source
--- may be one that no call of ours speaks of.
+-- The old items, followed by those that the source gives, make the new value. The source may be one
+-- for which no clause of this crate states its list.
 abbrev pub ExtendsByList : {U A : Type 0} → (U → List A → Type 0) → (U → List A → Type 0) → U
     → List A → (List A → Type 0) → Type 0
 ExtendsByList {A = A} lists meets u old makes = EachList lists u (λ xs. makes (old ++ xs))

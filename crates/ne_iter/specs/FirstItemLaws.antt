@@ -1,5 +1,5 @@
--- What has an item answers one first: walks over it, an iterator that was looked ahead in, and one
--- that has drawn an item.
+-- Iterators that have an item return one first: those over non-empty lists, chunks and runs, one
+-- that has looked ahead, and one that holds an item.
 use Rattle.std.proofs.Common.{arith, ap, rules}
 use Rattle.std.proofs.lemmas.Bool.{MatchBool-at_false}
 use Rattle.std.proofs.lemmas.Option.{MatchOption-at_some}

@@ -1,7 +1,7 @@
--- What each adapter gives, by what its source gives.
--- A source is named by what it reads: `reads whole u xs` says that u may give the items xs first,
--- and where whole is true may then end. So each word below speaks of every list that an adapter may
--- have given so far, and of every list that it may give to its end.
+-- What each adapter gives, depending on what its source gives. A source is described by what it
+-- reads: `reads whole u xs` says that u may give the items xs first, and, if whole is true, may end
+-- after them. So each definition below covers every list that an adapter may have given so far, and
+-- every list that it may give to the end.
 use Rattle.std.specs.Prelude.{◌≡◌, ◌≢◌, ℕ, ◌≤◌, Bool, true, false, ◌||◌, ◌&&◌, ltb, List, [], ◌∷◌}
 use Rattle.std.specs.Prelude.{◌++◌, length, zip, ⊤, Option, None, Some, MatchOption, Result, Ok}
 use Rattle.std.specs.Prelude.{Err, is_ok, map, IsTrue, drop, filter, filter_map}
@@ -15,13 +15,12 @@ use Rattle.ne_iter.specs.Calls.{Calls, CallsWithState, ShownEach, AnswersEachAt}
 use Rattle.ne_iter.specs.Keys.{items_of, DividesByKey}
 use Rattle.ne_iter.specs.Interspersed.{Interspersed}
 
--- f, shown the first of the items ys, if there is one, may answer false.
+-- f, called with a reference to the first of the items ys, if there is one, may return false.
 abbrev pub FailsFirst : {F A : Type 0} → Mut F (Bor A × Unit {0}) Bool → F → List A → Type 0
 FailsFirst calls f [] = ⊤
 FailsFirst {F} calls f (y ∷ ys) = (g : F) × CalledAt calls f y false g
 
--- Each of the sources us may give its list of yss to its end; the last one only where whole is
--- true.
+-- Each of the sources us may give its list of yss to the end; the last one only if whole is true.
 abbrev pub ReadsEach : {U A : Type 0} → (Bool → U → List A → Type 0) → Bool → List U → List (List A)
     → Type 0
 ReadsEach reads whole [] [] = ⊤
@@ -30,24 +29,24 @@ ReadsEach reads whole (u ∷ us) [] = ⊥
 ReadsEach reads whole (u ∷ us) (ys ∷ yss) = reads (whole || ltb 0 (length us)) u ys
     × ReadsEach reads whole us yss
 
--- The source u gives the list xs and no other: what it reads is a front of xs, and what it gives to
--- its end is all of xs.
+-- The source u gives the list xs and no other: what it reads are the first items of xs, and what it
+-- gives to the end is all of xs.
 abbrev pub GivesList : {U A : Type 0} → (Bool → U → List A → Type 0) → U → List A → Type 0
 GivesList {A = A} reads u xs = (whole : Bool) (ys : List A) → reads whole u ys
     → AreFirst whole xs ys
 
--- The same of what `view` makes of its items.
+-- The source u gives items of which `view` makes the list xs, and no other.
 abbrev pub ViewsList : {U A B : Type 0} → (Bool → U → List A → Type 0) → (A → B) → U → List B
     → Type 0
 ViewsList {A = A} reads view u xs =
     (whole : Bool) (ys : List A) → reads whole u ys → AreFirst whole xs (map view ys)
 
--- And of a source of references, which show the items of xs.
+-- A source of references gives references to the items of xs, and to no others.
 abbrev pub ShowsList : {U A : Type 0} → (Bool → U → List (Bor A) → Type 0) → U → List A → Type 0
 ShowsList reads u xs = ViewsList reads (λ y. y.now) u xs
 
 module _ {U A : Type 0} (reads : Bool → U → List A → Type 0) where
-  -- ys are the answers of f, called on the source's items in order.
+  -- ys is what f returns, called with the source's items in order.
   pub record IsMapped {B F : Type 0} (calls : Mut F (A × Unit {0}) B) (source : U) (f : F)
       (whole : Bool) (ys : List B) : Type 0 where
     pub items : List A
@@ -55,7 +54,7 @@ module _ {U A : Type 0} (reads : Bool → U → List A → Type 0) where
     pub read : reads whole source items
     pub called : Calls calls f items ys f_then
 
-  -- zs are the items of the one, to its end, and then those of the other.
+  -- zs are the items of the first source, to its end, and then those of the second.
   pub record IsChained {W : Type 0} (others : Bool → W → List A → Type 0) (source : U) (other : W)
       (whole : Bool) (zs : List A) : Type 0 where
     pub items : List A
@@ -64,7 +63,7 @@ module _ {U A : Type 0} (reads : Bool → U → List A → Type 0) where
     pub read_other : others whole other other_items
     pub is : zs ≡ items ++ other_items
 
-  -- ps are pairs of an item of each side. Where no more come, one of the sides has ended.
+  -- ps are pairs of an item of each side. If no more come, one of the sides has ended.
   pub record IsZipped {W B : Type 0} (others : Bool → W → List B → Type 0) (source : U) (other : W)
       (whole : Bool) (ps : List (A × B)) : Type 0 where
     pub items : List A
@@ -77,17 +76,17 @@ module _ {U A : Type 0} (reads : Bool → U → List A → Type 0) where
     pub as_many : length items ≡ length other_items
     pub one_ended : whole ≡ true → IsTrue (ended || other_ended)
 
-  -- xs are the source's items at which f answers true.
+  -- xs are the source's items for which f returns true.
   pub record IsFiltered {F : Type 0} (calls : Mut F (Bor A × Unit {0}) Bool) (source : U) (f : F)
       (whole : Bool) (xs : List A) : Type 0 where
-    -- each item with the answer of f
+    -- each item with what f returned for it
     pub answered : List (A × Bool)
     pub f_then : F
     pub read : reads whole source (items_of answered)
     pub shown : ShownEach calls f answered f_then
     pub is : xs ≡ items_of (filter (λ p. p.1) answered)
 
-  -- ys are the values among the answers of f, called on the source's items in order.
+  -- ys are the values that f returns in `Some`, called with the source's items in order.
   pub record IsFilterMapped {B F : Type 0} (calls : Mut F (A × Unit {0}) (Option B)) (source : U)
       (f : F) (whole : Bool) (ys : List B) : Type 0 where
     pub items : List A
@@ -97,8 +96,8 @@ module _ {U A : Type 0} (reads : Bool → U → List A → Type 0) where
     pub called : Calls calls f items answers f_then
     pub is : ys ≡ filter_map (λ o. o) answers
 
-  -- ys are the source's items from the first one on at which f answers false; f is not called after
-  -- it.
+  -- ys are the source's items from the first one for which f returns false; f is not called after
+  -- that one.
   pub record IsSkippedWhile {F : Type 0} (calls : Mut F (Bor A × Unit {0}) Bool) (source : U)
       (f : F) (whole : Bool) (ys : List A) : Type 0 where
     -- the items before that one
@@ -108,7 +107,7 @@ module _ {U A : Type 0} (reads : Bool → U → List A → Type 0) where
     pub shown : AnswersEachAt calls true f skipped f_then
     pub fails : FailsFirst calls f_then ys
 
-  -- An item came behind the items xs, and f, shown it, answered false.
+  -- After the items xs an item came, and f, called with a reference to it, returned false.
   pub record FailsAtItem {F : Type 0} (calls : Mut F (Bor A × Unit {0}) Bool) (source : U)
       (xs : List A) (f : F) : Type 0 where
     pub item : A
@@ -116,12 +115,12 @@ module _ {U A : Type 0} (reads : Bool → U → List A → Type 0) where
     pub read : reads false source (xs ++ item ∷ [])
     pub called : CalledAt calls f item false f_then
 
-  -- zs are the lists of f's answers, one after the other.
+  -- zs are the lists of the sources that f returned, one after the other.
   pub record IsFlatMapped {W B F : Type 0} (inner : Bool → W → List B → Type 0)
       (calls : Mut F (A × Unit {0}) W) (source : U) (f : F) (whole : Bool) (zs : List B) : Type 0
     where
       pub items : List A
-      -- the answers, and what each of them gave
+      -- the sources that f returned, and what each of them gave
       pub sources : List W
       pub lists : List (List B)
       pub f_then : F
@@ -130,8 +129,8 @@ module _ {U A : Type 0} (reads : Bool → U → List A → Type 0) where
       pub read_each : ReadsEach inner whole sources lists
       pub is : zs ≡ joined lists
 
-  -- zs are the lists of the source's items, one after the other. `inner` is what an item reads,
-  -- which is a source itself.
+  -- zs are the lists of the source's items, one after the other. Each item is itself a source, and
+  -- `inner` is what it reads.
   pub record IsFlattened {B : Type 0} (inner : Bool → A → List B → Type 0) (source : U)
       (whole : Bool) (zs : List B) : Type 0 where
     pub sources : List A
@@ -140,8 +139,8 @@ module _ {U A : Type 0} (reads : Bool → U → List A → Type 0) where
     pub read_each : ReadsEach inner whole sources lists
     pub is : zs ≡ joined lists
 
-  -- ys are the answers of f, called on the source's items in order. It is lent a state: init at the
-  -- first call, and at each later one as the call before left it.
+  -- ys is what f returns, called with the source's items in order and a `&mut` to a state. The
+  -- state is init at the first call, and at each later one what the call before left.
   pub record IsScanned {S B F : Type 0}
       (calls : Mut F (MutBor S × (A × Unit {0})) (B × (MutBor S × Unit {0}))) (source : U)
       (init : S) (f : F) (whole : Bool) (ys : List B) : Type 0 where
@@ -151,13 +150,13 @@ module _ {U A : Type 0} (reads : Bool → U → List A → Type 0) where
     pub read : reads whole source items
     pub called : CallsWithState calls f init items ys f_then state_then
 
-  -- zs are the items, each in `Ok`, with what came of cloning the separator between each two. What
-  -- came so far is a front of that, and what came to the end is all of it; the source had then
-  -- ended too, where no clone was refused.
+  -- zs are the items, each in `Ok`, with what cloning the separator returned between each two. What
+  -- came so far is the beginning of that list, and what came to the end is all of it; the source
+  -- has then ended too, unless a clone failed.
   pub record IsInterspersed {E : Type 0} (tries : A → Result A E → Type 0) (source : U)
       (separator : A) (whole : Bool) (zs : List (Result A E)) : Type 0 where
     pub items : List A
-    -- what did not come yet
+    -- what has not come yet
     pub later : List (Result A E)
     pub read : reads (whole && list_all is_ok zs) source items
     pub spaced : Interspersed (tries separator) items (zs ++ later)
@@ -170,13 +169,13 @@ module _ {U V A : Type 0} (reads : Bool → U → List A → Type 0) where
   MapGives {B} mapped calls source f result = (whole : Bool) (ys : List B) → mapped whole result ys
       → IsMapped reads calls source f whole ys
 
-  -- `enumerate`: the items with their places, from 0.
+  -- `enumerate`: pairs of an index, from 0, and the item at that index.
   abbrev pub EnumerateGives : (Bool → V → List (ℕ × A) → Type 0) → U → V → Type 0
   EnumerateGives numbered source result = (whole : Bool) (ys : List (ℕ × A))
       → numbered whole result ys
       → (xs : List A) × reads whole source xs × (ys ≡ enumerate_from 0 xs)
 
-  -- `take`: at most n items; where they are fewer and no more come, the source has ended.
+  -- `take`: at most n items; if they are fewer and no more come, the source has ended.
   abbrev pub TakeGives : (Bool → V → List A → Type 0) → ℕ → U → V → Type 0
   TakeGives taken n source result = (whole : Bool) (xs : List A) → taken whole result xs
       → reads (whole && ltb (length xs) n) source xs × (length xs ≤ n)
@@ -216,7 +215,7 @@ module _ {U V A : Type 0} (reads : Bool → U → List A → Type 0) where
   SkipWhileGives left calls source f result = (whole : Bool) (ys : List A) → left whole result ys
       → IsSkippedWhile reads calls source f whole ys
 
-  -- `take_while`: the items up to the first one at which f answers false. That one is drawn too.
+  -- `take_while`: the items before the first one for which f returns false. That one is taken too.
   abbrev pub TakeWhileGives : {F : Type 0} → (Bool → V → List A → Type 0)
       → Mut F (Bor A × Unit {0}) Bool → U → F → V → Type 0
   TakeWhileGives {F} taken calls source f result = (whole : Bool) (xs : List A)
@@ -250,26 +249,27 @@ module _ {U V A : Type 0} (reads : Bool → U → List A → Type 0) where
       → IsInterspersed reads tries source separator whole zs
 
 module _ {U V T : Type 0} (reads : Bool → U → List (Bor T) → Type 0) where
-  -- `copied`: what the references show.
+  -- `copied`: the referenced items.
   abbrev pub CopiedGives : (Bool → V → List T → Type 0) → U → V → Type 0
   CopiedGives copied source result = (whole : Bool) (ys : List T) → copied whole result ys
       → (xs : List (Bor T)) × reads whole source xs × (ys ≡ map (λ x. x.now) xs)
 
-  -- `cloned`: for each reference what came of cloning what it shows.
+  -- `cloned`: for each reference, what cloning the referenced item returned.
   abbrev pub ClonedGives : {R : Type 0} → (T → R → Type 0) → (Bool → V → List R → Type 0) → U → V
       → Type 0
   ClonedGives {R} tries cloned source result = (whole : Bool) (ys : List R) → cloned whole result ys
       → (xs : List (Bor T)) × reads whole source xs × AllZip (λ x r. tries x.now r) xs ys
 
--- The runs rs, and one of a single item that is held, if there is one.
+-- The runs rs, followed by one of the single item that is held, if there is one.
 abbrev pub and_held : {A : Type 0} → List (List A) → Option A → List (List A)
 and_held rs None = rs
 and_held rs (Some x) = rs ++ (x ∷ []) ∷ []
 
 module _ {U A K F : Type 0} (reads : Bool → U → List A → Type 0) (asks : Mut F (Bor A × Unit {0}) K)
     (eq : K → K → Bool) where
-  -- The items drawn of the source, shown to f in order, are divided by f's answers into the runs rs
-  -- and an item that is held. At `whole` the source has ended.
+  -- The items taken from the source, for which f was called in order, are divided by their keys,
+  -- which f returned, into the runs rs and an item that is held. If `whole` is true, the source has
+  -- ended.
   pub record HasRuns (whole : Bool) (source : U) (f : F) (rs : List (List A)) : Type 0 where
     pub drawn : List (A × K)
     pub closure : F
@@ -278,18 +278,18 @@ module _ {U A K F : Type 0} (reads : Bool → U → List A → Type 0) (asks : M
     pub read : reads ended source (items_of drawn)
     pub asked : ShownEach asks f drawn closure
     pub divided : DividesByKey eq drawn (and_held rs held)
-    -- none is held before anything is drawn and once the source has ended; else one is, behind a
-    -- run
+    -- no item is held before anything is taken and once the source has ended; otherwise one is
+    -- held, after a run
     pub holds : MatchOption held ((ended ≡ true) ⊎ (drawn ≡ [])) (λ _. rs ≢ [])
     pub over : whole ≡ true → (ended ≡ true) × (held ≡ None)
 
-  -- `group_by`: the runs of the source's items by f's answers, each in `Ok`.
+  -- `group_by`: the runs of the source's items by the keys that f returned, each in `Ok`.
   abbrev pub GroupByGives : {V E : Type 0} → (Bool → V → List (Result (List A) E) → Type 0) → U → F
       → V → Type 0
   GroupByGives grouped source f result = (whole : Bool) (rs : List (List A))
       → grouped whole result (map Ok rs) → HasRuns whole source f rs
 
-  -- An `Err` may come in the place of a run, and then nothing comes behind it.
+  -- An `Err` may come in place of a run, and then nothing comes after it.
   abbrev pub GroupByStops : {V E : Type 0} → (Bool → V → List (Result (List A) E) → Type 0) → U → F
       → V → Type 0
   GroupByStops {E = E} grouped source f result = (whole : Bool) (xs : List (Result (List A) E))

@@ -1,7 +1,7 @@
--- What a contract sees of a grouping. No type of the crate is named here.
+-- The value of a grouping in contracts. No type of the crate is named here.
 
--- What a grouping knows of the items behind the runs that it answered: none was drawn yet; one item
--- is held, with its key; or no more will come.
+-- What a grouping knows about the items after the runs that it returned: none was taken yet; one
+-- item is held, with its key; or no more will come.
 pub data Ahead (K A : Type 0) : Type 0 where
   Unread : Ahead K A
   Held : K → A → Ahead K A

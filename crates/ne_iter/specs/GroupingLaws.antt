@@ -1,4 +1,4 @@
--- Proofs on groupings, which the impls cite.
+-- Proofs about groupings, which the implementations use.
 use Rattle.std.proofs.Common.{subst, sym, ap, ◌∙◌}
 use Rattle.std.specs.Prelude.{◌≡◌, Bool, List, [], ◌∷◌, map, Option, None, refl}
 use Rattle.std.specs.Borrow.{Bor}
@@ -16,7 +16,7 @@ nil_mapped f (x ∷ xs) e = cc
 
 module _ {S K A F : Type 0} (steps : S → Option A → S → Type 0) (asks : Mut F (Bor A × Unit {0}) K)
     (eq : K → K → Bool) where
-  -- a grouping that has drawn nothing
+  -- a grouping that has taken nothing
   pub fresh_grouping : (g : Grouping S K A F) → g.ahead ≡ Unread
       → HasRead steps asks eq g.source g.closure [] g
   fresh_grouping g e = record {
@@ -28,7 +28,7 @@ module _ {S K A F : Type 0} (steps : S → Option A → S → Type 0) (asks : Mu
         (refl, refl, refl);
   }
 
-  -- one that is over and answered no run drew nothing but the end
+  -- a grouping that is over and returned no run found its source at the end
   pub over_at_once : (s : S) (f : F) (h : Grouping S K A F) → HasRead steps asks eq s f [] h
       → IsOver h → (t : S) × steps s None t
   over_at_once s f h read over =

@@ -1,4 +1,4 @@
--- What a grouping has drawn and answered, at whatever moment it is stopped.
+-- What a grouping has taken and returned, at whatever moment it is stopped.
 use Rattle.std.specs.Prelude.{◌≡◌, ◌≢◌, ℕ, ◌+◌, Bool, true, List, [], ◌∷◌, ◌++◌, map, Option, Some}
 use Rattle.std.specs.Prelude.{None, Result, Ok, Err, MatchOption, OnErr, IfOk}
 use Rattle.std.specs.Fn.{Mut}
@@ -12,15 +12,15 @@ use Rattle.ne_iter.specs.Calls.{ShownEach}
 use Rattle.ne_iter.specs.Keys.{items_of, same_key, IsDividedBy}
 use Rattle.ne_iter.specs.Grouping.{Grouping, Ahead, Unread, Held, Ended}
 
--- It answers `None` from now on.
+-- It returns `None` from now on.
 abbrev pub IsOver : {S K A F : Type 0} → Grouping S K A F → Type 0
 IsOver g = g.ahead ≡ Ended
 
 module _ {S K A F : Type 0} (steps : S → Option A → S → Type 0) (asks : Mut F (Bor A × Unit {0}) K)
     (eq : K → K → Bool) where
-  -- The items drawn, each with its key, took the source from s to t. Nothing was drawn; or they are
-  -- divided into the runs and one more, of the item that is held; or the source has ended, and they
-  -- are divided into the runs.
+  -- The items taken, each with its key, took the source from s to t. There are three cases: nothing
+  -- was taken; or the items are divided into the runs and one more, of the item that is held; or
+  -- the source has ended, and the items are divided into the runs.
   abbrev pub StandsAt : Ahead K A → S → List (A × K) → S → List (List (A × K)) → Type 0
   StandsAt Unread s drawn t runs = (drawn ≡ []) × (runs ≡ []) × (s ≡ t)
   StandsAt (Held k x) s drawn t runs = (runs ≢ []) × Yields steps s (items_of drawn) t
@@ -28,9 +28,9 @@ module _ {S K A F : Type 0} (steps : S → Option A → S → Type 0) (asks : Mu
   StandsAt Ended s drawn t runs = YieldsThen steps s (items_of drawn) None t
       × IsDivision (by_first (same_key eq)) drawn runs
 
-  -- A grouping that began with the source s and the closure f has answered the runs rs, and now is
-  -- g. The closure was shown the items drawn, each once and in order, and their keys are its
-  -- answers.
+  -- A grouping that began with the source s and the closure f has returned the runs rs, and is now
+  -- g. The closure was called for each item taken, once and in order, and the keys are what it
+  -- returned.
   pub record HasRead (s : S) (f : F) (rs : List (List A)) (g : Grouping S K A F) : Type 0 where
     pub drawn : List (A × K)
     pub runs : List (List (A × K))
@@ -38,21 +38,21 @@ module _ {S K A F : Type 0} (steps : S → Option A → S → Type 0) (asks : Mu
     pub asked : ShownEach asks f drawn g.closure
     pub stands : StandsAt g.ahead s drawn g.source runs
 
-  -- One call of `next` answers r, and takes the grouping from g to h.
+  -- One call of `next` returns r, and takes the grouping from g to h.
   pub record GivesRun (g : Grouping S K A F) (r : Option (Result (List A) AllocError))
       (h : Grouping S K A F) : Type 0 where
-    -- a grouping that is over answers `None` and stays as it is
+    -- a grouping that is over returns `None` and stays unchanged
     pub over : IsOver g → (r ≡ None) × (h ≡ g)
     -- it is over after `None`, and after an `Err`
     pub stops : MatchOption r (IsOver h) (λ x. OnErr x (IsOver h))
-    -- whatever it had read and answered: a run comes behind those that it answered, and after
+    -- whatever it had read and returned before: a run comes after those that it returned, and after
     -- `None` there are no more
     pub reads : (s : S) (f : F) (rs : List (List A)) → HasRead s f rs g
         → MatchOption r (HasRead s f rs h) (λ x. IfOk x (λ run. HasRead s f (rs ++ run ∷ []) h))
 
-  -- What a grouping that had answered the runs rs answered then, and how it stands now: nothing
-  -- yet; or that no more will come; or an `Err`, and it stood as k before. After `None` and after
-  -- an `Err` it answers `None` and nothing else.
+  -- What a grouping that had returned the runs rs returned next, and what it is now. There are
+  -- three cases: nothing yet; or `None`; or an `Err`, and it was k before. After `None` and after
+  -- an `Err` it returns only `None`.
   abbrev pub AnswersThen : S → F → List (List A) → List (Option (Result (List A) AllocError))
       → Grouping S K A F → Type 0
   AnswersThen s f rs [] h = HasRead s f rs h
@@ -62,24 +62,24 @@ module _ {S K A F : Type 0} (steps : S → Option A → S → Type 0) (asks : Mu
   AnswersThen s f rs (Some (Err e) ∷ more) h = ((k : Grouping S K A F) × HasRead s f rs k)
       × IsOver h × AllByRecursion (λ a. a ≡ None) more
 
-  -- A grouping that had answered the runs done answered so on, and now is h.
+  -- A grouping that had returned the runs done returned `answers` next, and is now h.
   pub record AnswersOn (s : S) (f : F) (done : List (List A))
       (answers : List (Option (Result (List A) AllocError))) (h : Grouping S K A F) : Type 0 where
     pub runs : List (List A)
-    -- what it answered after them
+    -- what it returned after the runs
     pub later : List (Option (Result (List A) AllocError))
     pub are_all : answers ≡ map (λ run. Some (Ok run)) runs ++ later
     pub ended : AnswersThen s f (done ++ runs) later h
 
--- A grouping that is not over needs a source that can be drawn and ends, and a closure that can be
--- called at each item that may come of it.
+-- A grouping that is not over needs a source that can be read and ends, and a closure that can be
+-- called with each item that the source may give.
 abbrev pub CanRead : {S K A F : Type 0} → (S → Type 0) → (S → Count) → (S → F → Type 0)
     → Grouping S K A F → Type 0
 CanRead can left callable g =
     (IsOver g → ⊥) → can g.source × IsFinite (left g.source) × callable g.source g.closure
 
--- There are no more runs than items ahead: those that the source has left, and the one that is
--- held.
+-- There are at most as many runs as items ahead: those that the source has left, and the one that
+-- is held.
 abbrev pub items_ahead : {K A : Type 0} → Ahead K A → ℕ → ℕ
 items_ahead Unread left = left
 items_ahead (Held k x) left = left + 1
@@ -88,8 +88,8 @@ items_ahead Ended left = 0
 abbrev pub runs_left : {S K A F : Type 0} → (S → Count) → Grouping S K A F → Count
 runs_left left g = at_most (items_ahead g.ahead (size (left g.source)))
 
--- Where g, which has read nothing, gives runs to its end, each in `Ok`, its source gives a list to
--- its end. If the closure acts as a function h, these are the runs of that list by h.
+-- If g, which has read nothing, gives runs to its end, each in `Ok`, its source gives a list to its
+-- end. If the closure acts as a function h, the runs are the runs of that list by h.
 abbrev pub GroupsRuns : {S K A F : Type 0} → (S → Option A → S → Type 0)
     → Mut F (Bor A × Unit {0}) K → (K → K → Bool) → Grouping S K A F → Type 0
 GroupsRuns {K = K} {A = A} steps asks eq g = EachRunFrom (GivesRun steps asks eq) g (λ p.

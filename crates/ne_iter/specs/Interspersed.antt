@@ -10,8 +10,8 @@ use Rattle.std.specs.declared.alloc.AllocError.{AllocError}
 use Rattle.ne_iter.specs.Clones.{TriesClone}
 use Rattle.ne_iter.specs.declared.iter.intersperse.RawIntersperse.{RawIntersperse}
 
--- zs are the items xs, each in `Ok`, and between each two of them what came of cloning the
--- separator; up to the first clone that was refused. `came` holds of what may come of a clone.
+-- zs are the items xs, each in `Ok`, and between each two of them what cloning the separator
+-- returned; up to the first clone that failed. `came` holds for what a clone may return.
 abbrev pub Interspersed : {A E : Type 0} → (Result A E → Type 0) → List A → List (Result A E)
     → Type 0
 Interspersed came [] zs = zs ≡ []
@@ -24,19 +24,21 @@ Interspersed {A} {E} came (x ∷ y ∷ xs) zs = (c : Result A E) × (more : List
 abbrev pub interspersed : {A : Type 0} → A → List A → List A
 interspersed s xs = join_by (λ x. x ∷ []) (s ∷ []) xs
 
--- What f makes of the items xs and of the s between each two of them, one after the other, is std's
--- `join` of the items: where f shows the bytes of texts, the text that they make.
+-- The lists that f makes of the items xs, and of the s between each two of them, one after the
+-- other, are std's `join` of the items. If f gives the bytes of texts, this is the text that they
+-- make.
 abbrev pub JoinsLists : {A : Type 0} → A → List A → Type 0
 JoinsLists {A} s xs = (f : A → List ℕ) → flat_map f (interspersed s xs) ≡ join_by f (f s) xs
 
--- If the items xs with s between each two, each in `Ok`, are values in `Ok`, they are these values.
+-- If xs with s between each two items, each in `Ok`, equals some values, each in `Ok`, then it
+-- equals these values.
 abbrev pub OnlyItsValues : {A : Type 0} → Type 0 → A → List A → Type 0
 OnlyItsValues {A} E s xs = (values : List A)
     → map {B = Result A E} Ok (interspersed s xs) ≡ map Ok values
     → (map {B = Result A E} Ok values ≡ map Ok values) × (values ≡ interspersed s xs)
 
--- the iterator that a `RawIntersperse` draws from, the separator, the item that was drawn and comes
--- next, and whether a clone was refused
+-- the iterator that a `RawIntersperse` takes items from, the separator, the item that was taken and
+-- comes next, and whether a clone failed
 abbrev pub drawn_from : {I X : Type 0} → RawIntersperse I X → I
 drawn_from s = s.iter
 
@@ -49,15 +51,16 @@ in_hand s = s.next
 abbrev pub is_over : {I X : Type 0} → RawIntersperse I X → Bool
 is_over s = s.is_over
 
--- at most the item in hand, and two for each that is left to draw
+-- at most the item held, and two for each item that is left
 abbrev pub interspersed_left : {I X : Type 0} → (I → Count) → RawIntersperse I X → Count
 interspersed_left left s = count_unless (is_over s)
     (count_map (λ n. 2 * n + option_len (in_hand s)) (left (drawn_from s)))
 
 module _ {S A E : Type 0} (steps : S → Option A → S → Type 0) (tries : A → Result A E → Type 0)
   where
-    -- Nothing is in hand: an item is drawn. Where none came, the end is answered; else what came of
-    -- cloning the separator, and then the item is in hand, or a clone was refused.
+    -- If no item is held, the next one is taken. If there is none, the result is `None`. Otherwise
+    -- the result is what cloning the separator returned, and then the item is held, or the clone
+    -- failed.
     abbrev pub DrawsNext : RawIntersperse S A → Option (Result A E) → RawIntersperse S A → Type 0
     DrawsNext s r t = (o : Option A) × steps (drawn_from s) o (drawn_from t)
         × MatchOption o ((r ≡ None) × (in_hand t ≡ None) × (is_over t ≡ false))
@@ -65,7 +68,7 @@ module _ {S A E : Type 0} (steps : S → Option A → S → Type 0) (tries : A �
         × MatchResult c (λ _. (in_hand t ≡ Some x) × (is_over t ≡ false))
         (λ _. is_over t ≡ true)))
 
-    -- The item x, which is in hand, is given.
+    -- The item x, which is held, is returned.
     pub record GivesHeld (s : RawIntersperse S A) (r : Option (Result A E))
         (t : RawIntersperse S A) (x : A) : Type 0 where
       pub answer : r ≡ Some (Ok x)
@@ -73,17 +76,17 @@ module _ {S A E : Type 0} (steps : S → Option A → S → Type 0) (tries : A �
       pub in_hand_then : in_hand t ≡ None
       pub is_on : is_over t ≡ false
 
-    -- One call. After a refused clone it answers `None` and draws nothing; an item in hand is
-    -- given; else `DrawsNext`.
+    -- One call. After a failed clone it returns `None` and takes nothing. If an item is held, it is
+    -- returned. Otherwise `DrawsNext` holds.
     abbrev pub InterspersesNext : RawIntersperse S A → Option (Result A E) → RawIntersperse S A
         → Type 0
     InterspersesNext s r t = (clones_of t ≡ clones_of s)
         × MatchBool (is_over s) ((r ≡ None) × (t ≡ s))
         (MatchOption (in_hand s) (DrawsNext s r t) (GivesHeld s r t))
 
--- Behind each run of `it` stands one of `rest`, whose items come behind x. If clones of the
--- separator s equal it and cannot be refused, a whole run gives all of them with s between each
--- two, each in `Ok`, and so do the values of any results that equal what it gave.
+-- Each run of `it` has a run of `rest`, whose items come after x. If clones of the separator s
+-- equal it and cannot fail, a whole run gives all of these items with s between each two, each in
+-- `Ok`. Any values that, in `Ok`, equal what the run gave are the same list.
 abbrev pub IntersperseRuns : {S A : Type 0} → (S → Option A → S → Type 0) → (A → A → Type 0)
     → (A → Type 0) → A → A → S → RawIntersperse S A → Type 0
 IntersperseRuns {S} {A} steps clones infallible s x rest it =

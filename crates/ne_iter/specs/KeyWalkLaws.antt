@@ -1,4 +1,5 @@
--- The walks over maps and sets that have an entry answer one first, and give all that they have.
+-- The iterators over maps and sets that have an entry return one first, and give all entries that
+-- they have left.
 use Rattle.std.proofs.Common.{arith, ap, subst, ◌≡◌, ◌<◌, ◌∙◌, length, List, map}
 use Rattle.std.specs.Map.Iter.{LendsFirst, TakesFirst}
 use Rattle.ne_vec.specs.Fronts.{AreFirst, Lists, Shows}
@@ -6,18 +7,18 @@ use Rattle.ne_vec.specs.FrontLaws.{front, marked, viewed_front, view_marked}
 use Rattle.ne_iter.specs.KeyWalks.{KeysWalk, KeyWalkGives, KeyWalkShows}
 use Rattle.ne_iter.specs.Sources.{HasFirst}
 
--- a walk that is seen as the list of what it has left
+-- an iterator whose value is the list of what it has left
 pub HasFirst-shown : {A X : Type 0} (shows : A → X) (es it : List X) → 0 < length es → it ≡ es
     → HasFirst (TakesFirst shows) it
 HasFirst-shown shows es it some same t ended =
     omega (arith, some, ap length same, ap length ended.0)
 
--- a walk that lends values for writing
+-- an iterator that returns mutable references to values
 pub HasFirst-lent : {S K X : Type 0} (rest : S → List (K × X)) (it : S) → 0 < length (rest it)
     → HasFirst (LendsFirst rest) it
 HasFirst-lent rest it some t ended = omega (arith, some, ap length ended.0)
 
--- a walk shows the entries that it has before it
+-- an iterator shows the entries that it has left
 module _ {A X : Type 0} (shows : A → X) (w es : List X) (same : w ≡ es) where
   all_shown : Shows (KeysWalk shows) (TakesFirst shows) shows w es
   unfolding Shows
@@ -27,7 +28,7 @@ module _ {A X : Type 0} (shows : A → X) (w es : List X) (same : w ≡ es) wher
   pub key_walk_shows : KeyWalkShows shows w es
   key_walk_shows = (marked w es, view_marked shows w es, all_shown)
 
--- a walk by value gives them
+-- an iterator by value gives the entries that it has left
 module _ {W X : Type 0} (becomes : W → List X → Type 0) (w : W) (es : List X)
     (made_of : (it : List X) → becomes w it → it ≡ es) where
   all_given : Lists becomes (TakesFirst (λ (x : X). x)) w es

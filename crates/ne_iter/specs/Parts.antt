@@ -80,7 +80,7 @@ flat_map_callee s = s.f
 abbrev pub flatten_source : {I : Type 0} → Flatten I → I
 flatten_source s = s.iter
 
--- the source of a `Scan`, the state that it begins with, and its closure
+-- the source of a `Scan`, its initial state, and its closure
 abbrev pub scan_source : {I S F : Type 0} → Scan I S F → I
 scan_source s = s.iter
 
@@ -97,7 +97,7 @@ group_by_source s = s.iter
 abbrev pub group_by_callee : {I F : Type 0} → NEGroupBy I F → F
 group_by_callee s = s.f
 
--- the item that an `Intersperse` has drawn, the iterator of those behind it, and the separator
+-- the item that an `Intersperse` has taken, the iterator over those after it, and the separator
 abbrev pub intersperse_first : {S X : Type 0} → Intersperse S X → X
 intersperse_first s = s.first
 

@@ -1,4 +1,4 @@
--- What a `Peekable` ends as, where a `&mut` to its first item is returned.
+-- The final value of a `Peekable` from which a `&mut` to its first item was returned.
 use Rattle.std.specs.Borrow.{Lends, MutBor, Fml, RattleType}
 use Rattle.ne_iter.specs.declared.iter.peek.Peekable.{Peekable}
 use Rattle.ne_iter.specs.Peeks.{with_first}

@@ -1,8 +1,8 @@
--- What `peekable` gives, by what its source gives.
+-- What `peekable` gives, depending on what its source gives.
 use Rattle.std.specs.Prelude.{◌≡◌, Bool, List, [], ◌∷◌}
 use Rattle.ne_iter.specs.declared.iter.peek.Peekable.{Peekable}
 
--- the item that was drawn, and the iterator of what comes after it
+-- the item that was taken, and the iterator over what comes after it
 abbrev pub peekable_first : {I X : Type 0} → Peekable I X → X
 peekable_first s = s.first
 
@@ -13,13 +13,13 @@ peekable_rest s = s.rest
 abbrev pub with_first : {I X : Type 0} → Peekable I X → X → Peekable I X
 with_first s x = record s { first = x }
 
--- xs, with x in the place of its first item
+-- xs, with x in place of its first item
 abbrev pub with_head : {A : Type 0} → A → List A → List A
 with_head x [] = []
 with_head x (y ∷ xs) = x ∷ xs
 
 -- `peekable`: the source's items, the first one as it was last written. w is what was written, or
--- the item itself.
+-- the first item itself.
 abbrev pub PeekableGives : {U I A : Type 0} → (Bool → U → List A → Type 0)
     → (Bool → Peekable I A → List A → Type 0) → U → Peekable I A → Type 0
 PeekableGives {A = A} reads peeked source result = (w : A) (whole : Bool) (zs : List A)

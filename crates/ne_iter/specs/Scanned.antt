@@ -5,7 +5,7 @@ use Rattle.std.specs.Fn.{Mut, CalledWithState, TakesWithState}
 use Rattle.std.specs.Iterator.{CallableAtEachTurn}
 use Rattle.ne_iter.specs.declared.iter.scan.ScanIter.{ScanIter}
 
--- the iterator that a `ScanIter` draws from, its state and its closure
+-- the iterator that a `ScanIter` takes items from, its state and its closure
 abbrev pub scanned_from : {I S F : Type 0} → ScanIter I S F → I
 scanned_from s = s.iter
 
@@ -17,8 +17,8 @@ callee_of s = s.f
 
 module _ {I S A B F : Type 0} (steps : I → Option A → I → Type 0)
     (calls : Mut F (MutBor S × (A × Unit {0})) (B × (MutBor S × Unit {0}))) where
-  -- One call of `next`: `None` at the end of the source, or the closure's answer at the item that
-  -- came.
+  -- One call of `next` returns `None` at the end of the source, or what the closure returns for the
+  -- next item.
   abbrev pub ScansNext : ScanIter I S F → Option B → ScanIter I S F → Type 0
   ScansNext s r t = MatchOption r
       (steps (scanned_from s) None (scanned_from t)
@@ -26,7 +26,7 @@ module _ {I S A B F : Type 0} (steps : I → Option A → I → Type 0)
       (λ y. (x : A) × steps (scanned_from s) (Some x) (scanned_from t)
       × CalledWithState calls (callee_of s) (state_of s) x y (callee_of t) (state_of t))
 
-  -- The closure may be called at each item that comes, whatever it made of the state before.
+  -- The closure may be called with each item that comes, whatever state its calls before left.
   abbrev pub CallableInScan : I → F → S → Type 0
   CallableInScan it f s = CallableAtEachTurn {P = F × S} steps
       (λ p x q. (y : B) × CalledWithState calls p.0 p.1 x y q.0 q.1)

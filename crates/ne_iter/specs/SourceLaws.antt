@@ -1,4 +1,4 @@
--- Proofs of the laws of sources, which the impls cite.
+-- Proofs of the laws of sources, which the implementations use.
 use Rattle.std.proofs.Common.{rules, arith, subst, sym, inl, inr}
 use Rattle.std.proofs.lemmas.Bool.{MatchBool-at_false}
 use Rattle.std.specs.Prelude.{length, ◌<◌, true, false, List, Option, Some, None, refl, MatchOption}
@@ -33,7 +33,7 @@ SameLists-self becomes steps u whole xs = (
   (λ v e h. subst (λ q. Reads becomes steps whole q xs) e h),
 )
 
--- a value that becomes one of which the same iterators are made
+-- a value that becomes a source from which the same iterators are made
 pub SameLists-through : {U S V A : Type 0} (becomes : U → S → Type 0)
     (steps : S → Option A → S → Type 0) (makes : U → V → Type 0) (becomes' : V → S → Type 0)
     → ((u : U) (it : S) → becomes u it → (v : V) × makes u v × becomes' v it)
@@ -70,7 +70,7 @@ pub HasFirst-once : {A : Type 0} (it : Once A) (x : A) → once_item it ≡ Some
     → HasFirst once_steps it
 HasFirst-once it x e t ended = let f = ended.0 in search rules
 
--- what becomes a source that is not empty gives an item itself
+-- a value that becomes a non-empty source gives an item itself
 pub IsNonEmpty-into : {U S V T A : Type 0} (becomes : U → S → Type 0)
     (steps : S → Option A → S → Type 0) (makes : U → V → Type 0) (becomes' : V → T → Type 0)
     (steps' : T → Option A → T → Type 0)
@@ -122,7 +122,7 @@ module _ {S U J A : Type 0} (steps : S → Option U → S → Type 0) (becomes :
       (MatchBool-at_false _ _ fresh h.2) h.1 has full
   ended_flat X s t u (Some y) fresh h end has full = let e = end.0 in search rules
 
-  -- inner lists that are not empty, one after the other
+  -- inner sources that are not empty, one after the other
   pub HasFirst-flatten : (s : Flatten S J) → flatten_front s ≡ None → flatten_done s ≡ false
       → HasFirst steps (flatten_source s) → IsNonEmpty becomes inner
       → HasFirst (flatten_steps steps becomes inner) s
@@ -132,7 +132,7 @@ module _ {S U J A : Type 0} (steps : S → Option U → S → Type 0) (becomes :
       ended_flat _ s t ended.1 ended.0 fresh (next_inner s ended.1 ended.0 f.0
       (front_none f.0 (flatten_front s) ended.1 empty f.1) f.2) ended.3 has full
 
--- where no item came to be copied or cloned, the source had ended
+-- if no item came to be copied or cloned, the source had ended
 module _ {S T : Type 0} (steps : S → Option (Bor T) → S → Type 0) where
   pub none_copied : (s t : S) (o : Option (Bor T)) → steps s o t → None ≡ option_copied o
       → steps s None t

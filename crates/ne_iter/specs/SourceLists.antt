@@ -1,6 +1,6 @@
--- What a method says of the list that its source gives.
--- `grind` takes such a fact at a term that fits the first call in its conclusion. So the mark of
--- the source and its list stands there, and an equation of the new list with itself.
+-- What a method says about the list that its source gives. `grind` uses such a fact if it finds a
+-- term that matches the first call in its conclusion. For this, the conclusion has the mark of the
+-- source and its list, and an equation of the new list with itself.
 use Rattle.std.specs.Prelude.{◌≡◌, ℕ, ◌<◌, ◌≤◌, ◌++◌, ◌∷◌, [], drop, map, true, Some, List}
 use Rattle.std.specs.Prelude.{length, Option, MatchOption, slice_index_or}
 use Rattle.std.specs.Fn.{Called, Mut}
@@ -10,43 +10,43 @@ use Rattle.std.specs.List.{flat_map, zip}
 use Rattle.std.specs.Option.{option_map}
 use Rattle.ne_vec.specs.Fronts.{GivesFronts, Lists, mark, view_mark}
 
--- The items of a run are the first of xs, and all of them if the run is whole: how a std iterator's
--- own clause says it.
+-- The items of a run are the first of xs, and all of them if the run is whole. A clause of std's
+-- iterators states it in this form.
 abbrev pub FrontOf : {S A : Type 0} {steps : S → Option A → S → Type 0}
     → Run steps → List A → Type 0
 FrontOf {A = A} p xs = (p.len ≤ length xs) × (p.whole ≡ true → p.len ≡ length xs)
     × ((k : ℕ) (d : A) → k < p.len → option_map (λ y. y) (p.at k) ≡ Some (slice_index_or xs k d))
 
--- A source of which no call of ours says so, as a vector that is handed over as it is, gives the
--- items of xs: its iterator's own clause does.
+-- The source gives the items of xs according to a clause of its iterator. This is for sources of
+-- which no clause of this crate says so, such as a vector that is passed as it is.
 abbrev pub MeetsList : {U S A : Type 0} → (U → S → Type 0) → (S → Option A → S → Type 0)
     → U → List A → Type 0
 MeetsList {S = S} becomes steps u xs =
     (it : S) → becomes u it → EachRunFrom steps it (λ p. FrontOf p xs)
 
--- What becomes a source becomes one that gives the items of xs.
+-- A value becomes a source that gives the items of xs.
 abbrev pub BecomesList : {W V T A : Type 0} → (W → V → Type 0) → (V → T → Type 0)
     → (T → Option A → T → Type 0) → W → List A → Type 0
 BecomesList {V = V} makes becomes steps w xs = (v : V) → makes w v → Lists becomes steps v xs
 
--- P holds of each list that the source gives
+-- P holds for each list that the source gives
 abbrev pub EachList : {U A : Type 0} → (U → List A → Type 0) → U → (List A → Type 0) → Type 0
 EachList {A = A} lists u P = (xs : List A) → lists u xs → (mark u xs ≡ 0) × P xs
 
--- P holds of each view of the items, and of the list of numbers that they show
+-- P holds for each view of the items, and the list of numbers that they show
 abbrev pub EachShown : {U A : Type 0} → ((A → ℕ) → U → List ℕ → Type 0) → U
     → ((A → ℕ) → List ℕ → Type 0) → Type 0
 EachShown {A = A} shows u P =
     (view : A → ℕ) (xs : List ℕ) → shows view u xs → (view_mark view u xs ≡ 0) × P view xs
 
--- What v becomes gives, run by run, as many items as xs has, or at most as many where the run is
--- not whole. Said of an adapter that numbers the items of xs, it spares `grind` the list of pairs.
+-- The iterator that v becomes gives, in a whole run, as many items as xs has, and at most as many
+-- in any other. For an adapter that numbers the items of xs, it spares `grind` the list of pairs.
 abbrev pub CountsAs : {V T A B : Type 0} → (V → T → Type 0) → (T → Option B → T → Type 0) → V
     → List A → Type 0
 CountsAs {T = T} becomes steps v xs = (it : T) → becomes v it → EachRunFrom steps it (λ p.
     (p.len ≤ length xs) × (p.whole ≡ true → p.len ≡ length xs))
 
--- `map` by a closure that acts as the function h, and the same of what references show
+-- `map` with a closure that acts as the function h, on items and on what references show
 module _ {U V A B F : Type 0} (calls : Mut F (A × Unit {0}) B) (f : F)
     (gives : V → List B → Type 0) (u : U) (v : V) where
   abbrev pub MapsList : (U → List A → Type 0) → Type 0
@@ -57,8 +57,8 @@ module _ {U V A B F : Type 0} (calls : Mut F (A × Unit {0}) B) (f : F)
   MapsShown shows = EachShown shows u (λ view xs. (h : ℕ → B)
       → ActsAs calls f (λ x. h (view x)) → (map h xs ≡ map h xs) × gives v (map h xs))
 
--- `chain`: the lists of two sources, one after the other. The second may be one that no call speaks
--- of.
+-- `chain`: the lists of two sources, one after the other. For the second source there may be no
+-- clause that states its list.
 abbrev pub ChainsLists : {U W V A : Type 0} → (U → List A → Type 0) → (W → List A → Type 0)
     → (W → List A → Type 0) → (V → List A → Type 0) → U → W → V → Type 0
 ChainsLists {A = A} lists others meets gives u w v = EachList lists u (λ xs.
@@ -73,14 +73,14 @@ ZipsLists {A = A} {B = B} lists others meets gives u w v =
     × ((xs : List A) (ys : List B) → (zip xs ys ≡ zip xs ys)
     × (lists u xs → meets w ys → gives v (zip xs ys)))
 
--- each call of f on x leaves f as it was and answers what gives the items of `inner x`
+-- each call of f with x leaves f unchanged and returns a source of the items of `inner x`
 abbrev pub AnswersLists : {A W B F : Type 0} → Mut F (A × Unit {0}) W → F
     → (W → List B → Type 0) → (A → List B) → Type 0
 AnswersLists {A} {W} {F = F} calls f lists inner =
     (x : A) (w : W) (g : F) → Called calls f (x, tt) w g → (g ≡ f) × lists w (inner x)
 
--- `flat_map`: the lists of the answers, one after another. An answer may be one that no call speaks
--- of.
+-- `flat_map`: the lists of the sources that f returns, one after another. For these there may be no
+-- clause that states their lists.
 abbrev pub SpreadsLists : {U A W B V F : Type 0} → Mut F (A × Unit {0}) W → F
     → (U → List A → Type 0) → (W → List B → Type 0) → (W → List B → Type 0)
     → (V → List B → Type 0) → U → V → Type 0
@@ -103,13 +103,13 @@ abbrev pub BeginsList : {U S A : Type 0} → (U → List A → Type 0) → (S �
 BeginsList lists steps u x rest =
     EachList lists u (λ xs. (xs ≡ x ∷ drop 1 xs) × GivesFronts steps (drop 1 xs) rest)
 
--- P holds of each list that the source gives, also where no call speaks of it
+-- P holds for each list that the source gives, also if no clause states that list
 abbrev pub EachMet : {U A : Type 0} → (U → List A → Type 0) → (U → List A → Type 0) → U
     → (List A → Type 0) → Type 0
 EachMet {A = A} lists meets u P = EachList lists u P
     × ((xs : List A) → (length xs ≡ length xs) × (meets u xs → P xs))
 
--- `try_into_nonempty_iter`: `None` where the list is empty, and else a source that gives it
+-- `try_into_nonempty_iter`: `None` if the list is empty, and otherwise a source that gives it
 abbrev pub LooksLists : {U V A : Type 0} → (U → List A → Type 0) → (U → List A → Type 0)
     → (V → List A → Type 0) → U → Option V → Type 0
 LooksLists lists meets gives u result = MatchOption result (EachMet lists meets u (λ xs. xs ≡ []))

@@ -1,4 +1,4 @@
--- What runs of a source's iterator give, in std's words, for `search`.
+-- What the runs of a source's iterator give, in std's terms, for `search`.
 use Rattle.std.specs.Prelude.{◌≡◌, ℕ, ◌+◌, ◌<◌, ◌≤◌, ◌∷◌, ◌++◌, true, Option, IsTrue}
 use Rattle.std.specs.Fn.{Mut}
 use Rattle.std.specs.Iterator.Adapters.{map_steps, flatten_steps, chain_steps, take_steps}
@@ -11,15 +11,15 @@ use Rattle.std.specs.declared.iter.Take.{Take}
 
 module _ {U S A : Type 0} (becomes : U → S → Type 0) (steps : S → Option A → S → Type 0)
     (u : U) (P : Run steps → Type 0) where
-  -- P holds of some run of an iterator that u becomes
+  -- P holds for some run of an iterator that u becomes
   abbrev pub RunsSome : Type 0
   RunsSome = (it : S) × becomes u it × SomeRun steps it P
 
-  -- P holds of some run that went on to `None`
+  -- P holds for some run that continued to `None`
   abbrev pub RunsWhole : Type 0
   RunsWhole = (it : S) × becomes u it × WholeRun steps it P
 
--- behind each run of the adapter `it` stands one of `source`
+-- each run of the adapter `it` has a run of `source` of which it is the map
 abbrev pub MapsRuns : {S A B F : Type 0} → (S → Option A → S → Type 0) → Mut F (A × Unit {0}) B
     → F → S → Map S F → Type 0
 MapsRuns steps calls f source it = EachRunFrom (map_steps steps calls) it (λ p.
@@ -32,13 +32,13 @@ ChainsRuns steps others a b it = EachRunFrom (chain_steps steps others) it (λ p
     × (p.items ≡ u.items ++ v.items) × (p.whole ≡ true → (u.whole ≡ true) × (v.whole ≡ true))
     × (0 < v.len → u.whole ≡ true))))
 
--- behind each run of the adapter `it`, of at most n items, stands one of `source` with these items
+-- each run of the adapter `it`, of at most n items, has a run of `source` with the same items
 abbrev pub TakesRuns : {S A : Type 0} → (S → Option A → S → Type 0) → ℕ → S → Take S → Type 0
 TakesRuns steps n source it = EachRunFrom (take_steps steps) it (λ p. (p.len ≤ n)
     × SomeRun steps source (λ q. HasSameItems p q
     × (IsTrue p.whole → p.len < n → IsTrue q.whole)))
 
--- where x came of `it`, and left `rest`: before each run of `rest` stands x in one of `it`
+-- if `it` returned x and became `rest`, each run of `rest` with x before it is a run of `it`
 abbrev pub BeginsRuns : {S A : Type 0} → (S → Option A → S → Type 0) → A → S → S → Type 0
 BeginsRuns steps x rest it = EachRunFrom steps rest (λ p.
     SomeRun steps it (λ q. (q.whole ≡ p.whole) × (q.len ≡ p.len + 1) × (q.items ≡ x ∷ p.items)))
