@@ -1,6 +1,5 @@
--- What each adapter gives where its source gives a list.
--- `becomes` and `steps` are of the source, `made` and `next` of the adapter, `meets` and `other` of
--- a second source.
+-- What each adapter gives if its source gives a list. `becomes` and `steps` are those of the
+-- source, `made` and `next` those of the adapter, `meets` and `other` those of a second source.
 use Rattle.std.proofs.Common.{refl, sym, ap, subst, ◌∙◌, ◌⊎◌, inl, inr}
 use Rattle.std.proofs.lemmas.List.{length-map, map-append}
 use Rattle.std.proofs.lemmas.Simd.{map-map}
@@ -33,7 +32,7 @@ use Rattle.ne_iter.proofs.ListFronts.{take_passed_stopped, scan_front}
 use Rattle.ne_iter.proofs.ScannedRuns.{scanned_values}
 use Rattle.ne_iter.proofs.Unrefused.{clones_in_ok, only_ok, spaced_front}
 
--- the source has ended, or an item came that does not pass
+-- the source has ended, or an item came that doesn't pass
 stopped : {U A F : Type 0} (reads : Bool → U → List A → Type 0)
     (calls : Mut F (Bor A × Unit {0}) Bool) (f q : F) (test : A → Bool) (u : U) (xs us : List A)
     (whole : Bool) → ActsAsAt calls f test → q ≡ f → GivesList reads u xs
@@ -250,7 +249,7 @@ module _ {U W V S R T A : Type 0} {becomes : U → S → Type 0} {steps : S → 
       parts.as_many parts.one_ended (first parts.ended parts.items parts.read)
       (second parts.other_ended parts.other_items parts.read_other))
 
--- what the answers give, one after another, is what stands beside the items
+-- the sources that f returns give the lists that belong to the items, one after another
 answers_given : {A W B F : Type 0} (reads : Bool → W → List B → Type 0)
     (calls : Mut F (A × Unit {0}) W) (f : F) (inner : A → List B)
     → AnswersLists calls f (GivesList reads) inner → (xs : List A) (us : List W) (p g : F)

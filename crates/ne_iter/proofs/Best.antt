@@ -1,5 +1,5 @@
--- The item that is kept of those that come: it is one of them, and by a test that ranks them the
--- first least or the first greatest. One item beats another by a test.
+-- The item that is kept is one of those that came, and if a test ranks the items, it is the first
+-- least or the first greatest of them. One item beats another by a test.
 use Rattle.std.proofs.Common.{ap, subst, sym, ◌∙◌}
 use Rattle.std.specs.Prelude.{◌≡◌, Bool, true, false, cond, List, [], ◌∷◌, ◌++◌, Option, Some}
 use Rattle.std.specs.Borrow.{Bor}
@@ -18,7 +18,7 @@ use Rattle.ne_iter.specs.Consumers.{IsFirstGreatest, IsFirstLeast}
 
 module _ {V F A : Type 0} (view : A → V) (calls : Shared F (Bor V × (Bor V × Unit {0})) Bool)
     (f : F) where
-  -- what holds of both items of a turn holds of the one that is kept
+  -- what holds for both items of a step holds for the one that is kept
   kept_has : (P : A → Type 0) (kept x next : A) → KeepsBetter view calls f kept x next
       → P kept → P x → P next
   kept_has P kept x next (true, says, e) p q = subst P (sym e) q
@@ -33,7 +33,7 @@ module _ {V F A : Type 0} (view : A → V) (calls : Shared F (Bor V × (Bor V ×
       (Contains-append_left (first ∷ ys) (x ∷ []) m has) (Contains-push (first ∷ ys) x))
       xs first kept (Contains-push [] first)
 
-  -- at two of the items zs, f answers whether the second beats the first
+  -- for two of the items zs, f returns whether the second beats the first
   abbrev pub AnswersAs : (A → A → Bool) → List A → Type 0
   AnswersAs beats zs = (x y : A) (t : Bool) → Contains zs x → Contains zs y
       → FnReturnsAtPair calls f (view x) (view y) t → t ≡ beats y x
@@ -63,7 +63,7 @@ module _ {A : Type 0} (less : A → A → Bool) (order : IsStrictWeakOrder less)
 
 module _ {V F A : Type 0} (view : A → V) (calls : Shared F (Bor V × (Bor V × Unit {0})) Bool)
     (f : F) (less : A → A → Bool) (order : IsStrictWeakOrder less) where
-  -- where f answers that the next item is less, the first least is kept
+  -- if f returns whether the next item is less, the first least item is kept
   pub IsFirstLeast-kept : (first : A) (xs : List A) (kept : A)
       → AnswersAs view calls f less (first ∷ xs)
       → FoldsTo (KeepsBetter view calls f) first xs kept → IsFirstLeast less (first ∷ xs) kept
@@ -74,19 +74,19 @@ module _ {V F A : Type 0} (view : A → V) (calls : Shared F (Bor V × (Bor V ×
 
 module _ {V F A : Type 0} (view : A → V) (calls : Shared F (Bor V × (Bor V × Unit {0})) Bool)
     (f : F) (less : A → A → Bool) (order : IsStrictWeakOrder less) where
-  -- where it answers that the next item is greater, the first greatest
+  -- if f returns whether the next item is greater, the first greatest item is kept
   pub IsFirstGreatest-kept : (first : A) (xs : List A) (kept : A)
       → AnswersAs view calls f (λ x y. less y x) (first ∷ xs)
       → FoldsTo (KeepsBetter view calls f) first xs kept → IsFirstGreatest less (first ∷ xs) kept
   IsFirstGreatest-kept =
       IsFirstLeast-kept view calls f (λ x y. less y x) (IsStrictWeakOrder-flip less order)
 
--- what `<` answers, said by `cmp`
+-- what `<` returns, stated by `cmp`
 pub less_by-from_partial_lt : {A : Type 0} {C : A → A → Option Ordering} {R : A → A → Ordering}
     → Agrees C R → (x y : A) (t : Bool) → t ≡ partial_lt C x y → t ≡ less_by R x y
 less_by-from_partial_lt a x y t e = e ∙ ap (is_some_and is_lt) (a x y)
 
--- where each call of f is one of h, and answers whether h answered what is meant
+-- each call of f is a call of h, and returns whether the result of h is the one meant
 pub AnswersAs-through : {F H A : Type 0} (calls : Shared F (Bor A × (Bor A × Unit {0})) Bool)
     (f : F) (through : Shared H (Bor A × (Bor A × Unit {0})) Ordering) (h : H) (zs : List A)
     (meant : Ordering → Bool) (test : A → A → Bool)

@@ -1,4 +1,4 @@
--- What each adapter's clause `gives` makes of the list that its source gives, for the clause
+-- What each adapter's clause `gives` says about the list that its source gives, for the clause
 -- `lists`.
 use Rattle.std.proofs.Common.{refl, subst, ap, ◌∙◌}
 use Rattle.std.proofs.lemmas.List.FromFn.{length-enumerate_from}
@@ -19,7 +19,7 @@ use Rattle.ne_iter.proofs.ReadLists.{becomes_read}
 
 module _ {U V A S T : Type 0} {becomes : U → S → Type 0} {steps : S → Option A → S → Type 0}
     {made : V → T → Type 0} {u : U} {v : V} where
-  -- an adapter that makes of each list one of its own
+  -- an adapter that makes a list of its own from each list
   pub gives_each : {B : Type 0} {next : T → Option B → T → Type 0} (makes : List A → List B)
       → ((xs : List A) → GivesList (Reads becomes steps) u xs
       → GivesList (Reads made next) v (makes xs))
@@ -166,7 +166,7 @@ module _ {U W V S R T B : Type 0} {becomes : U → S → Type 0} {meets : W → 
         ),
   )
 
--- what numbers the items of xs gives as many
+-- an adapter that numbers the items of xs gives as many items
 pub counts_as : {T A : Type 0} {next : T → Option (ℕ × A) → T → Type 0} (xs : List A) (it : T)
     → GivesFronts next (enumerate_from 0 xs) it
     → EachRunFrom next it (λ p. (p.len ≤ length xs) × (p.whole ≡ true → p.len ≡ length xs))

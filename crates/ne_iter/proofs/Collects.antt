@@ -1,4 +1,4 @@
--- What std's collecting into maps and sets makes, of a source that has an item.
+-- What std's collecting into maps and sets makes from a source that has an item.
 use mathlib.Core.Path.{fun_ext}
 use Rattle.std.proofs.Common.{◌≡◌, ◌<◌, ◌||◌, Bool, true, List, [], ◌∷◌, length}
 use Rattle.std.proofs.Common.{arith, is_some, sym, ap, subst, ◌∙◌}
@@ -28,7 +28,7 @@ use Rattle.ne_iter.specs.CollectedLaws.{option_or-none, some_member, update_all-
 use Rattle.ne_iter.specs.SourceLaws.{some_item}
 use Rattle.ne_iter.specs.Sources.{IsNonEmpty, Reads, SameLists}
 
--- what was made of the items that the source's iterator gave to its end
+-- what was made from the items that the source's iterator gave to the end
 module _ {U S V T A : Type 0} {becomes : U → S → Type 0} {steps : S → Option A → S → Type 0}
     {makes : U → V → Type 0} {becomes' : V → T → Type 0} {steps' : T → Option A → T → Type 0} where
   pub collects : SameLists becomes steps makes becomes' steps' → IsNonEmpty becomes' steps'
@@ -48,7 +48,7 @@ module _ {U S V T A : Type 0} {becomes : U → S → Type 0} {steps : S → Opti
       )) ran
 
 module _ {K : Type 0} {eq : K → K → Bool} (laws : IsEquivalence eq) where
-  -- keys that are those of a list with an item
+  -- the keys of a list that has an item
   some_key : (xs ks : List K) → ((q : K) → is_member eq ks q ≡ is_member eq xs q) → 0 < length xs
       → 0 < length ks
   some_key [] ks same some = absurd (omega (arith, some))

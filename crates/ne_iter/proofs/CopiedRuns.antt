@@ -1,4 +1,4 @@
--- What a run of `copied`, and of a cloning iterator, says of the run of its source.
+-- What a run of `copied`, and of a cloning iterator, says about the run of its source.
 use Rattle.std.proofs.Common.{rules, ap}
 use Rattle.std.specs.Prelude.{◌≡◌, List, [], ◌∷◌, Option, Some, None, refl, MatchOption, map}
 use Rattle.std.specs.List.{AllZip}

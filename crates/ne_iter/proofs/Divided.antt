@@ -1,4 +1,5 @@
--- What groupings say of whole lists: the division of what was drawn, by the keys and by a function.
+-- What groupings say about whole lists: the division of what was taken, by the keys and by a
+-- function.
 use Rattle.std.proofs.Common.{◌≡◌, ◌≢◌, Bool, List, [], ◌∷◌, ◌++◌, map, Option, refl, sym, ap}
 use Rattle.std.proofs.Common.{subst, ◌∙◌}
 use Rattle.std.proofs.lemmas.List.{map-append, append-nil}
@@ -55,7 +56,7 @@ module _ {S K A F : Type 0} (steps : S → Option A → S → Type 0) (asks : Mu
       → IsDivision (by_first (same_key eq)) xs (rs ++ last ∷ [])
       → IsDivision (by_first (same_key eq)) (xs ++ more) all → (rest : List (List (A × K)))
       × (all ≡ rs ++ rest)) where
-    -- whatever comes behind the items drawn, the runs answered are the first ones
+    -- whatever comes after the items taken, the runs returned are the first ones
     are_first : (a : Ahead K A) (t : S) (drawn : List (A × K)) (runs : List (List (A × K)))
         (more : List (A × K)) (all : List (List (A × K))) → StandsAt steps asks eq a s drawn t runs
         → (a ≡ Ended → more ≡ []) → IsDivision (by_first (same_key eq)) (drawn ++ more) all
@@ -81,7 +82,7 @@ module _ {S K A F : Type 0} (steps : S → Option A → S → Type 0) (asks : Mu
         )
 
 module _ {A K F : Type 0} (asks : Mut F (Bor A × Unit {0}) K) (eq : K → K → Bool) (h : A → K) where
-  -- each item with the key that h has for it
+  -- each item with the key that h gives for it
   abbrev pub keyed : A → A × K
   keyed x = (x, h x)
 

@@ -17,13 +17,13 @@ not_less_by : (x y : ℕ) (a b : Bool) → ltb x y ≡ a
 not_less_by x y true b e h = absurd (true≢false h)
 not_less_by x y false b e h = ltb-false x y e
 
--- of two numbers one of which is not less than the other
+-- if a number is not less than another, the other is at most that number
 pub not_less : (x y : ℕ) → less_by nat_cmp x y ≡ false → y ≤ x
 not_less x y h = not_less_by x y (ltb x y) (eqb x y) refl h
 
 module _ {A : Type 0} (beats : A → A → Bool) (R : A → A → Type 0)
     (means : (x y : A) → beats y x ≡ false → R x y) where
-  -- what no item beats is an item in that relation to each
+  -- an item that no item beats is in that relation to each item
   pub best_is : (xs : List A) (place : ℕ) (best : A) → IsFirstBest beats xs (length xs) place
       → slice_get xs place ≡ Some best → Contains xs best × All (λ n. R best n) xs
   best_is xs place best first e = (
@@ -33,7 +33,7 @@ module _ {A : Type 0} (beats : A → A → Bool) (R : A → A → Type 0)
         (get_or_from_slice_get xs place best d e) (first.1 k d within)),
   )
 
-  -- there is one, where `beats` is an order
+  -- there is one, if `beats` is an order
   pub best_there : IsStrictWeakOrder beats → (x : A) (xs : List A)
       → (best : A) × (Contains (x ∷ xs) best × All (λ n. R best n) (x ∷ xs))
   best_there o x xs =

@@ -1,4 +1,4 @@
--- What the methods that may stop early answer of the list that their source gives, where their
+-- What the methods that may stop early return for the list that their source gives, if their
 -- closure acts as a test.
 use Rattle.std.proofs.Common.{arith, sym, subst, ap, ◌∙◌}
 use Rattle.std.specs.Prelude.{◌≡◌, ℕ, zero, suc, ◌≤◌, ◌&&◌, ◌||◌, Bool, true, false, cond, List, []}

@@ -1,4 +1,4 @@
--- The runs that a grouping has answered are the first runs of its source's list.
+-- The runs that a grouping has returned are the first runs of its source's list.
 use Rattle.std.proofs.Common.{ap, subst, sym, inl, inr, ◌⊎◌, ◌∙◌}
 use Rattle.std.proofs.lemmas.List.{append-nil}
 use Rattle.std.specs.Prelude.{◌≡◌, ◌≢◌, Bool, true, List, [], ◌∷◌, ◌++◌, Option, None, Some}
@@ -15,7 +15,7 @@ module _ {A : Type 0} (goes_on : List A → A → Bool)
     (longer : (xs more : List A) (rs all : List (List A)) (last : List A)
     → IsDivision goes_on xs (rs ++ last ∷ []) → IsDivision goes_on (xs ++ more) all
     → (rest : List (List A)) × (all ≡ rs ++ rest)) where
-  -- the items of ps were drawn, of which one is held where the source has not ended
+  -- the items of ps were taken; one of them is held if the source has not ended
   module _ {K : Type 0} (xs : List A) (all rs : List (List A)) (divides : IsDivision goes_on xs all)
       (ended : Bool) (ps : List (A × K)) (front : AreFirst ended xs (items_of ps)) where
     all_drawn : IsDivision goes_on (items_of ps) rs → ended ≡ true → all ≡ rs

@@ -1,4 +1,4 @@
--- What a run of std's `flat_map` says of the runs of its source and of the inner sources.
+-- What a run of std's `flat_map` says about the runs of its source and of the inner sources.
 use Rattle.std.proofs.Common.{rules, subst, sym, ap, ◌∙◌}
 use Rattle.std.specs.Prelude.{◌≡◌, List, [], ◌∷◌, ◌++◌, length, Option, Some, None, refl, Bool}
 use Rattle.std.specs.Prelude.{true, false, ltb, ◌||◌, MatchOption, OnSome, IfNone}
@@ -17,7 +17,7 @@ use Rattle.ne_vec.specs.Divisions.{joined}
 
 module _ {S U J A : Type 0} (steps : S → Option U → S → Type 0) (becomes : U → J → Type 0)
     (inner : J → Option A → J → Type 0) where
-  -- the inner iterator in hand, if there is one, gave ys
+  -- the inner iterator that is held, if there is one, gave ys
   abbrev Front : Bool → Option J → List A → Type 0
   Front b o ys = MatchOption o (ys ≡ []) (λ j. DrainsIf inner (b ≡ true) j ys)
 

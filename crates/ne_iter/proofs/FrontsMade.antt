@@ -14,7 +14,7 @@ module _ {T V : Type 0} (collected : List T → V → Type 0) (v : V) (xs ys : L
   front_made true f h = subst (λ l. collected l v) (whole_front xs ys f) h
   front_made false f h = (ys, f.0, f.1, h)
 
-  -- the first items made v, and all of them did where v is complete
+  -- the first items made v; if v is complete, all items did
   pub front_makes : (is_complete : V → Bool) → AreFirst (is_complete v) xs ys → collected ys v
       → FrontMakes collected is_complete xs v
   front_makes is_complete f h = front_made (is_complete v) f h
@@ -30,7 +30,7 @@ module _ {T E : Type 0} where
   first_err (v ∷ vs) e more =
       ap (result_map_both (λ xs. v ∷ xs) (λ e. e)) (first_err vs e more)
 
-  -- an `Err` behind values is the first, whatever comes behind it
+  -- an `Err` after values is the first one, whatever comes after it
   pub first_err_at : (items : List (Result T E)) (values : List T) (e : E)
       → items ≡ map Ok values ++ Err e ∷ [] → (more : List (Result T E))
       → values_or_first_err (items ++ more) ≡ Err e

@@ -1,4 +1,4 @@
--- What the calls of a closure answer, where it acts as a function.
+-- What the calls of a closure return if it acts as a function.
 use Rattle.std.proofs.Common.{arith, sym, subst, ap}
 use Rattle.std.specs.Prelude.{Bool, false, zero, suc, ◌≡◌, List, [], ◌∷◌, map, refl}
 use Rattle.std.specs.Borrow.{Bor}
@@ -69,7 +69,7 @@ folded_value {F = F} {B = B} calls f h init r (x ∷ xs) g acts (q, call, rest) 
     from_f in
     folded_value calls f h (h init x) r xs g acts from_next
 
--- a first item at which the answer may be false does not pass
+-- a first item for which the test may return false doesn't pass
 pub fails_test : {F A : Type 0} (calls : Mut F (Bor A × Unit {0}) Bool) (f : F) (test : A → Bool)
     (ys : List A) → ActsAsAt calls f test → FailsFirst calls f ys → FailsTest test ys
 fails_test calls f test [] acts h = tt

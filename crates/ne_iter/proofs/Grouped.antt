@@ -1,4 +1,4 @@
--- What the calls of a grouping lead to, and what that says of its source.
+-- What the calls of a grouping lead to, and what that says about its source.
 use Rattle.std.proofs.Common.{◌≡◌, Bool, true, false, List, [], ◌∷◌, ◌++◌, map, Option, Some, None}
 use Rattle.std.proofs.Common.{Result, Ok, Err, refl, sym, ap, subst, ◌∙◌, append_assoc, ◌⊎◌, inl}
 use Rattle.std.proofs.Common.{inr}
@@ -22,7 +22,7 @@ use Rattle.ne_iter.proofs.Groupings.{division_of_none, held_is_not_over, unread_
 
 module _ {S K A F : Type 0} (steps : S → Option A → S → Type 0) (asks : Mut F (Bor A × Unit {0}) K)
     (eq : K → K → Bool) where
-  -- one that is over answers `None` ever after
+  -- one that is over returns only `None`
   none_ever_after : (g h : Grouping S K A F) (answers : List (Option (Result (List A) AllocError)))
       → IsOver g → FoldsTo (GivesRun steps asks eq) g answers h
       → IsOver h × AllByRecursion (λ a. a ≡ None) answers
@@ -99,7 +99,7 @@ module _ {S K A F : Type 0} (steps : S → Option A → S → Type 0) (asks : Mu
       (append_assoc done (run ∷ []) rs) (read_on s f (done ++ run ∷ []) rs calls.0 h
       (calls.1.reads s f done read) calls.2)
 
-  -- and the `Err` behind them, if one came: k is the grouping before it
+  -- and the `Err` after them, if one came: k is the grouping before it
   abbrev pub Came : S → F → List (List A) → List (Result (List A) AllocError) → Type 0
   Came s f done xs = (rs : List (List A)) × ((xs ≡ map Ok rs)
       ⊎ ((e : AllocError) × (xs ≡ map Ok rs ++ Err e ∷ []) × (k : Grouping S K A F)
@@ -196,7 +196,7 @@ module _ {S K A F : Type 0} (steps : S → Option A → S → Type 0) (asks : Mu
     read_has_runs whole rs h read over = has_runs h.ahead whole rs read.drawn read.runs h.closure
         h.source read.stands read.answered read.asked over
 
-    -- the runs that came, where the calls ended, and before an `Err`
+    -- the runs that came, if the calls ended, and before an `Err`
     pub given_runs : (whole : Bool) (rs : List (List A)) (g h : Grouping S K A F)
         → HasRead steps asks eq s f [] g → Yields (GivesRun steps asks eq) g (map Ok rs) h
         → (whole ≡ true → (u : Grouping S K A F) × GivesRun steps asks eq h None u)
@@ -217,13 +217,13 @@ module _ {S K A F : Type 0} (steps : S → Option A → S → Type 0) (asks : Mu
       inr (e, is, read_has_runs false rs k read (λ w. cc)),
     )
 
-  -- a grouping as `into_iter` makes it has answered no run
+  -- a grouping that `into_iter` makes has returned no run
   pub begun : (it : Grouping S K A F) (f : F) → it.closure ≡ f → it.ahead ≡ Unread
       → HasRead steps asks eq it.source f [] it
   begun it f same unread = subst (λ q. HasRead steps asks eq it.source q [] it) same
       (fresh_grouping steps asks eq it unread)
 
-  -- the runs that came to the end, where a closure that acts as a function gives the runs by it
+  -- the runs that came to the end, if a closure that acts as a function gives the runs by it
   pub runs_grouped : (g : Grouping S K A F) → g.ahead ≡ Unread
       → ((eq : K → K → Bool) (h : A → K) (ps : List (A × K)) (rs : List (List A)) (f : F)
       → ActsAsAt asks g.closure h → ShownEach asks g.closure ps f → DividesByKey eq ps rs

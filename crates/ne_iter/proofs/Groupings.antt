@@ -1,4 +1,4 @@
--- The steps of a grouping: a run is begun, goes on, and is answered.
+-- The steps of a grouping: a run is begun, continued, and returned.
 use Rattle.std.proofs.Common.{◌≡◌, ◌≢◌, Bool, true, false, List, [], ◌∷◌, ◌++◌, map, Option, Some}
 use Rattle.std.proofs.Common.{None, refl, sym, ap, subst, ◌∙◌}
 use Rattle.std.proofs.iter.Next.{Yields-more}
@@ -37,7 +37,7 @@ division_of_none goes_on = record { whole = refl; runs = tt; breaks = tt }
 
 module _ {S K A F : Type 0} (steps : S → Option A → S → Type 0) (asks : Mut F (Bor A × Unit {0}) K)
     (eq : K → K → Bool) where
-  -- the runs that were answered, and one that was begun and whose end has not come yet
+  -- the runs that were returned, and one that was begun and has not ended yet
   pub record OpenRun (s : S) (f : F) (rs : List (List A)) (t : S) (g : F) (k : K)
       (run : List A) : Type 0 where
     pub drawn : List (A × K)
@@ -89,7 +89,7 @@ module _ {S K A F : Type 0} (steps : S → Option A → S → Type 0) (asks : Mu
           is = refl;
         }
 
-    -- the items drawn, and one more
+    -- the items taken, and one more
     drawn_more : (drawn : List (A × K)) (t : S) (x : A) (k : K) (t' : S)
         → Yields steps s (items_of drawn) t → steps t (Some x) t'
         → Yields steps s (items_of (drawn ++ (x, k) ∷ [])) t'
@@ -125,7 +125,7 @@ module _ {S K A F : Type 0} (steps : S → Option A → S → Type 0) (asks : Mu
         ∙ (ap (λ r. map items_of runs ++ r ∷ []) is
         ∙ sym (map-append items_of runs (((first, k) ∷ later) ∷ [])))
 
-    -- the run is answered: the item behind it is held, or the source has ended
+    -- the run is returned: the item after it is held, or the source has ended
     pub close_held : (t : S) (g : F) (k : K) (run : List A) (x : A) (k' : K) (h : Grouping S K A F)
         → ((xs : List (A × K)) (p : A × K) (runs : List (List (A × K))) (last : List (A × K))
         → IsDivision (by_first (same_key eq)) xs (runs ++ last ∷ [])

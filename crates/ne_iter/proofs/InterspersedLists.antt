@@ -1,4 +1,4 @@
--- A list with separators between its items, where no clone of the separator is refused.
+-- A list with separators between its items, if no clone of the separator fails.
 use Rattle.std.proofs.Common.{subst, sym, ap, ◌∙◌, append-nil}
 use Rattle.std.proofs.iter.runs.Made.{run, took}
 use Rattle.std.specs.Iterator.{DrainsIf}

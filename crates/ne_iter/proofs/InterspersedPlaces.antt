@@ -1,4 +1,4 @@
--- What stands where in a list with separators.
+-- What is at which place in a list with separators.
 use Rattle.std.proofs.Common.{rules, arith, subst, ap}
 use Rattle.std.specs.Prelude.{◌≡◌, ℕ, zero, suc, ◌+◌, ◌-◌, ◌*◌, List, [], ◌∷◌, length, slice_get}
 use Rattle.std.specs.Prelude.{Some, IsSomeAnd, refl, true, Result, Ok, Err, is_ok}

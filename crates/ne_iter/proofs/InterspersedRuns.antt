@@ -1,4 +1,4 @@
--- What a run of an interspersing iterator says of the run of its source.
+-- What a run of an interspersing iterator says about the run of its source.
 use Rattle.std.proofs.Common.{rules, subst, sym, ap, ◌∙◌}
 use Rattle.std.specs.Prelude.{◌≡◌, List, [], ◌∷◌, ◌++◌, Option, Some, None, refl, Bool, true, false}
 use Rattle.std.specs.Prelude.{◌&&◌, Result, Ok, Err, is_ok, MatchResult}
@@ -13,26 +13,26 @@ use Rattle.ne_iter.proofs.Runs.{both_true}
 
 module _ {S A E : Type 0} (steps : S → Option A → S → Type 0) (tries : A → Result A E → Type 0)
     (separator : A) where
-  -- zs were given since x was in hand, and xs are the items behind it
+  -- zs were given since x was held, and xs are the items after it
   abbrev Behind : Bool → A → S → List (Result A E) → Type 0
   Behind whole x s zs = (xs : List A) × (more : List (Result A E))
       × DrainsIf steps ((whole && list_all is_ok zs) ≡ true) s xs
       × Interspersed (tries separator) (x ∷ xs) (zs ++ more) × (whole ≡ true → more ≡ [])
 
-  -- no clone was refused, and o is in hand
+  -- no clone has failed, and o is held
   abbrev Stands : RawIntersperse S A → Option A → Type 0
   Stands s o = (in_hand s ≡ o) × (is_over s ≡ false) × (clones_of s ≡ separator)
 
   abbrev Next : RawIntersperse S A → Option (Result A E) → RawIntersperse S A → Type 0
   Next = InterspersesNext steps tries
 
-  -- what was in hand is given
+  -- the item held is returned
   gave : (s t : RawIntersperse S A) (x : A) (r : Option (Result A E)) → Stands s (Some x)
       → Next s r t → (r ≡ Some (Ok x)) × (drawn_from t ≡ drawn_from s) × Stands t None
   gave s t x r at st = let h = MatchOption-at_some _ _ x at.0 (MatchBool-at_false _ _ at.1 st.1) in
       (h.answer, h.draws_none, (h.in_hand_then, h.is_on, st.0 ∙ at.2))
 
-  -- nothing was in hand
+  -- no item was held
   drew : (s t : RawIntersperse S A) (r : Option (Result A E)) → Stands s None → Next s r t
       → DrawsNext steps tries s r t
   drew s t r at st = MatchOption-at_none _ _ at.0 (MatchBool-at_false _ _ at.1 st.1)
@@ -42,7 +42,7 @@ module _ {S A E : Type 0} (steps : S → Option A → S → Type 0) (tries : A �
   no_item s t (None, st, h) = st
   no_item s t (Some x, st, h) = absurd h
 
-  -- what came of cloning the separator, and y is the item behind it
+  -- what cloning the separator returned, and y is the item after it
   abbrev Came : RawIntersperse S A → Result A E → RawIntersperse S A → A → Type 0
   Came s c t y = steps (drawn_from s) (Some y) (drawn_from t) × tries (clones_of s) c
       × MatchResult c (λ _. (in_hand t ≡ Some y) × (is_over t ≡ false)) (λ _. is_over t ≡ true)
@@ -52,7 +52,7 @@ module _ {S A E : Type 0} (steps : S → Option A → S → Type 0) (tries : A �
   an_item s t c (None, st, h) = absurd (none-some c (sym h.0))
   an_item s t c (Some y, st, h) = (y, (st, h.0, h.1))
 
-  -- after a refused clone nothing comes
+  -- after a failed clone nothing comes
   silent : (W : Type 0) (s : RawIntersperse S A) (zs : List (Result A E)) → is_over s ≡ true
       → DrainsIf Next W s zs → zs ≡ []
   silent W s [] over run = refl

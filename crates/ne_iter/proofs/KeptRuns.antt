@@ -1,5 +1,5 @@
--- What a run of std's `filter`, `filter_map`, `skip`, `skip_while` or `take_while` says of the run
--- of its source, and what a run of `once` says of its item.
+-- What a run of std's `filter`, `filter_map`, `skip`, `skip_while` or `take_while` says about the
+-- run of its source, and what a run of `once` says about its item.
 use Rattle.std.proofs.Common.{arith, subst, sym, ap, inl, inr, ◌⊎◌, ◌∙◌}
 use Rattle.std.proofs.lemmas.List.{append-nil, drop_all, drop_at}
 use Rattle.std.specs.Prelude.{◌≡◌, ℕ, ◌≤◌, List, [], ◌∷◌, ◌++◌, length, Option, Some, None, refl}
@@ -27,7 +27,7 @@ use Rattle.ne_iter.specs.Gives.{FailsFirst, FilterGives, FilterMapGives, SkipGiv
 use Rattle.ne_iter.specs.Gives.{TakeWhileGives, FailsAtItem}
 use Rattle.ne_iter.proofs.JoinedRuns.{Yields-append}
 
--- each of xs with the answer b beside it
+-- each item of xs, paired with b
 abbrev answered : {A B : Type 0} → B → List A → List (A × B)
 answered b xs = map (λ x. (x, b)) xs
 
@@ -53,7 +53,7 @@ module _ {S A F : Type 0} (steps : S → Option A → S → Type 0)
       × DrainsIf steps (whole ≡ true) (filter_source s) (map (λ p. p.0) ps)
       × ShownEach calls (filter_callee s) ps g × (xs ≡ map (λ p. p.0) (filter (λ p. p.1) ps))
 
-  -- behind items zs that failed
+  -- after items zs that failed
   sifted_behind : (whole : Bool) (s : Filter S F) (xs zs : List A) (ps : List (A × Bool)) (f g : F)
       → DrainsIf steps (whole ≡ true) (filter_source s) (zs ++ map (λ p. p.0) ps)
       → AnswersEachAt calls false (filter_callee s) zs f → ShownEach calls f ps g
@@ -124,7 +124,7 @@ module _ {S A B F : Type 0} (steps : S → Option A → S → Type 0)
       × DrainsIf steps (whole ≡ true) (filter_map_source s) xs
       × Calls calls (filter_map_callee s) xs os g × (ys ≡ filter_map (λ o. o) os)
 
-  -- what a call says that passed over items and then drew o
+  -- what a call says that skipped items and then took o
   abbrev Drew : F → Option B → FilterMap S F → Option A → Type 0
   Drew f r t o = MatchOption o ((r ≡ None) × (filter_map_callee t ≡ f))
       (λ x. Called calls f (x, tt) r (filter_map_callee t) × IsSome r)
@@ -205,7 +205,7 @@ module _ {S A : Type 0} (steps : S → Option A → S → Type 0) where
   none_passed [] s u r l y = subst (λ q. steps q r u) (sym y.1) y.2
   none_passed (x ∷ xs) s u r l y = absurd (omega arith)
 
-  -- where nothing is left to skip, the source answers
+  -- if nothing is left to skip, the result is the source's
   DrainsIf-skip_none : {W : Type 0} (s : Skip S) (xs : List A) → skip_count s ≡ 0
       → DrainsIf (skip_steps steps) W s xs → DrainsIf steps W (skip_source s) xs
   DrainsIf-skip_none s [] e k = (
@@ -274,7 +274,7 @@ module _ {S A : Type 0} (steps : S → Option A → S → Type 0) where
 
 module _ {S A F : Type 0} (steps : S → Option A → S → Type 0)
     (calls : Mut F (Bor A × Unit {0}) Bool) where
-  -- once an item has failed, the source answers
+  -- once an item has failed, the result is the source's
   DrainsIf-skip_while_begun : {W : Type 0} (s : SkipWhile S F) (xs : List A)
       → skip_while_done_skipping s ≡ true → DrainsIf (skip_while_steps steps calls) W s xs
       → DrainsIf steps W (skip_while_source s) xs
@@ -350,7 +350,7 @@ module _ {S A F : Type 0} (steps : S → Option A → S → Type 0)
         fails = p.4;
       }
 
-  -- what a call says that drew o
+  -- what a call says that took o
   abbrev Tested : TakeWhile S F → Option A → TakeWhile S F → Option A → Type 0
   Tested s r t o = MatchOption o ((r ≡ None) × (take_while_done t ≡ false))
       (λ x. (b : Bool) × CalledAt calls (take_while_callee s) x b (take_while_callee t)
@@ -388,7 +388,7 @@ module _ {S A F : Type 0} (steps : S → Option A → S → Type 0)
     ),
   )
 
-  -- behind an item x that passed
+  -- after an item x that passed
   taken_behind : (whole : Bool) (x : A) (xs : List A) (s t : S) (f g : F) → steps s (Some x) t
       → CalledAt calls f x true g → Taken whole t g xs → Taken whole s f (x ∷ xs)
   taken_behind whole x xs s t f g st c (h, a, inl k) = (h, (g, c, a), inl (k.0, (t, st, k.1), k.2))

@@ -1,5 +1,5 @@
--- Items with their keys: what the calls of a closure that pairs an item with its key say of the
--- calls for the key, and what is kept of the pairs by their keys.
+-- Items with their keys: what the calls of a closure that pairs an item with its key say about the
+-- calls for the key, and which of the pairs is kept by their keys.
 use Rattle.std.proofs.Common.{ap, subst, ◌∙◌, refl}
 use Rattle.std.specs.Prelude.{◌≡◌, Bool, true, false, cond, List, [], ◌∷◌, map, Option}
 use Rattle.std.specs.Borrow.{Bor}
@@ -13,13 +13,13 @@ use Rattle.ne_iter.specs.Calls.{Calls, ShownEach}
 abbrev pub keyed : {A B : Type 0} → B × A → A × B
 keyed p = (p.1, p.0)
 
--- `asks` are the calls for the key, `pairs` those of the closure that pairs, and `asked` says which
--- state of the one stands in a state of the other
+-- `asks` are the calls for the key, and `pairs` those of the closure that makes pairs. `asked`
+-- gives the state of the first closure within a state of the second.
 module _ {A B F G : Type 0} (asks : Mut F (Bor A × Unit {0}) B)
     (pairs : Mut G (A × Unit {0}) (B × A)) (asked : G → F)
     (each : (f : G) (x : A) (p : B × A) (g : G) → Called pairs f (x, tt) p g
     → (x ≡ p.1) × CalledAt asks (asked f) x p.0 (asked g)) where
-  -- the pairs are of the items that came, and the answers at them
+  -- the pairs are made of the items that came and the keys returned for them
   pub ShownEach-pairs : (f : G) (xs : List A) (ps : List (B × A)) (g : G) → Calls pairs f xs ps g
       → (xs ≡ map (λ p. p.0) (map keyed ps)) × ShownEach asks (asked f) (map keyed ps) (asked g)
   ShownEach-pairs f [] [] g e = (refl, ap asked e)
@@ -38,7 +38,7 @@ module _ {A B F G : Type 0} (asks : Mut F (Bor A × Unit {0}) B)
   asked_each f (x ∷ xs) g (h, one, rest) =
       (asked h, (one.0.0, (each f x one.0 h one.1).1), asked_each h xs g rest)
 
-  -- it may be called at each item if the key may be asked there
+  -- it may be called with each item with which the key may be computed
   pub CallableOnAll-pairs : ((f : G) (x : A) → TakesAt asks (asked f) x → Takes pairs f (x, tt))
       → {S : Type 0} (steps : S → Option A → S → Type 0) (it : S) (f : G)
       → CallableOnAllAt steps asks it (asked f) → CallableOnAll steps pairs it f
@@ -52,7 +52,7 @@ keyed_cond : {A B : Type 0} (t : Bool) (p q : B × A)
 keyed_cond true p q = refl
 keyed_cond false p q = refl
 
--- where each call of f on two pairs is one of h on their keys, the same ones are kept
+-- if each call of f on two pairs is a call of h on their keys, the same items are kept
 pub KeepsBetter-keyed : {A B F H : Type 0}
     (calls : Shared F (Bor (B × A) × (Bor (B × A) × Unit {0})) Bool) (f : F)
     (through : Shared H (Bor B × (Bor B × Unit {0})) Bool) (h : H)

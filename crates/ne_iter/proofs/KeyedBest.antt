@@ -1,4 +1,4 @@
--- The best of items by their keys, where the keys are the values of a function.
+-- The best of items by their keys, if the keys are the values of a function.
 use Rattle.std.proofs.Common.{arith, sym, ap, subst, ◌∙◌, get_or}
 use Rattle.std.proofs.lemmas.List.{length-map}
 use Rattle.std.proofs.lemmas.List.Elements.{All-map}
@@ -20,7 +20,7 @@ use Rattle.ne_iter.proofs.Extremes.{best_is}
 use Rattle.ne_iter.proofs.FunctionCalls.{shown_values}
 use Rattle.ne_iter.proofs.ReadLists.{of_read}
 
--- what stands at a place of a list beside its values is an item and its value
+-- at each place of a list paired with its values is an item and its value
 pair_at : {A B : Type 0} (h : A → B) (xs : List A) (i : ℕ) (p : A × B)
     → slice_get (map (λ x. (x, h x)) xs) i ≡ Some p → p.1 ≡ h p.0
 pair_at h [] i p here = let e = here in cc
@@ -61,8 +61,8 @@ module _ {A B F : Type 0} (calls : Mut F (Bor A × Unit {0}) B) (f : F) (beats :
         (subst (λ y. beats (h p.0) y ≡ false) (keyed best.0 (m, k) best.2)
         (subst (λ y. beats y k ≡ false) (keyed i p here) (is.1 i (d, h d) inside))))
 
-  -- The item whose key none of the keys beats is one of the items of the list that the source
-  -- gives, and if the keys are a function's values, no value at an item beats the one at it.
+  -- If no key beats the key of an item, the item is in the list that the source gives. If the keys
+  -- are also a function's values, no value at an item beats the value at this one.
   pub has_best_key : {U S : Type 0} (becomes : U → S → Type 0) (steps : S → Option A → S → Type 0)
       (u : U) (xs : List A) → Lists becomes steps u xs → Reads becomes steps true u (items_of ps)
       → (mark u xs ≡ 0) × (Contains xs m × ((h : A → B) → ActsAsAt calls f h

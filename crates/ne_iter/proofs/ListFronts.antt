@@ -1,5 +1,5 @@
--- Fronts of lists: what a list function makes of the first items of a list stands at the front of
--- what it makes of the list, and is all of that where they are all.
+-- Fronts of lists: what a list function makes of the first items of a list is the front of what it
+-- makes of the list, and is all of that if the first items are all items.
 use Rattle.std.proofs.Common.{arith, sym, ap, ap₂, subst, ◌∙◌, append_assoc, map-id}
 use Rattle.std.proofs.lemmas.Bool.{lt-ltb, and_from, or_left, or_right}
 use Rattle.std.proofs.lemmas.List.{append-nil, map-append}
@@ -136,7 +136,7 @@ zip_front whole a b xs ys us vs same ended f g = (
   λ w. zip_ended a b f.0 g.0 f.2 g.2 (ended w),
 )
 
--- lists given by sources, one after another: beside each source stands an x, and it gives `inner x`
+-- lists given by sources, one after another: each source u is paired with an x, and gives `inner x`
 joined_front : {X U A : Type 0} (reads : Bool → U → List A → Type 0) (inner : X → List A)
     (whole : Bool) (xs : List X) (us : List U) (yss : List (List A))
     → AllZip (λ x u. GivesList reads u (inner x)) xs us → ReadsEach reads whole us yss
@@ -166,7 +166,7 @@ joined_front reads inner whole (x ∷ z ∷ xs) (u ∷ v ∷ us) (ys ∷ yss) be
       others.2,
     )
 
--- the same, where only the first of all came
+-- the same, if only the first of all sources came
 pub joined_fronts : {X U A : Type 0} (reads : Bool → U → List A → Type 0) (inner : X → List A)
     (whole : Bool) (all xs : List X) (us : List U) (yss : List (List A)) → AreFirst whole all xs
     → AllZip (λ x u. GivesList reads u (inner x)) xs us → ReadsEach reads whole us yss
@@ -181,7 +181,7 @@ joined_fronts reads inner whole all xs us yss f beside h =
           ap (λ l. l ++ flat_map inner f.0) a ∙ ap (flat_map inner) b,
     )
 
--- what holds of each item of a list holds of its first ones
+-- what holds for each item of a list holds for its first ones
 all_front : {A : Type 0} (P : A → Type 0) (xs more : List A) → All P (xs ++ more) → All P xs
 all_front P [] more all = All-nil P
 all_front P (x ∷ xs) more all = All-cons P x xs (All-head P x (xs ++ more) all)
@@ -201,7 +201,7 @@ module _ {A U B : Type 0} (reads : Bool → U → List B → Type 0) (source : A
     own_lists xs (All-tail GivesOwnList x xs gives),
   )
 
-  -- lists given by the sources of items, where only the first of them came
+  -- lists given by the sources of items, if only the first of the items came
   pub joined_items : (whole : Bool) (all xs : List A) (yss : List (List B)) → All GivesOwnList all
       → AreFirst whole all xs → ReadsEach reads whole (map source xs) yss
       → AreFirst whole (flat_map lists all) (joined yss)
@@ -209,7 +209,7 @@ module _ {A U B : Type 0} (reads : Bool → U → List B → Type 0) (source : A
       joined_fronts reads lists whole all xs (map source xs) yss f
       (own_lists xs (all_front GivesOwnList xs f.0 (subst (All GivesOwnList) f.1 gives))) h
 
--- and by sources themselves
+-- the same for sources themselves
 pub joined_sources : {U B : Type 0} (reads : Bool → U → List B → Type 0) (lists : U → List B)
     (whole : Bool) (all us : List U) (yss : List (List B))
     → All (λ u. GivesList reads u (lists u)) all → AreFirst whole all us
@@ -218,7 +218,7 @@ joined_sources reads lists whole all us yss gives f h =
     joined_items reads (λ u. u) lists whole all us yss gives f
     (subst (λ l. ReadsEach reads whole l yss) (sym (map-id us)) h)
 
--- each source beside itself
+-- each source paired with itself
 pub each_gives : {U A : Type 0} (reads : Bool → U → List A → Type 0) (inner : U → List A)
     → ((u : U) → GivesList reads u (inner u)) → (us : List U)
     → AllZip (λ v u. GivesList reads u (inner v)) us us
@@ -244,7 +244,7 @@ interspersed_front s (u ∷ us) more = (
   λ e. ap (flat_map (λ x. s ∷ x ∷ [])) e,
 )
 
--- the first item, with another in its place
+-- the first item, replaced by another
 pub head_front : {A : Type 0} (first w : A) (whole : Bool) (xs zs : List A)
     → zs ≡ with_head w zs → AreFirst whole xs (with_head first zs)
     → AreFirst whole (with_head w xs) zs
@@ -259,7 +259,7 @@ drop_front zero whole us more ended = (more, refl, ended)
 drop_front (suc n) whole [] more ended = (drop (suc n) more, refl, λ w. ap (drop (suc n)) (ended w))
 drop_front (suc n) whole (u ∷ us) more ended = drop_front n whole us more ended
 
--- the first of ys, if there is one, does not pass
+-- the first of ys, if there is one, doesn't pass
 abbrev pub FailsTest : {A : Type 0} → (A → Bool) → List A → Type 0
 FailsTest test [] = ⊤
 FailsTest test (y ∷ ys) = test y ≡ false
@@ -271,14 +271,14 @@ module _ {A : Type 0} (test : A → Bool) where
       let one : 1 + prefix_len test l ≡ suc (prefix_len test l) = omega arith in
       ap (λ b. cond b (1 + prefix_len test l) 0) e ∙ one
 
-  -- items that pass are passed over
+  -- items that pass are skipped
   drop_passed : (us l : List A) → AllByRecursion (λ x. test x ≡ true) us
       → drop (prefix_len test (us ++ l)) (us ++ l) ≡ drop (prefix_len test l) l
   drop_passed [] l h = refl
   drop_passed (u ∷ us) l h =
       ap (λ n. drop n (u ∷ (us ++ l))) (prefix_pass u (us ++ l) h.0) ∙ drop_passed us l h.1
 
-  -- up to the first item that does not pass, if it came
+  -- up to the first item that doesn't pass, if it came
   pub drop_passed_front : (whole : Bool) (xs us ys : List A)
       → AllByRecursion (λ x. test x ≡ true) us → FailsTest test ys
       → AreFirst whole xs (us ++ ys) → AreFirst whole (drop (prefix_len test xs) xs) ys
@@ -309,7 +309,7 @@ module _ {A : Type 0} (test : A → Bool) where
     λ w. ap (take_while test) (f.2 w),
   )
 
-  -- an item x came that does not pass
+  -- an item x came that doesn't pass
   pub take_passed_stopped : (whole : Bool) (xs us : List A) (x : A)
       → AllByRecursion (λ x. test x ≡ true) us → test x ≡ false
       → AreFirst false xs (us ++ x ∷ []) → AreFirst whole (take_while test xs) us
@@ -330,7 +330,7 @@ module _ {A : Type 0} (test : A → Bool) where
   kept u us true e more = rw e (ap (λ l. u ∷ l) more)
   kept u us false e more = rw e more
 
-  -- the items whose answer beside them is true
+  -- the items paired with true
   pub filter_answered : (us : List A) → Kept us
   filter_answered [] = refl
   filter_answered (u ∷ us) = kept u us (test u) refl (filter_answered us)

@@ -1,4 +1,4 @@
--- What a run of std's `Peekable` says of its source, where the first item was peeked.
+-- What a run of std's `Peekable` says about its source, if the first item was peeked.
 use Rattle.std.proofs.Common.{rules, subst, sym, ap, ◌∙◌}
 use Rattle.std.specs.Prelude.{◌≡◌, List, [], ◌∷◌, Option, Some, None, refl, MatchOption, true}
 use Rattle.std.specs.Prelude.{is_some}

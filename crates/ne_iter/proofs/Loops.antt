@@ -1,19 +1,19 @@
--- A loop over the items after the first one: what its run says of the whole source. `begun` is the
--- loop's iterator, and `left` what the first item left.
+-- A loop over the items after the first one, and what its run says about the whole source. `begun`
+-- is the loop's iterator, and `left` is the iterator after the first item.
 use Rattle.std.proofs.Common.{subst}
 use Rattle.std.specs.Prelude.{◌≡◌, true, false, List, [], ◌∷◌, ◌++◌, Option, Some, None, refl}
 use Rattle.std.specs.Iterator.{Yields}
 use Rattle.ne_iter.specs.Sources.{Reads}
 use Rattle.ne_iter.proofs.JoinedRuns.{Yields-append}
 
--- the first item, and those of the loop so far
+-- the first item, followed by those of the loop so far
 pub Yields-first : {S A : Type 0} (steps : S → Option A → S → Type 0) (it : S) (first : A)
     {left begun : S} (xs : List A) (t : S)
     → steps it (Some first) left → begun ≡ left → Yields steps begun xs t
     → Yields steps it (first ∷ xs) t
 Yields-first steps it first {left} xs t h e y = (left, h, subst (λ q. Yields steps q xs t) e y)
 
--- where the loop has ended, the source is read to its end
+-- if the loop has ended, the source is read to its end
 pub Reads-loop : {U S A : Type 0} {becomes : U → S → Type 0} {steps : S → Option A → S → Type 0}
     {source : U} (it : S) {first : A} {left begun : S} {xs : List A} (t end : S)
     → becomes source it → steps it (Some first) left → begun ≡ left → Yields steps begun xs t
@@ -30,7 +30,7 @@ Reads-loop {steps = steps} it {first} {xs = xs} t end made h e y
       );
     }
 
--- where no loop was begun, the first item alone is read
+-- if no loop was begun, only the first item is read
 pub Reads-first : {U S A : Type 0} {becomes : U → S → Type 0} {steps : S → Option A → S → Type 0}
     {source : U} (it : S) {first : A} (left : S)
     → becomes source it → steps it (Some first) left → Reads becomes steps false source (first ∷ [])
@@ -40,7 +40,7 @@ Reads-first it left made h = record {
   given = (left, (left, h, refl), λ e. cc e);
 }
 
--- where the loop was left at an item, the source is read up to it
+-- if the loop was left at an item, the source is read up to that item
 pub Reads-left : {U S A : Type 0} {becomes : U → S → Type 0} {steps : S → Option A → S → Type 0}
     {source : U} (it : S) {first : A} {left begun : S} (xs : List A) (t : S) (x : A) (u : S)
     → becomes source it → steps it (Some first) left → begun ≡ left → Yields steps begun xs t

@@ -1,4 +1,5 @@
--- What `next` takes off the list that its source gives, and what looking for an item finds of it.
+-- What `next` removes from the list that its source gives, and what looking for an item finds in
+-- it.
 use Rattle.std.proofs.Common.{arith, refl, sym, ap, subst, ◌∙◌}
 use Rattle.std.specs.Prelude.{◌≡◌, Bool, true, false, List, [], ◌∷◌, drop, length, Option}
 use Rattle.std.specs.Prelude.{None, Some}
@@ -14,7 +15,7 @@ use Rattle.ne_iter.proofs.ReadLists.{lists_read, meets_read, read_lists}
 
 module _ {U S A : Type 0} (becomes : U → S → Type 0) (steps : S → Option A → S → Type 0)
     (u : U) (xs : List A) (list : GivesList (Reads becomes steps) u xs) where
-  -- the iterator `it` answered x, and left `rest`
+  -- the iterator `it` returned x, and became `rest`
   pub begins_list : (it rest : S) (x : A) → becomes u it → steps it (Some x) rest
       → (xs ≡ x ∷ drop 1 xs) × GivesFronts steps (drop 1 xs) rest
   begins_list it rest x made step = (first.1 ∙ sym (ap (λ l. x ∷ drop 1 l) first.1), others)
@@ -35,7 +36,7 @@ module _ {U S A : Type 0} (becomes : U → S → Type 0) (steps : S → Option A
           let f = came read.it whole ys read.made read.given in
           (f.0, ap (drop 1) f.1, f.2))
 
--- what was found of a source, of the list that it gives
+-- what was found in a source, stated for the list that it gives
 module _ {U S V T A : Type 0} (becomes : U → S → Type 0) (steps : S → Option A → S → Type 0)
     (made : V → T → Type 0) (next : T → Option A → T → Type 0) (u : U) where
   each_met : {P : List A → Type 0} → ((xs : List A) → GivesList (Reads becomes steps) u xs → P xs)

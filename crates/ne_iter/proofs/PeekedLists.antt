@@ -1,4 +1,4 @@
--- What `peekable` gives where its source gives a list.
+-- What `peekable` gives if its source gives a list.
 use Rattle.std.specs.Prelude.{List, Option}
 use Rattle.ne_iter.specs.Gives.{GivesList}
 use Rattle.ne_iter.specs.Peeks.{PeekableGives, peekable_first}

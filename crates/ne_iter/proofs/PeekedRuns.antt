@@ -1,4 +1,4 @@
--- What a run of one item and a rest says of the rest.
+-- What a run of one item followed by others says about the others.
 use Rattle.std.proofs.Common.{rules, subst, sym, ap, ◌∙◌}
 use Rattle.std.specs.Prelude.{◌≡◌, List, [], ◌∷◌, ◌++◌, length, Option, Some, None, refl, Bool}
 use Rattle.std.specs.Prelude.{true, false, ltb, ◌||◌}

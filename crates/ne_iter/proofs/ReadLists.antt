@@ -35,7 +35,7 @@ module _ {U S A : Type 0} (becomes : U → S → Type 0) (steps : S → Option A
       read_shows list = gives_shown becomes steps u view xs (λ it made whole ys given.
           list whole ys (record { it = it; made = made; given = given }))
 
-    -- an iterator's own clause, read by places
+    -- a clause of the iterator itself, place by place
     pub meets_read : (xs : List A) → MeetsList becomes steps u xs
         → GivesList (Reads becomes steps) u xs
     meets_read xs meets whole ys read =
@@ -44,7 +44,7 @@ module _ {U S A : Type 0} (becomes : U → S → Type 0) (steps : S → Option A
         front_of whole xs ys f.0 f.1 f.2
 
     module _ (xs : List A) (lists : Lists becomes steps u xs) (P : List A → Type 0) where
-      -- what holds of a list that was read to its end holds of the list that is given
+      -- what holds for a list that was read to its end holds for the list that is given
       pub of_read : (ys : List A) → Reads becomes steps true u ys → P ys → P xs
       of_read ys read = subst P (whole_front xs ys (lists_read xs lists true ys read))
 
@@ -59,7 +59,7 @@ module _ {U S A : Type 0} (becomes : U → S → Type 0) (steps : S → Option A
           let f = lists it made p.whole p.items (run_drains steps p it from) in
           subst P (sym (f.1 ∙ ap (λ l. p.items ++ l) (f.2 whole) ∙ append-nil p.items))
 
--- what becomes a source reads what that source does
+-- a value that becomes a source reads what that source does
 pub becomes_read : {W R V T A : Type 0} (meets : W → R → Type 0) (other : R → Option A → R → Type 0)
     (makes : W → V → Type 0) (becomes : V → T → Type 0) (steps : T → Option A → T → Type 0)
     → SameLists meets other makes becomes steps → (w : W) (xs : List A)

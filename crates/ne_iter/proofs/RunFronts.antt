@@ -7,7 +7,7 @@ use Rattle.std.specs.Prelude.{refl, slice_index_or, slice_get}
 use Rattle.std.specs.Option.{option_map}
 use Rattle.ne_vec.specs.Fronts.{AreFirst}
 
--- what has the items of xs at its places, and is no longer, begins xs
+-- a list that has the items of xs at its places, and is no longer, is a front of xs
 begins : {A : Type 0} (us xs : List A) → length us ≤ length xs
     → ((k : ℕ) (d : A) → k < length us → slice_index_or us k d ≡ slice_index_or xs k d)
     → (more : List A) × (xs ≡ us ++ more) × (length us ≡ length xs → more ≡ [])

@@ -1,4 +1,4 @@
--- What a run of std's adapters says of the runs of their sources.
+-- What a run of std's adapters says about the runs of their sources.
 use Rattle.std.proofs.Common.{rules, arith, subst, ap, inl, inr, ◌⊎◌}
 use Rattle.std.specs.Prelude.{◌≡◌, ℕ, ◌<◌, ◌≤◌, List, [], ◌∷◌, length, Option, Some, None, refl}
 use Rattle.std.specs.Prelude.{Bool, true, false, ◌++◌, ltb, ◌||◌, ◌&&◌, MatchOption, IsTrue, zip}
@@ -94,7 +94,7 @@ module _ {S T A : Type 0} (steps : S → Option A → S → Type 0) (others : T 
         × DrainsIf steps ((whole || ltb 0 (length ys)) ≡ true) (chain_first s) xs
         × DrainsIf others (whole ≡ true) (chain_second s) ys × (zs ≡ xs ++ ys)
 
-    -- the first call, where it gives an item z
+    -- the first call, if it gives an item z
     first_gave : (whole : Bool) (s j : Chain S T) (z : A) (zs : List A) (o : Option A)
         → chain_second_done s ≡ false → chain_second_done j ≡ chain_second_done s
         → steps (chain_first s) o (chain_first j)
@@ -121,7 +121,7 @@ module _ {S T A : Type 0} (steps : S → Option A → S → Type 0) (others : T 
           (let a = h.0 in let b = p.4 in cc),
         )
 
-    -- the end, where no item came from the second side
+    -- the end, if no item came from the second side
     none_came : (s j : Chain S T) (o : Option A) → chain_second_done s ≡ false
         → steps (chain_first s) o (chain_first j)
         → MatchOption o (SecondAnswers steps others s None j)
@@ -159,7 +159,7 @@ module _ {S T A : Type 0} (steps : S → Option A → S → Type 0) (others : T 
         first_gave whole s j z zs h.0 live st.0 h.1 h.2 (t, rest, fin)
         (λ q. DrainsIf-chain whole j zs q (let a = st.0 in cc) (t, rest, fin))
 
--- what two tests say that are both true
+-- if a conjunction of two tests is true, both are true
 pub both_true : (a b : Bool) → (a && b) ≡ true → (a ≡ true) × (b ≡ true)
 both_true true b e = (refl, e)
 both_true false b e = let e = e in search rules

@@ -1,4 +1,4 @@
--- What a run of a scanning iterator says of the run of its source.
+-- What a run of a scanning iterator says about the run of its source.
 use Rattle.std.specs.Prelude.{◌≡◌, List, [], ◌∷◌, Option, refl}
 use Rattle.std.specs.Borrow.{MutBor}
 use Rattle.std.specs.Fn.{Mut, CalledWithState}

@@ -1,4 +1,4 @@
--- What `all`, `any`, `find` and `nth` of a std iterator say of what its source reads.
+-- What `all`, `any`, `find` and `nth` of a std iterator say about what its source reads.
 use Rattle.std.specs.Prelude.{◌≡◌, ℕ, List, [], ◌∷◌, ◌++◌, Option, Some, None, refl, Bool, true}
 use Rattle.std.specs.Prelude.{false, MatchOption, IfSome}
 use Rattle.std.specs.Bool.{MatchBool}
@@ -9,7 +9,7 @@ use Rattle.ne_iter.specs.Sources.{Reads}
 use Rattle.ne_iter.specs.Consumers.{TellsAll, TellsAny, StopsAtItem, FindsFirst, GivesNth}
 use Rattle.ne_iter.proofs.JoinedRuns.{Yields-append}
 
--- u is where the calls led that the method made
+-- u is the state of the iterator after the calls that the method made
 module _ {U S A : Type 0} (becomes : U → S → Type 0) (steps : S → Option A → S → Type 0)
     (source : U) (it u : S) (made : becomes source it) where
   read_to_end : (xs : List A) → YieldsThen steps it xs None u → Reads becomes steps true source xs
@@ -24,7 +24,7 @@ module _ {U S A : Type 0} (becomes : U → S → Type 0) (steps : S → Option A
   }
 
   module _ {F : Type 0} (calls : Mut F (A × Unit {0}) Bool) where
-    -- x came, and g answered r at it
+    -- x came, and g returned r for it
     stops_at : (r : Bool) (xs : List A) (g h : F) (x : A) → YieldsThen steps it xs (Some x) u
         → Called calls g (x, tt) r h
         → StopsAtItem (Reads becomes steps) calls r source xs g

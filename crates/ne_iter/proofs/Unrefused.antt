@@ -1,4 +1,4 @@
--- What is cloned where no clone can be refused and each equals its original.
+-- What is cloned if no clone can fail and each clone equals its original.
 use Rattle.std.proofs.Common.{sym, ap, subst, ◌∙◌, append_assoc}
 use Rattle.std.proofs.lemmas.Bool.{and_from}
 use Rattle.std.proofs.lemmas.List.{map-append}
@@ -51,7 +51,7 @@ module _ {T E : Type 0} (came : Result T E → Type 0) (s : T)
       let whole = h.3 in
       cc
 
-  -- what came so far stands at the front of the whole
+  -- what came so far is the front of the whole list
   pub spaced_front : (whole : Bool) (xs us : List T) (more zs : List (Result T E))
       → Interspersed came us (zs ++ more) → (whole ≡ true → more ≡ [])
       → AreFirst (whole && list_all is_ok zs) xs us

@@ -4,7 +4,7 @@ use Rattle.std.specs.Fn.{CalledAt, TakesAt}
 use denote.Param.Always.{always_mut, mut_next}
 use Rattle.ne_iter.proofs.laws.closures.always_callable_is_callable_on_all_items.Goals as goal
 
--- It stays so after each call.
+-- The closure is still always callable after each call.
 pub returns : goal.returns
 returns g c it f always =
     let asks = g.F.FnMut in

@@ -87,7 +87,7 @@ loop-item-preserved g c =
       omega (arith, (came.goes.on i.5).2, i.6),
     )
 
--- an item of another key came
+-- an item with another key came
 pub returns-else-goes_on-clause-steps : goal.returns-else-goes_on-clause-steps
 returns-else-goes_on-clause-steps g c =
     let i = c.loop-item.invariant in
@@ -110,7 +110,7 @@ returns-clause-steps g c =
           _ _ (i.0 s f rs h) c.in_default-next.ensures.steps refl (ap ahead_of i.1);
     }
 
--- the key is asked
+-- the key is computed
 pub call_mut-requires : goal.call_mut-requires
 call_mut-requires g c =
     let steps = g.I.Iterator.next_gives in

@@ -49,7 +49,7 @@ returns-else-is_some-clause-looks_lists g c =
     looks_lists {V = Unit {0}} {T = Unit {0}} _ _ (λ _ _. Unit {0}) (λ _ _ _. Unit {0}) _ None
     (returns-else-is_some-clause-looks g c)
 
--- the same of a run
+-- the same for a run
 pub returns-then-is_some-clause-looks_runs : goal.returns-then-is_some-clause-looks_runs
 returns-then-is_some-clause-looks_runs g c =
     let steps = g.T.IntoIter.Iterator.next_gives in
