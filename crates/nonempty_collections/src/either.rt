@@ -1,6 +1,6 @@
-//! A value of one of two types, which is a source where both are.
+//! A value of one of two types, which is a source if both are.
 //!
-//! Its code stands in the crate `ne_products`, as that of [`itertools`](crate::itertools) does: a
-//! crate that stands on the library `either` may have no module of that name.
+//! Its code is in the crate `ne_products`, like that of [`itertools`](crate::itertools): a crate
+//! that depends on the library `either` can't have a module of that name.
 
 pub use ne_products::NEEither;

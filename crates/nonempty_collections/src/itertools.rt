@@ -1,4 +1,4 @@
-//! Further methods of sources that give at least one item: products of two sources, and whether the
-//! items of one differ.
+//! Further methods of non-empty sources: the product of two sources, and whether the items of one
+//! are all different.
 
 pub use ne_products::{NonEmptyItertools, Product, ProductIter};

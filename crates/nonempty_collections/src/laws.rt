@@ -1,10 +1,10 @@
-//! The laws of the port, so that a user's crate names one library: those on sources, adapters,
-//! closures, extremes, ends and groupings, those on divisions, chunks and comparisons, those on
-//! tree, hashed and index maps and sets, and those on products and on sources that are one of two.
-//! That each collection ends is stated here, as it is of all of them.
+//! The laws of the port, so that a user's crate depends on one library: those about sources,
+//! adapters, closures, extremes, ends and groupings; about divisions, chunks and comparisons; about
+//! tree, hashed and index maps and sets; and about products and sources that are one of two. That
+//! each collection ends is stated here, since it concerns all of them.
 //!
-//! Each is the contract of a function that does nothing. A caller calls it, and then knows what it
-//! ensures. The Rust crate has no such module.
+//! Each law is the contract of a function that does nothing. A caller calls it, and then knows what
+//! it ensures. The Rust crate has no such module.
 
 mod ends;
 

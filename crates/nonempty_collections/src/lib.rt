@@ -1,8 +1,9 @@
 //! Non-empty collections and iterators: a port of the Rust crate of this name.
 //!
-//! A vector, a slice, a map, a set or a source of this crate always has an item, so that what asks
-//! for one always has an answer. This crate has no code of its own but some laws: it shows those of
-//! the port under the Rust crate's names, modules and macros included, and their laws in [`laws`].
+//! A vector, slice, map, set or source of this crate always has an item, so methods that return an
+//! item always succeed. This crate has no code of its own except some laws. It exports the other
+//! crates of the port under the Rust crate's names, modules and macros included, and their laws in
+//! [`laws`].
 #![tactic(auto)]
 
 pub mod either;

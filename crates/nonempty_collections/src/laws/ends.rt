@@ -1,5 +1,5 @@
-//! That what the library's collections become ends: each gives as many items as there are. By these
-//! laws and those of the adapters, whatever is built on a collection ends.
+//! Laws that the collections' iterators end: each gives as many items as there are. With these laws
+//! and those of the adapters, every chain built on a collection ends.
 ghost use Rattle.std.specs.Iterator.{IsFinite};
 ghost use Rattle.ne_iter.specs.Parts.{intersperse_rest, looked_iterator};
 
@@ -42,7 +42,7 @@ pub fn arrays_end<T: Drop, const N: usize>()
     ensures { (a : _) → ⟦<ArrayNonEmptyIterator<T, N> as SourceWords>⟧.ends a }
 {}
 
-/// What an iterator with an item becomes ends if the iterator does.
+/// The source that an iterator with an item becomes ends if the iterator does.
 pub fn looked_sources_end<I: Iterator>()
 where
     I::Item: Drop,
@@ -51,7 +51,7 @@ where
         → ⟦<NonEmptyIterAdapter<Peekable<I>> as SourceWords>⟧.ends s }
 {}
 
-/// `intersperse` ends if the iterator of the items after the first does.
+/// `intersperse` ends if the iterator over the items after the first does.
 pub fn intersperse_ends<I: Iterator>()
 where
     I::Item: Clone + Drop,
