@@ -8,21 +8,21 @@ use nonempty_collections::{IntoNonEmptyIterator, NEVec, NonEmptyIterator, iter};
 use std::alloc::{AllocError, Global};
 use std::num::NonZeroUsize;
 
-/// Half of each item.
+/// Returns half of each item.
 pub fn halves(alloc: Global, items: NEVec<u32>) -> Result<NEVec<u32>, AllocError>
     ensures { IfOk result (λ v. v ≡ map (λ x. x / 2) items) }
 {
     items.into_nonempty_iter().map(|x| x / 2).collect(alloc)
 }
 
-/// Half of each item, as a vector that may be empty.
+/// Returns half of each item, as a vector that may be empty.
 pub fn halves_as_vec(alloc: Global, items: NEVec<u32>) -> Result<Vec<u32>, AllocError>
     ensures { IfOk result (λ v. v.items ≡ map (λ x. x / 2) items) }
 {
     items.into_nonempty_iter().map(|x| x / 2).collect(alloc)
 }
 
-/// The items of a vector that is lent, by clones. Those of a number are never refused.
+/// Returns clones of the items of a borrowed vector. Clones of numbers never fail.
 pub fn cloned(
     alloc: Global,
     items: &NEVec<u32>,
@@ -32,14 +32,14 @@ pub fn cloned(
     items.nonempty_iter().cloned().collect(alloc)
 }
 
-/// The items with their places.
+/// Returns the items with their indices.
 pub fn numbered(alloc: Global, items: NEVec<u32>) -> Result<NEVec<(usize, u32)>, AllocError>
     ensures { IfOk result (λ v. v ≡ enumerate_from 0 items) }
 {
     items.into_nonempty_iter().enumerate().collect(alloc)
 }
 
-/// The first `n` items, or all of them.
+/// Returns the first `n` items, or all of them if there are fewer.
 pub fn first_items(
     alloc: Global,
     items: NEVec<u32>,
@@ -50,21 +50,21 @@ pub fn first_items(
     items.into_nonempty_iter().take(n).collect(alloc)
 }
 
-/// The items, and then others.
+/// Returns the items, followed by others.
 pub fn joined(alloc: Global, items: NEVec<u32>, others: Vec<u32>) -> Result<NEVec<u32>, AllocError>
     ensures { IfOk result (λ v. v ≡ items ++ others.items) }
 {
     items.into_nonempty_iter().chain(others).collect(alloc)
 }
 
-/// An item, and then others.
+/// Returns an item, followed by others.
 pub fn put_before(alloc: Global, x: u32, items: Vec<u32>) -> Result<NEVec<u32>, AllocError>
     ensures { IfOk result (λ v. v ≡ x ∷ items.items) }
 {
     iter::once(x).chain(items).collect(alloc)
 }
 
-/// The items in pairs.
+/// Returns the items in pairs.
 pub fn paired(
     alloc: Global,
     items: NEVec<u32>,
@@ -75,14 +75,14 @@ pub fn paired(
     items.into_nonempty_iter().zip(others).collect(alloc)
 }
 
-/// The items of a source in which the first one was seen.
+/// Returns the items of a source whose first item was peeked.
 pub fn peeked(alloc: Global, items: NEVec<u32>) -> Result<NEVec<u32>, AllocError>
     ensures { IfOk result (λ v. v ≡ items) }
 {
     items.into_nonempty_iter().peekable().collect(alloc)
 }
 
-/// The items of a source for each item.
+/// Returns the items of one source for each item, one after another.
 pub fn spread(alloc: Global, items: NEVec<u32>) -> Result<NEVec<u32>, AllocError>
     ensures { IfOk result (λ v. v ≡ flat_map (λ x. x / 2 ∷ []) items) }
 {
@@ -92,7 +92,7 @@ pub fn spread(alloc: Global, items: NEVec<u32>) -> Result<NEVec<u32>, AllocError
         .collect(alloc)
 }
 
-/// The items below 10. There may be none.
+/// Returns the items below 10, of which there may be none.
 pub fn small(alloc: Global, items: NEVec<u32>) -> Result<Vec<u32>, AllocError>
     ensures { IfOk result (λ v. v.items ≡ filter (λ x. ltb x 10) items) }
 {
@@ -102,14 +102,14 @@ pub fn small(alloc: Global, items: NEVec<u32>) -> Result<Vec<u32>, AllocError>
         .collect(alloc)
 }
 
-/// All items but the first two.
+/// Returns all items but the first two.
 pub fn rest(alloc: Global, items: NEVec<u32>) -> Result<Vec<u32>, AllocError>
     ensures { IfOk result (λ v. v.items ≡ drop 2 items) }
 {
     items.into_nonempty_iter().skip(2).collect(alloc)
 }
 
-/// The items in front of the first one that is 10 or more.
+/// Returns the items before the first one that is 10 or more.
 pub fn small_front(alloc: Global, items: NEVec<u32>) -> Result<Vec<u32>, AllocError>
     ensures { IfOk result (λ v. v.items ≡ take_while (λ x. ltb x 10) items) }
 {

@@ -1,5 +1,6 @@
-//! Functions over any source: what one says is of the list that its source gives, if it gives one
-//! (`Listed`). Their callers know that of vectors, slices, arrays and what stands on them.
+//! Functions over any source. Each states its result for the list that its source gives, if it
+//! gives one (`Listed`). Callers know that list for vectors, slices, arrays and chains built on
+//! them.
 ghost use Rattle.std.specs.Prelude.{◌≡◌, ◌/◌, ◌≤◌, ◌++◌, List, ℕ, filter, map, take, IfOk, ltb};
 ghost use Rattle.std.specs.List.{All, Contains, enumerate_from};
 ghost use Rattle.std.specs.Int.NonZero.{non_zero_usize_get};
@@ -10,7 +11,7 @@ use nonempty_collections::{IntoNonEmptyIterator, NEVec, NonEmptyIterator};
 use std::alloc::{AllocError, Global};
 use std::num::NonZeroUsize;
 
-/// Half of each item.
+/// Returns half of each item.
 pub fn halves<S: NonEmptyIterator<Item = u32>>(
     alloc: Global,
     source: S,
@@ -23,7 +24,7 @@ pub fn halves<S: NonEmptyIterator<Item = u32>>(
     source.map(|x| x / 2).collect(alloc)
 }
 
-/// The first halves.
+/// Returns the first `n` halves.
 pub fn first_halves<S: NonEmptyIterator<Item = u32>>(
     alloc: Global,
     source: S,
@@ -37,7 +38,7 @@ pub fn first_halves<S: NonEmptyIterator<Item = u32>>(
     source.map(|x| x / 2).take(n).collect(alloc)
 }
 
-/// The items below 10. There may be none.
+/// Returns the items below 10, of which there may be none.
 pub fn small<S: NonEmptyIterator<Item = u32>>(
     alloc: Global,
     source: S,
@@ -50,7 +51,7 @@ pub fn small<S: NonEmptyIterator<Item = u32>>(
     source.filter(|x| *x < 10).collect(alloc)
 }
 
-/// The greatest item.
+/// Returns the greatest item.
 pub fn greatest<S: NonEmptyIterator<Item = u32>>(source: S) -> u32
     requires { ⟦<S as SourceWords>⟧.ends source }
     ensures among { (xs : List ℕ) → Listed S.into_iter_gives S.IntoIter.next_gives source xs
@@ -61,14 +62,14 @@ pub fn greatest<S: NonEmptyIterator<Item = u32>>(source: S) -> u32
     source.max()
 }
 
-/// Half of each item of a vector.
+/// Returns half of each item of a vector.
 pub fn halves_of_all(alloc: Global, items: NEVec<u32>) -> Result<NEVec<u32>, AllocError>
     ensures { IfOk result (λ v. v ≡ map (λ x. x / 2) items) }
 {
     halves(alloc, items.into_nonempty_iter())
 }
 
-/// Half of each of the first items.
+/// Returns half of each of the first `n` items.
 pub fn halves_of_first(
     alloc: Global,
     items: NEVec<u32>,
@@ -79,7 +80,7 @@ pub fn halves_of_first(
     halves(alloc, items.into_nonempty_iter().take(n))
 }
 
-/// The greatest item of a vector that is lent.
+/// Returns the greatest item of a borrowed vector.
 pub fn greatest_shown(items: &NEVec<u32>) -> u32
     ensures among { Contains items.now result }
     ensures bound { All (λ x. x ≤ result) items.now }

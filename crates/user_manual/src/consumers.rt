@@ -37,14 +37,14 @@ use std::alloc::{AllocError, Global};
 use std::collections::BTreeMap;
 use std::num::NonZeroUsize;
 
-/// How many items there are.
+/// Returns how many items there are.
 pub fn how_many(items: &NEVec<u32>) -> NonZeroUsize
     ensures { non_zero_usize_get result ≡ length items.now }
 {
     items.nonempty_iter().count()
 }
 
-/// The sum of halves.
+/// Returns the sum of the halves.
 pub fn sum_of_halves(items: NEVec<u32>) -> u32
     requires { sum (map (λ x. x / 2) items) < 2 ^ 32 }
     ensures { result ≡ sum (map (λ x. x / 2) items) }
@@ -52,7 +52,7 @@ pub fn sum_of_halves(items: NEVec<u32>) -> u32
     items.into_nonempty_iter().map(|x| x / 2).sum()
 }
 
-/// The greatest item.
+/// Returns the greatest item.
 pub fn greatest(items: &NEVec<u32>) -> u32
     ensures among { Contains items.now result }
     ensures bound { All (λ x. x ≤ result) items.now }
@@ -60,7 +60,7 @@ pub fn greatest(items: &NEVec<u32>) -> u32
     items.nonempty_iter().copied().max()
 }
 
-/// The least item.
+/// Returns the least item.
 pub fn least(items: &NEVec<u32>) -> u32
     ensures among { Contains items.now result }
     ensures bound { All (λ x. result ≤ x) items.now }
@@ -68,7 +68,7 @@ pub fn least(items: &NEVec<u32>) -> u32
     items.nonempty_iter().copied().min()
 }
 
-/// The greatest half.
+/// Returns the greatest half.
 pub fn greatest_half(items: &NEVec<u32>) -> u32
     ensures among { Contains (map (λ x. x / 2) items.now) result }
     ensures bound { All (λ x. x ≤ result) (map (λ x. x / 2) items.now) }
@@ -76,7 +76,7 @@ pub fn greatest_half(items: &NEVec<u32>) -> u32
     items.nonempty_iter().map(|x| *x / 2).max()
 }
 
-/// The item of the greatest rest by 10.
+/// Returns the item with the greatest remainder by 10.
 pub fn greatest_digit(items: NEVec<u32>) -> u32
     ensures among { Contains items result }
     ensures bound { All (λ k. k ≤ result % 10) (map (λ x. x % 10) items) }
@@ -84,49 +84,49 @@ pub fn greatest_digit(items: NEVec<u32>) -> u32
     items.into_nonempty_iter().max_by_key(|x| *x % 10)
 }
 
-/// A fold to a total.
+/// Folds the items to a total.
 pub fn folded(items: NEVec<u32>) -> u32
     ensures { result ≡ fold (λ a x. x / 2) 0 items }
 {
     items.into_nonempty_iter().fold(0, |a, x| x / 2)
 }
 
-/// A fold from the first item.
+/// Folds the items from the first one.
 pub fn reduced(items: NEVec<u32>) -> u32
     ensures { Some result ≡ list_reduce (λ a x. x / 2) items }
 {
     items.into_nonempty_iter().reduce(|a, x| x / 2)
 }
 
-/// Whether all items are below 10.
+/// Returns whether all items are below 10.
 pub fn all_small(items: NEVec<u32>) -> bool
     ensures { result ≡ list_all (λ x. ltb x 10) items }
 {
     items.into_nonempty_iter().all(|x| x < 10)
 }
 
-/// The first item below 10.
+/// Returns the first item below 10.
 pub fn some_small(items: NEVec<u32>) -> Option<u32>
     ensures { result ≡ find (λ x. ltb x 10) items }
 {
     items.into_nonempty_iter().find(|x| *x < 10)
 }
 
-/// The item at a place.
+/// Returns the item at index `n`.
 pub fn item_at(items: NEVec<u32>, n: usize) -> Option<u32>
     ensures { result ≡ slice_get items n }
 {
     items.into_nonempty_iter().nth(n)
 }
 
-/// The items, and their halves.
+/// Returns the items, and their halves.
 pub fn parted(alloc: Global, items: NEVec<u32>) -> Result<(NEVec<u32>, NEVec<u32>), AllocError>
     ensures { IfOk result (λ r. (r.0 ≡ items) × (r.1 ≡ map (λ x. x / 2) items)) }
 {
     items.into_nonempty_iter().map(|x| (x, x / 2)).unzip(alloc)
 }
 
-/// Half of each item, by the item.
+/// Returns a map from each item to its half.
 pub fn table(alloc: Global, items: NEVec<u32>) -> Result<BTreeMap<u32, u32>, AllocError>
     ensures { IfOk result (λ m. IsMapOf nat_eq (map (λ x. (x, x / 2)) items) m.entries) }
 {
@@ -136,7 +136,7 @@ pub fn table(alloc: Global, items: NEVec<u32>) -> Result<BTreeMap<u32, u32>, All
         .collect(alloc)
 }
 
-/// How many items two vectors have.
+/// Returns how many items two vectors have together.
 pub fn how_many_of_both(items: NEVec<u32>, others: NEVec<u32>) -> NonZeroUsize
     requires { length items + length others < 2 ^ 64 }
     ensures { non_zero_usize_get result ≡ length items + length others }
@@ -144,7 +144,7 @@ pub fn how_many_of_both(items: NEVec<u32>, others: NEVec<u32>) -> NonZeroUsize
     items.into_nonempty_iter().chain(others).count()
 }
 
-/// The sum of two vectors.
+/// Returns the sum of the items of two vectors.
 pub fn sum_of_both(items: NEVec<u32>, others: NEVec<u32>) -> u32
     requires { sum (items ++ others) < 2 ^ 32 }
     ensures { result ≡ sum (items ++ others) }
@@ -152,7 +152,7 @@ pub fn sum_of_both(items: NEVec<u32>, others: NEVec<u32>) -> u32
     items.into_nonempty_iter().chain(others).sum()
 }
 
-/// The greatest item of two vectors, both walked.
+/// Returns the greatest item of two borrowed vectors.
 pub fn greatest_of_two(items: &NEVec<u32>, others: &NEVec<u32>) -> u32
     ensures among { Contains (items.now ++ others.now) result }
     ensures bound { All (λ x. x ≤ result) (items.now ++ others.now) }
@@ -164,7 +164,7 @@ pub fn greatest_of_two(items: &NEVec<u32>, others: &NEVec<u32>) -> u32
         .max()
 }
 
-/// The greatest item of two vectors.
+/// Returns the greatest item of two vectors.
 pub fn greatest_of_both(items: NEVec<u32>, others: NEVec<u32>) -> u32
     ensures among { Contains (items ++ others) result }
     ensures bound { All (λ x. x ≤ result) (items ++ others) }
@@ -172,21 +172,21 @@ pub fn greatest_of_both(items: NEVec<u32>, others: NEVec<u32>) -> u32
     items.into_nonempty_iter().chain(others).max()
 }
 
-/// The first item.
+/// Returns the first item.
 pub fn first_of(items: NEVec<u32>) -> u32
     ensures { Contains items result }
 {
     items.into_nonempty_iter().next().0
 }
 
-/// Whether an item is 3.
+/// Returns whether any item is 3.
 pub fn any_three(items: NEVec<u32>) -> bool
     ensures { result ≡ list_any (λ x. eqb x 3) items }
 {
     items.into_nonempty_iter().any(|x| x == 3)
 }
 
-/// The items, or the first that is 10 or more.
+/// Returns the items, or the first one that is 10 or more.
 pub fn checked(alloc: Global, items: NEVec<u32>) -> Result<Result<NEVec<u32>, u32>, AllocError>
     ensures { IfOk result (λ r. r ≡ values_or_first_err
         (map (λ x. cond (ltb x 10) (Ok x) (Err x)) items)) }
@@ -197,7 +197,7 @@ pub fn checked(alloc: Global, items: NEVec<u32>) -> Result<Result<NEVec<u32>, u3
         .collect(alloc)
 }
 
-/// The same in a vector that may be empty.
+/// Returns the items in a vector that may be empty, or the first one that is 10 or more.
 pub fn checked_as_vec(alloc: Global, items: NEVec<u32>) -> Result<Result<Vec<u32>, u32>, AllocError>
     ensures { IfOk result (λ r. MatchResult r
         (λ v. values_or_first_err (map (λ x. cond (ltb x 10) (Ok x) (Err x)) items) ≡ Ok v.items)
@@ -209,7 +209,8 @@ pub fn checked_as_vec(alloc: Global, items: NEVec<u32>) -> Result<Result<Vec<u32
         .collect(alloc)
 }
 
-/// The items in the order of their last digits; those of one digit keep their order.
+/// Returns the items in the order of their last digits. Items with the same last digit keep their
+/// order.
 pub fn by_digit(alloc: Global, items: NEVec<u32>) -> Result<NEVec<u32>, AllocError>
     ensures permutation { IfOk result (λ v. IsPermutation items v) }
     ensures ascend { IfOk result (λ v. KeysAscend (λ x. x % 10) nat_cmp v) }

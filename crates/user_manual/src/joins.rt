@@ -1,6 +1,6 @@
-//! Items with a separator between each two of them: texts made one text, and numbers.
+//! Items with a separator between each two of them: texts joined into one, and numbers.
 //!
-//! `join_by` is std's word for what `join` of a slice answers.
+//! `join_by` is std's function for what `join` of a slice returns.
 ghost use Rattle.std.specs.Prelude.{◌≡◌, ◌++◌, take, map, nat_eq, cond, IfOk, string_bytes};
 ghost use Rattle.std.specs.Int.NonZero.{non_zero_usize_get};
 ghost use Rattle.std.specs.List.{join_by};
@@ -10,7 +10,7 @@ use nonempty_collections::{IntoNonEmptyIterator, NEVec, NonEmptyIterator};
 use std::alloc::{AllocError, Global};
 use std::num::NonZeroUsize;
 
-/// The names of a vector that is lent, as one text.
+/// Returns the names of a borrowed vector as one text.
 pub fn joined<'a>(
     alloc: Global,
     names: &NEVec<&'a str>,
@@ -26,7 +26,7 @@ pub fn joined<'a>(
         .collect::<Result<String, AllocError>>(alloc)?
 }
 
-/// The names of a vector that is handed over, as one text.
+/// Returns the names of a vector, by value, as one text.
 pub fn joined_by_value<'a>(
     alloc: Global,
     names: NEVec<&'a str>,
@@ -41,7 +41,7 @@ pub fn joined_by_value<'a>(
         .collect::<Result<String, AllocError>>(alloc)?
 }
 
-/// The first `n` names, as one text.
+/// Returns the first `n` names as one text.
 pub fn first_joined<'a>(
     alloc: Global,
     names: NEVec<&'a str>,
@@ -58,7 +58,7 @@ pub fn first_joined<'a>(
         .collect::<Result<String, AllocError>>(alloc)?
 }
 
-/// The first `n` names, and then others, with the separator between each two.
+/// Returns the first `n` names, followed by others, with the separator between each two.
 pub fn first_and_others<'a>(
     alloc: Global,
     names: NEVec<&'a str>,
@@ -77,7 +77,7 @@ pub fn first_and_others<'a>(
         .collect(alloc)
 }
 
-/// For each number whether it is zero, in words, with the separator between each two.
+/// Returns for each number whether it is zero, in words, with the separator between each two.
 pub fn which_are_zero<'a>(
     alloc: Global,
     numbers: &NEVec<u64>,
@@ -96,7 +96,7 @@ pub fn which_are_zero<'a>(
         .collect(alloc)
 }
 
-/// The numbers with a zero between each two.
+/// Returns the numbers with a zero between each two.
 pub fn with_zeros(
     alloc: Global,
     numbers: &NEVec<u64>,

@@ -1,8 +1,8 @@
-//! Callers of chains, as a user writes them: the manual of the library in code.
+//! Functions that use chains, as a user writes them: the manual of the library in code.
 //!
-//! What they ensure is proved from the public contracts of the calls that they make: there is no
-//! proof file, and no law is called. Most of them ensure the exact result; where the search finds
-//! less today, as at `unzip` of texts, a function ensures what it does find.
+//! Their clauses are proved from the public contracts of the methods that they call: there is no
+//! proof file, and no law is called. Most of them ensure the exact result. If the search proves
+//! less today, as for `unzip` of texts, the function ensures what is proved.
 #![tactic(auto)]
 
 pub mod adapters;

@@ -21,7 +21,7 @@ ghost use Rattle.std.specs.Prelude.{
 use nonempty_collections::{IntoIteratorExt, IntoNonEmptyIterator, NEVec, NonEmptyIterator};
 use std::alloc::{AllocError, Global};
 
-/// The items of a vector that may be empty.
+/// Returns the items of a vector that may be empty, or `None` if it is.
 pub fn looked(alloc: Global, items: Vec<u32>) -> Result<Option<NEVec<u32>>, AllocError>
     ensures { IfOk result (λ o. MatchOption o (items.items ≡ []) (λ v. v ≡ items.items)) }
 {
@@ -31,7 +31,7 @@ pub fn looked(alloc: Global, items: Vec<u32>) -> Result<Option<NEVec<u32>>, Allo
     }
 }
 
-/// Half of each item.
+/// Returns half of each item, or `None` if there is none.
 pub fn halves(alloc: Global, items: Vec<u32>) -> Result<Option<NEVec<u32>>, AllocError>
     ensures { IfOk result (λ o.
         MatchOption o (items.items ≡ []) (λ v. v ≡ map (λ x. x / 2) items.items)) }
@@ -42,7 +42,7 @@ pub fn halves(alloc: Global, items: Vec<u32>) -> Result<Option<NEVec<u32>>, Allo
     }
 }
 
-/// The small items, if there is one.
+/// Returns the items below 10, or `None` if there is none.
 pub fn small(alloc: Global, items: NEVec<u32>) -> Result<Option<NEVec<u32>>, AllocError>
     ensures { IfOk result (λ o. MatchOption o (filter (λ x. ltb x 10) items ≡ [])
         (λ v. v ≡ filter (λ x. ltb x 10) items)) }
@@ -57,28 +57,28 @@ pub fn small(alloc: Global, items: NEVec<u32>) -> Result<Option<NEVec<u32>>, All
     }
 }
 
-/// Whether there is an item.
+/// Returns whether there is an item.
 pub fn has_item(items: Vec<u32>) -> bool
     ensures { (result ≡ true) ↔ (0 < length items.items) }
 {
     items.try_into_nonempty_iter().is_some()
 }
 
-/// The first item.
+/// Returns the first item.
 pub fn first_of(items: NEVec<u32>) -> u32
     ensures { slice_get items 0 ≡ Some result }
 {
     items.into_nonempty_iter().next().0
 }
 
-/// The first half.
+/// Returns the first half.
 pub fn first_half(items: NEVec<u32>) -> u32
     ensures { slice_get (map (λ x. x / 2) items) 0 ≡ Some result }
 {
     items.into_nonempty_iter().map(|x| x / 2).next().0
 }
 
-/// The first item, and the others.
+/// Returns the first item, and the others.
 pub fn first_and_rest(alloc: Global, items: NEVec<u32>) -> Result<(u32, Vec<u32>), AllocError>
     ensures { IfOk result (λ r. items ≡ r.0 ∷ r.1.items) }
 {
@@ -86,7 +86,7 @@ pub fn first_and_rest(alloc: Global, items: NEVec<u32>) -> Result<(u32, Vec<u32>
     Ok((first, rest.collect(alloc)?))
 }
 
-/// The first half, and the others.
+/// Returns the first half, and the others.
 pub fn first_half_and_rest(alloc: Global, items: NEVec<u32>) -> Result<(u32, Vec<u32>), AllocError>
     ensures { IfOk result (λ r. map (λ x. x / 2) items ≡ r.0 ∷ r.1.items) }
 {
@@ -94,7 +94,7 @@ pub fn first_half_and_rest(alloc: Global, items: NEVec<u32>) -> Result<(u32, Vec
     Ok((first, rest.collect(alloc)?))
 }
 
-/// Half of each item but the first.
+/// Returns half of each item but the first.
 pub fn other_halves(alloc: Global, items: NEVec<u32>) -> Result<Vec<u32>, AllocError>
     ensures { IfOk result (λ v. v.items ≡ map (λ x. x / 2) (drop 1 items)) }
 {

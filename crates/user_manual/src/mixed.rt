@@ -1,4 +1,4 @@
-//! Towers over slices, arrays, references, texts and structs.
+//! Chains of adapters over slices, arrays, references, texts and structs.
 ghost use Rattle.std.specs.Prelude.{
   ◌≡◌,
   ◌/◌,
@@ -29,7 +29,7 @@ pub struct Job {
     pub minutes: u32,
 }
 
-/// The names of the first jobs, from references.
+/// Returns the names of the first `n` jobs, from references.
 pub fn first_names(
     alloc: Global,
     jobs: &NEVec<Job>,
@@ -43,7 +43,8 @@ pub fn first_names(
         .collect(alloc)
 }
 
-/// How many items two vectors have: `chain`, `copied`, `enumerate` and `count`.
+/// Returns how many items two vectors have together, with `chain`, `copied`, `enumerate` and
+/// `count`.
 pub fn how_many_numbered(items: &NEVec<u32>, others: &NEVec<u32>) -> NonZeroUsize
     requires { length items.now + length others.now < 2 ^ 64 }
     ensures { non_zero_usize_get result ≡ length items.now + length others.now }
@@ -56,7 +57,7 @@ pub fn how_many_numbered(items: &NEVec<u32>, others: &NEVec<u32>) -> NonZeroUsiz
         .count()
 }
 
-/// A slice: `enumerate`, `map`, `take`.
+/// Returns the first `n` halves of a slice with their indices, with `enumerate`, `map` and `take`.
 pub fn first_numbered_halves(
     alloc: Global,
     items: &NESlice<u32>,
@@ -74,7 +75,8 @@ pub fn first_numbered_halves(
         .collect(alloc)
 }
 
-/// Texts: `copied`, `take`, `map`, `chain`.
+/// Returns the lengths of the first `n` texts, followed by more lengths, with `copied`, `take`,
+/// `map` and `chain`.
 pub fn first_lengths_and_more(
     alloc: Global,
     names: &NEVec<&str>,
@@ -93,7 +95,7 @@ pub fn first_lengths_and_more(
         .collect(alloc)
 }
 
-/// `peekable`, `map`, `skip`.
+/// Returns the halves after the first two, with `peekable`, `map` and `skip`.
 pub fn later_halves(alloc: Global, items: NEVec<u32>) -> Result<Vec<u32>, AllocError>
     ensures { IfOk result (λ v. v.items ≡ drop 2 (map (λ x. x / 2) items)) }
 {
@@ -105,7 +107,7 @@ pub fn later_halves(alloc: Global, items: NEVec<u32>) -> Result<Vec<u32>, AllocE
         .collect(alloc)
 }
 
-/// Vectors in a vector: `flatten`, `map`, `take`.
+/// Returns the first `n` halves of the vectors in a vector, with `flatten`, `map` and `take`.
 pub fn first_halves_of_all(
     alloc: Global,
     vectors: NEVec<NEVec<u32>>,
@@ -122,7 +124,7 @@ pub fn first_halves_of_all(
         .collect(alloc)
 }
 
-/// An array by reference and a vector: `copied`, `zip`, `take` into a map.
+/// Returns a map made from an array by reference and a vector, with `copied`, `zip` and `take`.
 pub fn table_of_first(
     alloc: Global,
     keys: &[u32; 4],

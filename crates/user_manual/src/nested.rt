@@ -7,14 +7,14 @@ use nonempty_collections::{IntoNonEmptyIterator, NEVec, NonEmptyIterator, iter};
 use std::alloc::{AllocError, Global};
 use std::num::NonZeroUsize;
 
-/// The items of vectors.
+/// Returns the items of several vectors.
 pub fn joined(alloc: Global, vectors: NEVec<NEVec<u32>>) -> Result<NEVec<u32>, AllocError>
     ensures { IfOk result (λ v. v ≡ flat_map (λ items. items) vectors) }
 {
     vectors.into_nonempty_iter().flatten().collect(alloc)
 }
 
-/// The first items of vectors.
+/// Returns the first `n` items of several vectors.
 pub fn first_joined(
     alloc: Global,
     vectors: NEVec<NEVec<u32>>,
@@ -30,7 +30,7 @@ pub fn first_joined(
         .collect(alloc)
 }
 
-/// The amounts of orders, each of which has a number.
+/// Returns the amounts of all orders. An order is a number and its amounts.
 pub fn amounts(alloc: Global, orders: NEVec<(u32, NEVec<u32>)>) -> Result<NEVec<u32>, AllocError>
     ensures { IfOk result (λ v. v ≡ flat_map (λ order. order.1) orders) }
 {
@@ -40,7 +40,7 @@ pub fn amounts(alloc: Global, orders: NEVec<(u32, NEVec<u32>)>) -> Result<NEVec<
         .collect(alloc)
 }
 
-/// Half of each amount.
+/// Returns half of each amount.
 pub fn half_amounts(
     alloc: Global,
     orders: NEVec<(u32, NEVec<u32>)>,
@@ -54,7 +54,7 @@ pub fn half_amounts(
         .collect(alloc)
 }
 
-/// A source of one item for each half.
+/// Returns the items of one source for each half, one after another.
 pub fn spread_halves(alloc: Global, items: NEVec<u32>) -> Result<NEVec<u32>, AllocError>
     ensures { IfOk result (λ v. v ≡ flat_map (λ x. x / 3 ∷ []) (map (λ x. x / 2) items)) }
 {

@@ -8,7 +8,7 @@ use nonempty_collections::{NESlice, NEVec, NonEmptyIterator};
 use std::alloc::{AllocError, Global};
 use std::num::NonZeroUsize;
 
-/// The chunks of `n` items.
+/// Returns the chunks of `n` items.
 pub fn chunks_of<'a>(
     alloc: Global,
     items: &'a NEVec<u32>,
@@ -19,7 +19,7 @@ pub fn chunks_of<'a>(
     items.nonempty_chunks(n).collect(alloc)
 }
 
-/// How many items each chunk has.
+/// Returns how many items each chunk has.
 pub fn lengths(
     alloc: Global,
     items: &NEVec<u32>,
@@ -34,7 +34,7 @@ pub fn lengths(
         .collect(alloc)
 }
 
-/// The first chunks.
+/// Returns the first `many` chunks.
 pub fn first_chunks<'a>(
     alloc: Global,
     items: &'a NEVec<u32>,
@@ -47,7 +47,7 @@ pub fn first_chunks<'a>(
     items.nonempty_chunks(n).take(many).collect(alloc)
 }
 
-/// How many chunks there are.
+/// Returns how many chunks there are.
 pub fn how_many(items: &NEVec<u32>, n: NonZeroUsize) -> NonZeroUsize
     requires { length (chunks (non_zero_usize_get n) items.now) < 2 ^ 64 }
     ensures { non_zero_usize_get result ≡ length (chunks (non_zero_usize_get n) items.now) }
@@ -55,7 +55,7 @@ pub fn how_many(items: &NEVec<u32>, n: NonZeroUsize) -> NonZeroUsize
     items.nonempty_chunks(n).count()
 }
 
-/// The chunks with their places.
+/// Returns the chunks with their indices.
 pub fn numbered<'a>(
     alloc: Global,
     items: &'a NEVec<u32>,

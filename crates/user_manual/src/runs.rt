@@ -8,7 +8,7 @@ use nonempty_collections::{IntoNonEmptyIterator, NESlice, NEVec, NonEmptyIterato
 use std::alloc::{AllocError, Global};
 use std::num::NonZeroUsize;
 
-/// The runs of items by their halves.
+/// Returns the runs of items with the same half.
 pub fn by_halves(
     alloc: Global,
     items: NEVec<u32>,
@@ -21,7 +21,8 @@ pub fn by_halves(
         .collect(alloc)
 }
 
-/// The lengths of the runs of one ten, each item compared with the first of its run.
+/// Returns the lengths of the runs of items in the same ten, where each item is compared with the
+/// first one of its run.
 pub fn lengths_of_tens(alloc: Global, items: NESlice<'_, u32>) -> Result<NEVec<usize>, AllocError>
     ensures { IfOk result (λ v. v ≡ map (λ run. length run)
         (runs_of by_first (λ x y. nat_eq (x / 10) (y / 10)) items.entry)) }
@@ -32,7 +33,7 @@ pub fn lengths_of_tens(alloc: Global, items: NESlice<'_, u32>) -> Result<NEVec<u
         .collect(alloc)
 }
 
-/// How many runs of equal neighbours there are.
+/// Returns how many runs of equal neighbours there are.
 pub fn how_many(items: &NESlice<'_, u32>) -> NonZeroUsize
     ensures { non_zero_usize_get result ≡ length
         (runs_of by_previous (λ x y. nat_eq x y) items.now) }

@@ -1,24 +1,24 @@
-//! Each kind of source, collected or used up.
+//! Each kind of source, collected or consumed.
 ghost use Rattle.std.specs.Prelude.{◌≡◌, ◌<◌, ◌^◌, sum, IfOk, [], ◌∷◌};
 
 use nonempty_collections::{IntoNonEmptyIterator, NESlice, NEVec, NonEmptyIterator, iter, nev};
 use std::alloc::{AllocError, Global};
 
-/// The items of a vector, by value.
+/// Returns the items of a vector, by value.
 pub fn of_a_vector(alloc: Global, items: NEVec<u32>) -> Result<NEVec<u32>, AllocError>
     ensures { IfOk result (λ v. v ≡ items) }
 {
     items.into_nonempty_iter().collect(alloc)
 }
 
-/// The items of a vector, by reference.
+/// Returns the items of a vector, by reference.
 pub fn of_a_reference(alloc: Global, items: &NEVec<u32>) -> Result<NEVec<u32>, AllocError>
     ensures { IfOk result (λ v. v ≡ items.now) }
 {
     items.nonempty_iter().copied().collect(alloc)
 }
 
-/// The sum of a slice.
+/// Returns the sum of a slice.
 pub fn of_a_slice(items: &NESlice<u32>) -> u32
     requires { sum items.now < 2 ^ 32 }
     ensures { result ≡ sum items.now }
@@ -26,28 +26,28 @@ pub fn of_a_slice(items: &NESlice<u32>) -> u32
     items.nonempty_iter().copied().sum()
 }
 
-/// The items of a literal array.
+/// Returns the items of a literal array.
 pub fn of_an_array(alloc: Global) -> Result<NEVec<u32>, AllocError>
     ensures { IfOk result (λ v. v ≡ 1 ∷ 2 ∷ 3 ∷ []) }
 {
     [1u32, 2, 3].into_nonempty_iter().collect(alloc)
 }
 
-/// One item.
+/// Returns one item.
 pub fn of_one_item(alloc: Global, x: u32) -> Result<NEVec<u32>, AllocError>
     ensures { IfOk result (λ v. v ≡ x ∷ []) }
 {
     iter::once(x).collect(alloc)
 }
 
-/// The items of an array, by reference.
+/// Returns the items of an array, by reference.
 pub fn of_an_array_reference(alloc: Global, items: &[u32; 3]) -> Result<NEVec<u32>, AllocError>
     ensures { IfOk result (λ v. v ≡ items.now) }
 {
     items.into_nonempty_iter().copied().collect(alloc)
 }
 
-/// The first item, and then the others.
+/// Returns the first item, followed by the others.
 pub fn of_first_and_rest(alloc: Global, items: NEVec<u32>) -> Result<NEVec<u32>, AllocError>
     ensures { IfOk result (λ v. v ≡ items) }
 {
@@ -55,7 +55,7 @@ pub fn of_first_and_rest(alloc: Global, items: NEVec<u32>) -> Result<NEVec<u32>,
     iter::once(first).chain(rest).collect(alloc)
 }
 
-/// A literal array through an adapter.
+/// Returns half of each item of a literal array.
 pub fn of_a_literal(alloc: Global) -> Result<NEVec<u32>, AllocError>
     ensures { IfOk result (λ v. v ≡ 1 ∷ 0 ∷ 1 ∷ []) }
 {
@@ -65,7 +65,7 @@ pub fn of_a_literal(alloc: Global) -> Result<NEVec<u32>, AllocError>
         .collect(alloc)
 }
 
-/// A literal vector through an adapter.
+/// Returns half of each item of a literal vector.
 pub fn of_a_literal_vector(alloc: Global) -> Result<NEVec<u32>, AllocError>
     ensures { IfOk result (λ v. v ≡ 1 ∷ 0 ∷ 1 ∷ []) }
 {

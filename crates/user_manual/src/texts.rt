@@ -1,6 +1,6 @@
 //! Texts (`&str`): each adapter and each consumer over items that are references.
 //!
-//! A `&str` is seen as a reference to the list of its bytes: `t.now` is that list.
+//! In contracts a `&str` is a reference to the list of its bytes: `t.now` is that list.
 ghost use Rattle.std.specs.Prelude.{
   ◌≡◌,
   ◌∷◌,
@@ -60,28 +60,28 @@ use std::alloc::{AllocError, Global};
 use std::collections::{BTreeMap, BTreeSet};
 use std::num::NonZeroUsize;
 
-/// The texts of a vector.
+/// Returns the texts of a vector.
 pub fn collected<'a>(alloc: Global, texts: NEVec<&'a str>) -> Result<NEVec<&'a str>, AllocError>
     ensures { IfOk result (λ v. v ≡ texts.entry) }
 {
     texts.into_nonempty_iter().collect(alloc)
 }
 
-/// The length of each text.
+/// Returns the length of each text.
 pub fn lengths(alloc: Global, texts: NEVec<&str>) -> Result<NEVec<usize>, AllocError>
     ensures { IfOk result (λ v. v ≡ map (λ t. length t.now) texts.entry) }
 {
     texts.into_nonempty_iter().map(|t| t.len()).collect(alloc)
 }
 
-/// The texts of a vector that is lent.
+/// Returns the texts of a borrowed vector.
 pub fn shown<'a>(alloc: Global, texts: &NEVec<&'a str>) -> Result<NEVec<&'a str>, AllocError>
     ensures { IfOk result (λ v. v ≡ texts.now) }
 {
     texts.nonempty_iter().copied().collect(alloc)
 }
 
-/// The same by clones. Those of a reference are never refused.
+/// Returns clones of the texts of a borrowed vector. Clones of references never fail.
 pub fn cloned<'a>(
     alloc: Global,
     texts: &NEVec<&'a str>,
@@ -91,7 +91,7 @@ pub fn cloned<'a>(
     texts.nonempty_iter().cloned().collect(alloc)
 }
 
-/// The texts with their places.
+/// Returns the texts with their indices.
 pub fn numbered<'a>(
     alloc: Global,
     texts: NEVec<&'a str>,
@@ -101,7 +101,7 @@ pub fn numbered<'a>(
     texts.into_nonempty_iter().enumerate().collect(alloc)
 }
 
-/// The first `n` texts, or all of them.
+/// Returns the first `n` texts, or all of them if there are fewer.
 pub fn first_texts<'a>(
     alloc: Global,
     texts: NEVec<&'a str>,
@@ -112,7 +112,7 @@ pub fn first_texts<'a>(
     texts.into_nonempty_iter().take(n).collect(alloc)
 }
 
-/// The texts, and then others.
+/// Returns the texts, followed by others.
 pub fn joined<'a>(
     alloc: Global,
     texts: NEVec<&'a str>,
@@ -123,7 +123,7 @@ pub fn joined<'a>(
     texts.into_nonempty_iter().chain(others).collect(alloc)
 }
 
-/// The texts in pairs.
+/// Returns the texts in pairs.
 pub fn paired<'a>(
     alloc: Global,
     texts: &NEVec<&'a str>,
@@ -138,7 +138,7 @@ pub fn paired<'a>(
         .collect(alloc)
 }
 
-/// A source of its length for each text.
+/// Returns the items of one source for each text, one after another: its length.
 pub fn spread(alloc: Global, texts: NEVec<&str>) -> Result<NEVec<usize>, AllocError>
     ensures { IfOk result (λ v. v ≡ flat_map (λ t. length t.now ∷ []) texts.entry) }
 {
@@ -148,7 +148,7 @@ pub fn spread(alloc: Global, texts: NEVec<&str>) -> Result<NEVec<usize>, AllocEr
         .collect(alloc)
 }
 
-/// The texts of several vectors.
+/// Returns the texts of several vectors.
 pub fn flattened<'a>(
     alloc: Global,
     texts: NEVec<NEVec<&'a str>>,
@@ -158,7 +158,7 @@ pub fn flattened<'a>(
     texts.into_nonempty_iter().flatten().collect(alloc)
 }
 
-/// The greatest length so far, at each text.
+/// Returns for each text the greatest length so far.
 pub fn longest_so_far(alloc: Global, texts: NEVec<&str>) -> Result<NEVec<usize>, AllocError>
     ensures { IfOk result (λ v. v ≡ scan (λ n t. max n (length t.now))
         (λ n t. max n (length t.now)) 0 texts.entry) }
@@ -174,14 +174,14 @@ pub fn longest_so_far(alloc: Global, texts: NEVec<&str>) -> Result<NEVec<usize>,
         .collect(alloc)
 }
 
-/// The texts of a source whose first one was seen.
+/// Returns the texts of a source whose first text was peeked.
 pub fn peeked<'a>(alloc: Global, texts: NEVec<&'a str>) -> Result<NEVec<&'a str>, AllocError>
     ensures { IfOk result (λ v. v ≡ texts.entry) }
 {
     texts.into_nonempty_iter().peekable().collect(alloc)
 }
 
-/// The texts with a separator between each two.
+/// Returns the texts with a separator between each two.
 pub fn separated<'a>(
     alloc: Global,
     texts: NEVec<&'a str>,
@@ -195,7 +195,7 @@ pub fn separated<'a>(
         .collect(alloc)
 }
 
-/// The runs of texts of one length.
+/// Returns the runs of texts of the same length.
 pub fn by_length<'a>(
     alloc: Global,
     texts: NEVec<&'a str>,
@@ -209,7 +209,7 @@ pub fn by_length<'a>(
         .collect(alloc)
 }
 
-/// The texts of a vector that may be empty, if there is one.
+/// Returns the texts of a vector that may be empty, if it has one.
 pub fn looked<'a>(alloc: Global, texts: Vec<&'a str>) -> Result<Option<NEVec<&'a str>>, AllocError>
     ensures { IfOk result (λ o. IfSome o (λ v. v ≡ texts.entry.items)) }
 {
@@ -219,14 +219,14 @@ pub fn looked<'a>(alloc: Global, texts: Vec<&'a str>) -> Result<Option<NEVec<&'a
     }
 }
 
-/// How many texts there are.
+/// Returns how many texts there are.
 pub fn how_many(texts: &NEVec<&str>) -> NonZeroUsize
     ensures { non_zero_usize_get result ≡ length texts.now }
 {
     texts.nonempty_iter().copied().count()
 }
 
-/// The last text in the order of bytes.
+/// Returns the last text in the order of bytes.
 pub fn greatest<'a>(texts: NEVec<&'a str>) -> &'a str
     ensures among { Contains texts.entry result }
     ensures bound { All (λ t. is_lt (slice_cmp nat_cmp result.now t.now) ≡ false) texts.entry }
@@ -234,7 +234,7 @@ pub fn greatest<'a>(texts: NEVec<&'a str>) -> &'a str
     texts.into_nonempty_iter().max()
 }
 
-/// The first text in the order of bytes.
+/// Returns the first text in the order of bytes.
 pub fn least<'a>(texts: NEVec<&'a str>) -> &'a str
     ensures among { Contains texts.entry result }
     ensures bound { All (λ t. is_lt (slice_cmp nat_cmp t.now result.now) ≡ false) texts.entry }
@@ -242,7 +242,7 @@ pub fn least<'a>(texts: NEVec<&'a str>) -> &'a str
     texts.into_nonempty_iter().min()
 }
 
-/// The longest text.
+/// Returns the longest text.
 pub fn longest<'a>(texts: NEVec<&'a str>) -> &'a str
     ensures among { Contains texts.entry result }
     ensures bound { All (λ n. n ≤ length result.now) (map (λ t. length t.now) texts.entry) }
@@ -250,7 +250,7 @@ pub fn longest<'a>(texts: NEVec<&'a str>) -> &'a str
     texts.into_nonempty_iter().max_by_key(|t| t.len())
 }
 
-/// The length of all texts together.
+/// Returns the length of all texts together.
 pub fn total_length(texts: NEVec<&str>) -> usize
     requires { sum (map (λ t. length t.now) texts) < 2 ^ 64 }
     ensures { result ≡ sum (map (λ t. length t.now) texts.entry) }
@@ -258,56 +258,56 @@ pub fn total_length(texts: NEVec<&str>) -> usize
     texts.into_nonempty_iter().map(|t| t.len()).sum()
 }
 
-/// The length of the last text, by a fold.
+/// Returns the length of the last text, by a fold.
 pub fn folded(texts: NEVec<&str>) -> usize
     ensures { result ≡ fold (λ a t. length t.now) 0 texts.entry }
 {
     texts.into_nonempty_iter().fold(0, |_, t| t.len())
 }
 
-/// The last text, by a fold from the first.
+/// Returns the last text, by a fold from the first.
 pub fn reduced<'a>(texts: NEVec<&'a str>) -> &'a str
     ensures { Some result ≡ list_reduce (λ a t. t) texts.entry }
 {
     texts.into_nonempty_iter().reduce(|_, t| t)
 }
 
-/// Whether all texts are shorter than 10 bytes.
+/// Returns whether all texts are shorter than 10 bytes.
 pub fn all_short(texts: NEVec<&str>) -> bool
     ensures { result ≡ list_all (λ t. ltb (length t.now) 10) texts.entry }
 {
     texts.into_nonempty_iter().all(|t| t.len() < 10)
 }
 
-/// Whether a text is shorter than 10 bytes.
+/// Returns whether any text is shorter than 10 bytes.
 pub fn any_short(texts: NEVec<&str>) -> bool
     ensures { result ≡ list_any (λ t. ltb (length t.now) 10) texts.entry }
 {
     texts.into_nonempty_iter().any(|t| t.len() < 10)
 }
 
-/// The first text that is shorter than 10 bytes.
+/// Returns the first text that is shorter than 10 bytes.
 pub fn some_short<'a>(texts: NEVec<&'a str>) -> Option<&'a str>
     ensures { result ≡ find (λ t. ltb (length t.now) 10) texts.entry }
 {
     texts.into_nonempty_iter().find(|t| t.len() < 10)
 }
 
-/// The text at a place.
+/// Returns the text at index `n`.
 pub fn text_at<'a>(texts: NEVec<&'a str>, n: usize) -> Option<&'a str>
     ensures { result ≡ slice_get texts.entry n }
 {
     texts.into_nonempty_iter().nth(n)
 }
 
-/// The first text.
+/// Returns the first text.
 pub fn first_of<'a>(texts: NEVec<&'a str>) -> &'a str
     ensures { slice_get texts.entry 0 ≡ Some result }
 {
     texts.into_nonempty_iter().next().0
 }
 
-/// The texts that are shorter than 10 bytes.
+/// Returns the texts that are shorter than 10 bytes.
 pub fn short<'a>(alloc: Global, texts: NEVec<&'a str>) -> Result<Vec<&'a str>, AllocError>
     ensures { IfOk result (λ v. v.items ≡ filter (λ t. ltb (length t.now) 10) texts.entry) }
 {
@@ -317,7 +317,7 @@ pub fn short<'a>(alloc: Global, texts: NEVec<&'a str>) -> Result<Vec<&'a str>, A
         .collect(alloc)
 }
 
-/// The lengths of the texts that are shorter than 10 bytes.
+/// Returns the lengths of the texts that are shorter than 10 bytes.
 pub fn short_lengths(alloc: Global, texts: NEVec<&str>) -> Result<Vec<usize>, AllocError>
     ensures { IfOk result (λ v. v.items ≡ filter_map
         (λ t. cond (ltb (length t.now) 10) (Some (length t.now)) None) texts.entry) }
@@ -328,14 +328,14 @@ pub fn short_lengths(alloc: Global, texts: NEVec<&str>) -> Result<Vec<usize>, Al
         .collect(alloc)
 }
 
-/// All texts but the first two.
+/// Returns all texts but the first two.
 pub fn rest<'a>(alloc: Global, texts: NEVec<&'a str>) -> Result<Vec<&'a str>, AllocError>
     ensures { IfOk result (λ v. v.items ≡ drop 2 texts.entry) }
 {
     texts.into_nonempty_iter().skip(2).collect(alloc)
 }
 
-/// The texts from the first one on that has 10 bytes or more.
+/// Returns the texts from the first one that has 10 bytes or more.
 pub fn from_first_long<'a>(alloc: Global, texts: NEVec<&'a str>) -> Result<Vec<&'a str>, AllocError>
     ensures { IfOk result (λ v. v.items ≡ drop
         (prefix_len (λ t. ltb (length t.now) 10) texts.entry) texts.entry) }
@@ -346,7 +346,7 @@ pub fn from_first_long<'a>(alloc: Global, texts: NEVec<&'a str>) -> Result<Vec<&
         .collect(alloc)
 }
 
-/// The texts in front of the first one that has 10 bytes or more.
+/// Returns the texts before the first one that has 10 bytes or more.
 pub fn short_front<'a>(alloc: Global, texts: NEVec<&'a str>) -> Result<Vec<&'a str>, AllocError>
     ensures { IfOk result (λ v. v.items ≡ take_while (λ t. ltb (length t.now) 10) texts.entry) }
 {
@@ -356,7 +356,7 @@ pub fn short_front<'a>(alloc: Global, texts: NEVec<&'a str>) -> Result<Vec<&'a s
         .collect(alloc)
 }
 
-/// The texts in the order of their lengths; those of one length keep their order.
+/// Returns the texts in the order of their lengths. Texts of the same length keep their order.
 pub fn sorted<'a>(alloc: Global, texts: NEVec<&'a str>) -> Result<NEVec<&'a str>, AllocError>
     ensures permutation { IfOk result (λ v. IsPermutation texts.entry v) }
     ensures ascend { IfOk result (λ v. KeysAscend (λ t. length t.now) nat_cmp v) }
@@ -368,7 +368,7 @@ pub fn sorted<'a>(alloc: Global, texts: NEVec<&'a str>) -> Result<NEVec<&'a str>
         .collect(alloc)
 }
 
-/// The texts, and their lengths.
+/// Returns the texts, and their lengths.
 pub fn parted<'a>(
     alloc: Global,
     texts: NEVec<&'a str>,
@@ -381,21 +381,21 @@ pub fn parted<'a>(
         .unzip(alloc)
 }
 
-/// The texts, as a vector that may be empty.
+/// Returns the texts as a vector that may be empty.
 pub fn as_vec<'a>(alloc: Global, texts: NEVec<&'a str>) -> Result<Vec<&'a str>, AllocError>
     ensures { IfOk result (λ v. v.items ≡ texts.entry) }
 {
     texts.into_nonempty_iter().collect(alloc)
 }
 
-/// The texts as one.
+/// Returns the texts joined into one.
 pub fn one_text(alloc: Global, texts: NEVec<&str>) -> Result<String, AllocError>
     ensures { IfOk result (λ s. string_bytes s ≡ flat_map (λ t. t.now) texts.entry) }
 {
     texts.into_nonempty_iter().collect(alloc)
 }
 
-/// The texts, or the length of the first that has 10 bytes or more.
+/// Returns the texts, or the length of the first one that has 10 bytes or more.
 pub fn checked<'a>(
     alloc: Global,
     texts: NEVec<&'a str>,
@@ -409,7 +409,7 @@ pub fn checked<'a>(
         .collect(alloc)
 }
 
-/// The length of each text, by the text.
+/// Returns a map from each text to its length.
 pub fn table<'a>(
     alloc: Global,
     texts: NEVec<&'a str>,
@@ -423,7 +423,7 @@ pub fn table<'a>(
         .collect(alloc)
 }
 
-/// The texts, each once.
+/// Returns the texts, each once.
 pub fn each_once<'a>(alloc: Global, texts: NEVec<&'a str>) -> Result<BTreeSet<&'a str>, AllocError>
     ensures { IfOk result (λ s. IsSetOf (λ s t. pointwise nat_eq s.now t.now) texts.entry s.keys) }
 {

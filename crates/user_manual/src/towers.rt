@@ -1,4 +1,4 @@
-//! Several adapters, one on another.
+//! Chains of several adapters, one after another.
 ghost use Rattle.std.specs.Prelude.{
   ◌≡◌,
   ◌/◌,
@@ -24,7 +24,7 @@ use nonempty_collections::{IntoNonEmptyIterator, NEVec, NonEmptyIterator, iter};
 use std::alloc::{AllocError, Global};
 use std::num::NonZeroUsize;
 
-/// `map`, and then `filter`.
+/// Returns the halves below 10, with `map` and `filter`.
 pub fn small_halves(alloc: Global, items: NEVec<u32>) -> Result<Vec<u32>, AllocError>
     ensures { IfOk result (λ v. v.items ≡ filter (λ x. ltb x 10) (map (λ x. x / 2) items)) }
 {
@@ -35,7 +35,7 @@ pub fn small_halves(alloc: Global, items: NEVec<u32>) -> Result<Vec<u32>, AllocE
         .collect(alloc)
 }
 
-/// `copied`, and then `take`.
+/// Returns the first `n` items of a borrowed vector, with `copied` and `take`.
 pub fn first_shown(
     alloc: Global,
     items: &NEVec<u32>,
@@ -46,7 +46,7 @@ pub fn first_shown(
     items.nonempty_iter().copied().take(n).collect(alloc)
 }
 
-/// `map`, and then `zip`.
+/// Returns pairs of a half and another item, with `map` and `zip`.
 pub fn halves_and_others(
     alloc: Global,
     items: NEVec<u32>,
@@ -61,7 +61,7 @@ pub fn halves_and_others(
         .collect(alloc)
 }
 
-/// `take`, and then `sum`.
+/// Returns the sum of the first `n` items, with `take` and `sum`.
 pub fn sum_of_first(items: NEVec<u32>, n: NonZeroUsize) -> u32
     requires { sum (take (non_zero_usize_get n) items) < 2 ^ 32 }
     ensures { result ≡ sum (take (non_zero_usize_get n) items) }
@@ -69,7 +69,8 @@ pub fn sum_of_first(items: NEVec<u32>, n: NonZeroUsize) -> u32
     items.into_nonempty_iter().take(n).sum()
 }
 
-/// `map`, `chain` and `enumerate`.
+/// Returns the halves, followed by other items, all with their indices, with `map`, `chain` and
+/// `enumerate`.
 pub fn numbered_halves(
     alloc: Global,
     items: NEVec<u32>,
@@ -87,7 +88,8 @@ pub fn numbered_halves(
         .collect(alloc)
 }
 
-/// `take`, `map` and `chain`, from references.
+/// Returns half of each of the first `n` items, followed by other items, with `take`, `map` and
+/// `chain`, from references.
 pub fn first_halves_and_others(
     alloc: Global,
     items: &NEVec<u32>,
@@ -105,7 +107,7 @@ pub fn first_halves_and_others(
         .collect(alloc)
 }
 
-/// `copied`, `map`, `chain` and `map`.
+/// Returns a third of each half and of each other item, with `copied`, `map`, `chain` and `map`.
 pub fn thirds(alloc: Global, items: &NEVec<u32>, others: Vec<u32>) -> Result<NEVec<u32>, AllocError>
     ensures { IfOk result (λ v.
         v ≡ map (λ x. x / 3) (map (λ x. x / 2) items.now ++ others.items)) }
@@ -119,7 +121,7 @@ pub fn thirds(alloc: Global, items: &NEVec<u32>, others: Vec<u32>) -> Result<NEV
         .collect(alloc)
 }
 
-/// `map`, and then `take`.
+/// Returns the first `n` halves, with `map` and `take`.
 pub fn first_halves(
     alloc: Global,
     items: NEVec<u32>,
@@ -134,7 +136,7 @@ pub fn first_halves(
         .collect(alloc)
 }
 
-/// `map` of references, and then `enumerate`.
+/// Returns the halves with their indices, with `map` of references and `enumerate`.
 pub fn numbered_shown(alloc: Global, items: &NEVec<u32>) -> Result<NEVec<(usize, u32)>, AllocError>
     ensures { IfOk result (λ v. v ≡ enumerate_from 0 (map (λ x. x / 2) items.now)) }
 {
@@ -145,7 +147,7 @@ pub fn numbered_shown(alloc: Global, items: &NEVec<u32>) -> Result<NEVec<(usize,
         .collect(alloc)
 }
 
-/// `chain`, and `chain` again.
+/// Returns the items of three vectors, with `chain` and `chain` again.
 pub fn three_joined(
     alloc: Global,
     items: NEVec<u32>,
@@ -161,7 +163,7 @@ pub fn three_joined(
         .collect(alloc)
 }
 
-/// `once`, and then a `chain` with a `map` of references.
+/// Returns an item, followed by halves, with `once` and a `chain` with a `map` of references.
 pub fn item_and_halves(alloc: Global, x: u32, items: &NEVec<u32>) -> Result<NEVec<u32>, AllocError>
     ensures { IfOk result (λ v. v ≡ x ∷ map (λ x. x / 2) items.now) }
 {
@@ -170,7 +172,7 @@ pub fn item_and_halves(alloc: Global, x: u32, items: &NEVec<u32>) -> Result<NEVe
         .collect(alloc)
 }
 
-/// `take`, `map` and `filter`.
+/// Returns half of each of the first `n` items, if it is below 10, with `take`, `map` and `filter`.
 pub fn small_first_halves(
     alloc: Global,
     items: NEVec<u32>,
@@ -187,7 +189,7 @@ pub fn small_first_halves(
         .collect(alloc)
 }
 
-/// `enumerate`, and then `take`.
+/// Returns the first `n` items with their indices, with `enumerate` and `take`.
 pub fn first_numbered(
     alloc: Global,
     items: NEVec<u32>,
@@ -202,7 +204,7 @@ pub fn first_numbered(
         .collect(alloc)
 }
 
-/// `chain`, and then `take`.
+/// Returns the first `n` items of two vectors, with `chain` and `take`.
 pub fn first_of_both(
     alloc: Global,
     items: NEVec<u32>,
@@ -218,7 +220,7 @@ pub fn first_of_both(
         .collect(alloc)
 }
 
-/// `zip` of two `copied`.
+/// Returns pairs of items of two borrowed vectors, with `zip` of two `copied`.
 pub fn shown_pairs(
     alloc: Global,
     items: &NEVec<u32>,
@@ -233,7 +235,7 @@ pub fn shown_pairs(
         .collect(alloc)
 }
 
-/// `zip` of a `take` and a `map`.
+/// Returns pairs of one of the first `n` items and a half, with `zip` of a `take` and a `map`.
 pub fn first_and_halves(
     alloc: Global,
     items: NEVec<u32>,
@@ -250,7 +252,8 @@ pub fn first_and_halves(
         .collect(alloc)
 }
 
-/// `map`, `zip`, `enumerate` and `take`.
+/// Returns the first `n` pairs of a half and another item with their indices, with `map`, `zip`,
+/// `enumerate` and `take`.
 pub fn first_numbered_pairs(
     alloc: Global,
     items: NEVec<u32>,
@@ -269,14 +272,14 @@ pub fn first_numbered_pairs(
         .collect(alloc)
 }
 
-/// A vector, and then a literal array.
+/// Returns the items of a vector, followed by those of a literal array.
 pub fn with_two_more(alloc: Global, items: NEVec<u32>) -> Result<NEVec<u32>, AllocError>
     ensures { IfOk result (λ v. v ≡ items ++ 7 ∷ 8 ∷ []) }
 {
     items.into_nonempty_iter().chain([7, 8]).collect(alloc)
 }
 
-/// `scan`, and then `take`: the first running sums.
+/// Returns the first `n` running sums, with `scan` and `take`.
 pub fn first_running_sums(
     alloc: Global,
     items: NEVec<u32>,
