@@ -1,4 +1,4 @@
--- The values of a group sum to no more than those of all rows.
+-- The sum of the values of a group is at most the sum of the values of all rows.
 use Rattle.std.proofs.Common.{◌≡◌, ◌+◌, ◌<◌, ◌≤◌, ℕ, zero, suc, List, [], ◌∷◌, ◌++◌, length, get_or}
 use Rattle.std.proofs.Common.{ap, ap₂, sym, ◌∙◌, arith, nat_eq}
 use Rattle.std.proofs.lemmas.List.Sums.{sum-map, sum_by-append}

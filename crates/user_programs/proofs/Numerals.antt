@@ -1,4 +1,4 @@
--- A test tells whether a text is the numeral of a number of 32 bits.
+-- A test of whether a text is the numeral of a number of 32 bits.
 use Rattle.std.proofs.Common.{◌≡◌, ◌<◌, ◌^◌, ◌&&◌, List, ℕ, Bool, true, false, cond, ltb, length}
 use Rattle.std.proofs.Common.{refl, ap}
 use Rattle.std.proofs.lemmas.Bool.{false≢true, lt-ltb, ltb-true, and_from, and_parts}

@@ -9,7 +9,7 @@ use Rattle.std.specs.Str.{all_ascii_digits}
 use Rattle.std.specs.Str.Parse.{digits_value, without_leading_plus}
 use Rattle.user_programs.specs.declared.validation.Fault.{Fault}
 
--- The number that a text writes in decimal, where it is one of 32 bits.
+-- The number that a text writes in decimal, if it fits in 32 bits.
 abbrev pub number_of : List ℕ → Option ℕ
 number_of text =
     let digits = without_leading_plus text in
@@ -17,7 +17,7 @@ number_of text =
     if nat_lt 0 (length digits) && all_ascii_digits digits && nat_lt value (2 ^ 32)
     then Some value else None
 
--- What the field at a place says: its number, or that it is none.
+-- What the field at a place says: its number, or that it is not a number.
 abbrev pub reading : ℕ → List ℕ → Result ℕ Fault
 reading place text = ok_or (number_of text) (record { place = place })
 

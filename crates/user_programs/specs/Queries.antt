@@ -8,7 +8,7 @@ use Rattle.std.specs.List.{join_by}
 abbrev pub joined_by : List ℕ → List (String Global) → List ℕ
 joined_by separator parts = join_by string_bytes separator parts
 
--- The query of these columns of this table, and, where there are some, on these conditions.
+-- The query of these columns of this table, with these conditions if there are any.
 abbrev pub query_text : List (String Global) → String Global → Option (List (String Global))
     → List ℕ
 query_text columns table None =

@@ -3,12 +3,12 @@ use Rattle.std.specs.Prelude.{List, [], ◌∷◌, ◌++◌, fold}
 use Rattle.user_programs.specs.declared.schedule.Call.{Call}
 use Rattle.user_programs.specs.declared.schedule.Call.TheVariants.{Add, Rotate, Finish}
 
--- The first job behind all others.
+-- The jobs with the first one moved after all others.
 abbrev pub rotated : {J : Type 0} → List J → List J
 rotated [] = []
 rotated (j ∷ js) = js ++ j ∷ []
 
--- All but the first job, which stays where it is the only one.
+-- All jobs but the first one, which stays if it is the only one.
 abbrev pub finished : {J : Type 0} → List J → List J
 finished [] = []
 finished (j ∷ []) = j ∷ []

@@ -1,4 +1,4 @@
-//! A builder of queries. A query has a column, and where it has conditions at all, it has one.
+//! A builder of queries. A query has at least one column, and if it has conditions, at least one.
 ghost use Rattle.std.specs.Prelude.{
   ◌≡◌,
   ◌++◌,
@@ -17,7 +17,7 @@ ghost use Rattle.user_programs.specs.Queries.{query_text};
 use nonempty_collections::{NEVec, NonEmptyIterator};
 use std::alloc::{AllocError, Global};
 
-/// A query of the columns of a table, on the conditions, if there are any.
+/// A query for columns of a table, with conditions if there are any.
 #[derive(Drop)]
 pub struct Query {
     pub columns: NEVec<String>,
@@ -26,7 +26,7 @@ pub struct Query {
 }
 
 impl Query {
-    /// The query of one column.
+    /// Returns a query for one column.
     pub fn select(alloc: Global, table: String, column: String) -> Result<Query, AllocError>
         ensures { IfOk result (λ q.
             (q.columns ≡ column ∷ []) × (q.table ≡ table) × (q.conditions ≡ None)) }
@@ -39,7 +39,7 @@ impl Query {
         })
     }
 
-    /// One column more.
+    /// Returns the query with one more column.
     pub fn column(mut self, column: String) -> Result<Query, AllocError>
         ensures { IfOk result (λ q. (q.columns ≡ self.columns ++ column ∷ [])
             × (q.table ≡ self.table) × (q.conditions ≡ self.conditions)) }
@@ -48,7 +48,7 @@ impl Query {
         Ok(self)
     }
 
-    /// One condition more.
+    /// Returns the query with one more condition.
     pub fn filter(mut self, alloc: Global, condition: String) -> Result<Query, AllocError>
         ensures { IfOk result (λ q. (q.columns ≡ self.columns) × (q.table ≡ self.table)
             × MatchOption self.conditions (q.conditions ≡ Some (condition ∷ []))
@@ -61,7 +61,7 @@ impl Query {
         Ok(self)
     }
 
-    /// The text of the query.
+    /// Returns the text of the query.
     pub fn to_text(&self, alloc: Global) -> Result<String, AllocError>
         ensures { IfOk result (λ text.
             string_bytes text ≡ query_text self.now.columns self.now.table self.now.conditions) }
@@ -78,7 +78,7 @@ impl Query {
     }
 }
 
-/// Adds the parts, with the separator between each two.
+/// Appends the parts to a text, with the separator between each two.
 pub fn push_joined(
     text: &mut String,
     parts: &NEVec<String>,
@@ -96,7 +96,7 @@ pub fn push_joined(
     Ok(())
 }
 
-/// Names that are lent, with the separator between each two, as one text.
+/// Returns borrowed names as one text, with the separator between each two.
 pub fn joined<'a>(
     alloc: Global,
     names: &NEVec<&'a str>,

@@ -1,4 +1,4 @@
-//! Worked examples: a call, and the very values that it answers.
+//! Worked examples: a call, and the exact values that it returns.
 ghost use Rattle.std.specs.Prelude.{
   ◌≡◌,
   ◌<◌,
@@ -49,28 +49,28 @@ use std::num::NonZeroUsize;
 
 // Making a vector.
 
-/// `nev!` of three items, as a vector that may be empty.
+/// Makes a vector of three items with `nev!`, and returns it as a vector that may be empty.
 pub fn three_items(alloc: Global) -> Result<Vec<u32>, AllocError>
     ensures { IfOk result (λ v. v.items ≡ 7 ∷ 5 ∷ 9 ∷ []) }
 {
     nev![alloc; 7, 5, 9]?.into_iter().collect(alloc)
 }
 
-/// `nev!` of one item.
+/// Makes a vector of one item with `nev!`.
 pub fn one_item(alloc: Global) -> Result<Vec<u32>, AllocError>
     ensures { IfOk result (λ v. v.items ≡ 7 ∷ []) }
 {
     nev![alloc; 7]?.into_iter().collect(alloc)
 }
 
-/// `nev!` of an item that is repeated.
+/// Makes a vector of a repeated item with `nev!`.
 pub fn repeated(alloc: Global) -> Result<Vec<u32>, AllocError>
     ensures { IfOk result (λ v. v.items ≡ 7 ∷ 7 ∷ 7 ∷ 7 ∷ []) }
 {
     nev![alloc; 7; 4]?.into_iter().collect(alloc)
 }
 
-/// `from_elem`.
+/// Calls `from_elem`.
 pub fn from_elem(alloc: Global) -> Result<NEVec<u32>, AllocError>
     ensures { IfOk result (λ v. v ≡ 7 ∷ 7 ∷ []) }
 {
@@ -78,14 +78,14 @@ pub fn from_elem(alloc: Global) -> Result<NEVec<u32>, AllocError>
     NEVec::from_elem(alloc, 7, n)
 }
 
-/// `singleton`.
+/// Calls `singleton`.
 pub fn singleton(alloc: Global) -> Result<NEVec<u32>, AllocError>
     ensures { IfOk result (λ v. v ≡ 8 ∷ []) }
 {
     NEVec::singleton(alloc, 8)
 }
 
-/// `try_from_slice` of a slice with items and of the empty one.
+/// Calls `try_from_slice` with a slice that has items and with the empty one.
 pub fn try_from_slice(alloc: Global) -> Result<(Option<NEVec<u32>>, Option<NEVec<u32>>), AllocError>
     ensures { IfOk result (λ r. (r.0 ≡ Some (4 ∷ 6 ∷ 8 ∷ [])) × (r.1 ≡ None)) }
 {
@@ -94,7 +94,7 @@ pub fn try_from_slice(alloc: Global) -> Result<(Option<NEVec<u32>>, Option<NEVec
     Ok((some, none))
 }
 
-/// `try_from_vec` of a vector with items and of the empty one.
+/// Calls `try_from_vec` with a vector that has items and with the empty one.
 pub fn try_from_vec(alloc: Global) -> Result<(Option<NEVec<u32>>, Option<NEVec<u32>>), AllocError>
     ensures { IfOk result (λ r. (r.0 ≡ Some (4 ∷ 6 ∷ 8 ∷ [])) × (r.1 ≡ None)) }
 {
@@ -103,7 +103,7 @@ pub fn try_from_vec(alloc: Global) -> Result<(Option<NEVec<u32>>, Option<NEVec<u
     Ok((some, none))
 }
 
-/// A vector turned into std's and back.
+/// Converts a vector to std's and back.
 pub fn there_and_back(alloc: Global) -> Result<Option<NEVec<u32>>, AllocError>
     ensures { IfOk result (λ r. r ≡ Some (4 ∷ 6 ∷ 8 ∷ [])) }
 {
@@ -114,7 +114,7 @@ pub fn there_and_back(alloc: Global) -> Result<Option<NEVec<u32>>, AllocError>
 
 // Reading a vector.
 
-/// `first` and `last` of texts.
+/// Calls `first` and `last` for texts.
 pub fn ends_of_texts(alloc: Global) -> Result<(&'static str, &'static str), AllocError>
     ensures { IfOk result (λ r.
         (r.0.now ≡ 195 ∷ 150 ∷ codes "sterreich") × (r.1.now ≡ codes "Italia")) }
@@ -123,7 +123,7 @@ pub fn ends_of_texts(alloc: Global) -> Result<(&'static str, &'static str), Allo
     Ok((*names.first(), *names.last()))
 }
 
-/// `first` and `last` of a slice.
+/// Calls `first` and `last` for a slice.
 pub fn ends_of_a_slice(alloc: Global) -> Result<(u32, u32), AllocError>
     ensures { IfOk result (λ r. (r.0 ≡ 4) × (r.1 ≡ 8)) }
 {
@@ -132,7 +132,7 @@ pub fn ends_of_a_slice(alloc: Global) -> Result<(u32, u32), AllocError>
     Ok((*slice.first(), *slice.last()))
 }
 
-/// Items by their places.
+/// Reads items by their indices.
 pub fn by_place(alloc: Global) -> Result<(u32, u32, u32), AllocError>
     ensures { IfOk result (λ r. (r.0 ≡ 4) × (r.1 ≡ 6) × (r.2 ≡ 9)) }
 {
@@ -140,7 +140,7 @@ pub fn by_place(alloc: Global) -> Result<(u32, u32, u32), AllocError>
     Ok((items[0], items[1], items[3]))
 }
 
-/// `contains` of an item that is there and of one that isn't.
+/// Calls `contains` with an item that is there and with one that isn't.
 pub fn contains(alloc: Global) -> Result<(bool, bool), AllocError>
     ensures { IfOk result (λ r. (r.0 ≡ true) × (r.1 ≡ false)) }
 {
@@ -148,7 +148,7 @@ pub fn contains(alloc: Global) -> Result<(bool, bool), AllocError>
     Ok((items.contains(&6), items.contains(&7)))
 }
 
-/// `split_first` of several items and of one.
+/// Calls `split_first` for several items and for one.
 pub fn split_first(alloc: Global) -> Result<(), AllocError> {
     let several = nev![alloc; 4, 6, 8]?;
     let (first, rest) = several.split_first();
@@ -161,7 +161,7 @@ pub fn split_first(alloc: Global) -> Result<(), AllocError> {
     Ok(())
 }
 
-/// `split` of several items and of one.
+/// Calls `split` for several items and for one.
 pub fn split(alloc: Global) -> Result<(), AllocError> {
     let several = nev![alloc; 4, 6, 8, 9]?;
     let (first, middle, last) = several.split();
@@ -178,7 +178,7 @@ pub fn split(alloc: Global) -> Result<(), AllocError> {
 
 // Editing a vector.
 
-/// The first item, written through a reference.
+/// Changes the first item through a mutable reference.
 pub fn first_mut(alloc: Global) -> Result<NEVec<u32>, AllocError>
     ensures { IfOk result (λ v. v ≡ 40 ∷ 6 ∷ 8 ∷ []) }
 {
@@ -187,7 +187,7 @@ pub fn first_mut(alloc: Global) -> Result<NEVec<u32>, AllocError>
     Ok(items)
 }
 
-/// `push`, and then `last`.
+/// Calls `push`, and then `first` and `last`.
 pub fn push_and_last(alloc: Global) -> Result<(u32, u32), AllocError>
     ensures { IfOk result (λ r. (r.0 ≡ 4) × (r.1 ≡ 9)) }
 {
@@ -196,7 +196,7 @@ pub fn push_and_last(alloc: Global) -> Result<(u32, u32), AllocError>
     Ok((*items.first(), *items.last()))
 }
 
-/// `pop` of the last item but one, and of the last.
+/// Calls `pop` for the second item, and for the only one left.
 pub fn pop(alloc: Global) -> Result<(Option<u32>, Option<u32>), AllocError>
     ensures { IfOk result (λ r. (r.0 ≡ Some 6) × (r.1 ≡ None)) }
 {
@@ -206,7 +206,7 @@ pub fn pop(alloc: Global) -> Result<(Option<u32>, Option<u32>), AllocError>
     Ok((popped, none))
 }
 
-/// `remove`.
+/// Calls `remove`.
 pub fn remove(alloc: Global) -> Result<(Option<u32>, NEVec<u32>), AllocError>
     ensures { IfOk result (λ r. (r.0 ≡ Some 4) × (r.1 ≡ 6 ∷ 8 ∷ [])) }
 {
@@ -215,7 +215,7 @@ pub fn remove(alloc: Global) -> Result<(Option<u32>, NEVec<u32>), AllocError>
     Ok((removed, items))
 }
 
-/// `swap_remove`.
+/// Calls `swap_remove`.
 pub fn swap_remove(alloc: Global) -> Result<(Option<u32>, NEVec<u32>), AllocError>
     ensures { IfOk result (λ r. (r.0 ≡ Some 4) × (r.1 ≡ 9 ∷ 6 ∷ 8 ∷ [])) }
 {
@@ -224,7 +224,7 @@ pub fn swap_remove(alloc: Global) -> Result<(Option<u32>, NEVec<u32>), AllocErro
     Ok((removed, items))
 }
 
-/// `insert` at three places.
+/// Calls `insert` at three indices.
 pub fn insert(alloc: Global) -> Result<NEVec<u32>, AllocError>
     ensures { IfOk result (λ v. v ≡ 1 ∷ 4 ∷ 2 ∷ 6 ∷ 3 ∷ []) }
 {
@@ -235,7 +235,7 @@ pub fn insert(alloc: Global) -> Result<NEVec<u32>, AllocError>
     Ok(items)
 }
 
-/// `append`.
+/// Calls `append`.
 pub fn append(alloc: Global) -> Result<NEVec<u32>, AllocError>
     ensures { IfOk result (λ v. v ≡ 4 ∷ 6 ∷ 8 ∷ []) }
 {
@@ -245,7 +245,7 @@ pub fn append(alloc: Global) -> Result<NEVec<u32>, AllocError>
     Ok(items)
 }
 
-/// `reverse`.
+/// Calls `reverse`.
 pub fn reverse(alloc: Global) -> Result<NEVec<u32>, AllocError>
     ensures { IfOk result (λ v. v ≡ 8 ∷ 6 ∷ 4 ∷ []) }
 {
@@ -254,7 +254,7 @@ pub fn reverse(alloc: Global) -> Result<NEVec<u32>, AllocError>
     Ok(items)
 }
 
-/// The even items, or the empty vector, where none is even.
+/// Returns the even items, or the empty vector if none is even.
 pub fn even(items: NEVec<u32>) -> Result<NEVec<u32>, Vec<u32>>
     ensures { MatchResult result
         (λ v. v ≡ filter (λ x. x % 2 == 0) items)
@@ -263,14 +263,14 @@ pub fn even(items: NEVec<u32>) -> Result<NEVec<u32>, Vec<u32>>
     items.retain(|x| *x % 2 == 0)
 }
 
-/// `retain` of even numbers.
+/// Keeps even numbers with `retain`.
 pub fn retain(alloc: Global) -> Result<Result<NEVec<u32>, Vec<u32>>, AllocError>
     ensures { IfOk result (λ r. r ≡ Ok (4 ∷ 6 ∷ [])) }
 {
     Ok(even(nev![alloc; 4, 5, 6, 7]?))
 }
 
-/// `retain_mut` of numbers below 6, each of them one more.
+/// Keeps the numbers below 6, and adds one to each, with `retain_mut`.
 pub fn retain_mut(alloc: Global) -> Result<Result<NEVec<u32>, Vec<u32>>, AllocError>
     ensures { IfOk result (λ r. r ≡ Ok (5 ∷ 6 ∷ [])) }
 {
@@ -285,7 +285,7 @@ pub fn retain_mut(alloc: Global) -> Result<Result<NEVec<u32>, Vec<u32>>, AllocEr
     }))
 }
 
-/// `dedup_by_key` by the tens.
+/// Calls `dedup_by_key` with the tens as keys.
 pub fn dedup_by_key(alloc: Global) -> Result<NEVec<u32>, AllocError>
     ensures { IfOk result (λ v. v ≡ 41 ∷ 60 ∷ 40 ∷ []) }
 {
@@ -294,7 +294,7 @@ pub fn dedup_by_key(alloc: Global) -> Result<NEVec<u32>, AllocError>
     Ok(items)
 }
 
-/// `dedup_by`: an item is dropped if it is below the last one kept.
+/// Calls `dedup_by`: an item is dropped if it is less than the last one kept.
 pub fn dedup_by(alloc: Global) -> Result<NEVec<u32>, AllocError>
     ensures { IfOk result (λ v. v ≡ 4 ∷ 6 ∷ []) }
 {
@@ -305,7 +305,7 @@ pub fn dedup_by(alloc: Global) -> Result<NEVec<u32>, AllocError>
 
 // Searching a vector.
 
-/// The place of an item in a vector that is sorted, if it is there.
+/// Returns the index of an item in a sorted vector, if it is there.
 pub fn place_of(items: &NEVec<u32>, x: u32) -> Result<usize, usize>
     requires { IsSorted nat_cmp items.now }
     ensures { IfOk result (λ i. slice_get items.now i ≡ Some x) }
@@ -313,7 +313,7 @@ pub fn place_of(items: &NEVec<u32>, x: u32) -> Result<usize, usize>
     items.binary_search(&x)
 }
 
-/// `binary_search`.
+/// Calls `binary_search`.
 pub fn binary_search(alloc: Global) -> Result<Result<usize, usize>, AllocError>
     ensures { IfOk result (λ found. IfOk found (λ i. i ≡ 1)) }
 {
@@ -323,7 +323,7 @@ pub fn binary_search(alloc: Global) -> Result<Result<usize, usize>, AllocError>
 
 // Iterators.
 
-/// The chunks of a vector, collected.
+/// Collects the chunks of a vector.
 pub fn chunks(alloc: Global) -> Result<(), AllocError> {
     let items = nev![alloc; 4, 6, 8]?;
     let size = NonZeroUsize::new(2).unwrap();
@@ -332,7 +332,7 @@ pub fn chunks(alloc: Global) -> Result<(), AllocError> {
     Ok(())
 }
 
-/// `next`, and then the rest by std's iterator.
+/// Calls `next`, and then std's iterator over the rest.
 pub fn next(alloc: Global) -> Result<(u32, Option<u32>, Option<u32>), AllocError>
     ensures { IfOk result (λ r. (r.0 ≡ 4) × (r.1 ≡ Some 6) × (r.2 ≡ None)) }
 {
@@ -343,14 +343,14 @@ pub fn next(alloc: Global) -> Result<(u32, Option<u32>, Option<u32>), AllocError
     Ok((*first, second, end))
 }
 
-/// `collect`.
+/// Calls `collect`.
 pub fn collect(alloc: Global) -> Result<NEVec<u32>, AllocError>
     ensures { IfOk result (λ v. v ≡ 4 ∷ 6 ∷ 8 ∷ []) }
 {
     nev![alloc; 4, 6, 8]?.into_nonempty_iter().collect(alloc)
 }
 
-/// `copied`.
+/// Calls `copied`.
 pub fn copied(alloc: Global) -> Result<NEVec<u32>, AllocError>
     ensures { IfOk result (λ v. v ≡ 4 ∷ 6 ∷ 8 ∷ []) }
 {
@@ -358,7 +358,7 @@ pub fn copied(alloc: Global) -> Result<NEVec<u32>, AllocError>
     items.nonempty_iter().copied().collect(alloc)
 }
 
-/// `map`.
+/// Calls `map`.
 pub fn mapped(alloc: Global) -> Result<NEVec<u32>, AllocError>
     ensures { IfOk result (λ v. v ≡ 5 ∷ 7 ∷ 9 ∷ []) }
 {
@@ -368,7 +368,7 @@ pub fn mapped(alloc: Global) -> Result<NEVec<u32>, AllocError>
         .collect(alloc)
 }
 
-/// Twice each item, where that fits.
+/// Returns twice each item, which must fit in a `u32`.
 pub fn doubled(alloc: Global, items: &NEVec<u32>) -> Result<NEVec<u32>, AllocError>
     requires { All (λ x. x < 2 ^ 31) items.now }
     ensures { IfOk result (λ v. v ≡ map (λ x. x * 2) items.now) }
@@ -376,7 +376,7 @@ pub fn doubled(alloc: Global, items: &NEVec<u32>) -> Result<NEVec<u32>, AllocErr
     items.nonempty_iter().map(|x| *x * 2).collect(alloc)
 }
 
-/// `chain`.
+/// Calls `chain`.
 pub fn chained(alloc: Global) -> Result<NEVec<u32>, AllocError>
     ensures { IfOk result (λ v. v ≡ 4 ∷ 6 ∷ 8 ∷ 9 ∷ []) }
 {
@@ -385,7 +385,7 @@ pub fn chained(alloc: Global) -> Result<NEVec<u32>, AllocError>
     items.into_nonempty_iter().chain(others).collect(alloc)
 }
 
-/// `take`.
+/// Calls `take`.
 pub fn taken(alloc: Global) -> Result<NEVec<u32>, AllocError>
     ensures { IfOk result (λ v. v ≡ 4 ∷ 6 ∷ []) }
 {
@@ -396,7 +396,7 @@ pub fn taken(alloc: Global) -> Result<NEVec<u32>, AllocError>
         .collect(alloc)
 }
 
-/// The items that 4 divides.
+/// Returns the items that are divisible by 4.
 pub fn by_fours(alloc: Global, items: NEVec<u32>) -> Result<Vec<u32>, AllocError>
     ensures { IfOk result (λ v. v.items ≡ filter (λ x. x % 4 == 0) items) }
 {
@@ -406,14 +406,14 @@ pub fn by_fours(alloc: Global, items: NEVec<u32>) -> Result<Vec<u32>, AllocError
         .collect(alloc)
 }
 
-/// `filter`.
+/// Calls `filter`.
 pub fn filtered(alloc: Global) -> Result<Vec<u32>, AllocError>
     ensures { IfOk result (λ v. v.items ≡ 4 ∷ 8 ∷ []) }
 {
     by_fours(alloc, nev![alloc; 4, 6, 8]?)
 }
 
-/// `peekable`.
+/// Calls `peekable`.
 pub fn peeked(alloc: Global) -> Result<u32, AllocError>
     ensures { IfOk result (λ x. x ≡ 4) }
 {
@@ -421,7 +421,7 @@ pub fn peeked(alloc: Global) -> Result<u32, AllocError>
     Ok(*walk.peek())
 }
 
-/// `all` and `any`.
+/// Calls `all` and `any`.
 pub fn all_and_any(alloc: Global) -> Result<(bool, bool), AllocError>
     ensures { IfOk result (λ r. (r.0 ≡ true) × (r.1 ≡ false)) }
 {
@@ -431,7 +431,7 @@ pub fn all_and_any(alloc: Global) -> Result<(bool, bool), AllocError>
     Ok((all, any))
 }
 
-/// `count`.
+/// Calls `count`.
 pub fn counted(alloc: Global) -> Result<usize, AllocError>
     ensures { IfOk result (λ n. n ≡ 3) }
 {
@@ -439,14 +439,14 @@ pub fn counted(alloc: Global) -> Result<usize, AllocError>
     Ok(items.nonempty_iter().count().get())
 }
 
-/// `sum`.
+/// Calls `sum`.
 pub fn summed(alloc: Global) -> Result<u32, AllocError>
     ensures { IfOk result (λ n. n ≡ 18) }
 {
     Ok(nev![alloc; 4, 6, 8]?.into_nonempty_iter().sum())
 }
 
-/// The greatest item.
+/// Returns the greatest item.
 pub fn greatest(items: &NEVec<u32>) -> u32
     ensures among { Contains items.now result }
     ensures bound { All (λ x. x ≤ result) items.now }
@@ -454,7 +454,7 @@ pub fn greatest(items: &NEVec<u32>) -> u32
     items.nonempty_iter().copied().max()
 }
 
-/// The least item.
+/// Returns the least item.
 pub fn least(items: &NEVec<u32>) -> u32
     ensures among { Contains items.now result }
     ensures bound { All (λ x. result ≤ x) items.now }
@@ -462,7 +462,7 @@ pub fn least(items: &NEVec<u32>) -> u32
     items.nonempty_iter().copied().min()
 }
 
-/// `max` and `min`.
+/// Calls `max` and `min`.
 pub fn extremes(alloc: Global) -> Result<(u32, u32), AllocError>
     ensures { IfOk result (λ r. (r.0 ≡ 8) × (r.1 ≡ 4)) }
 {
@@ -470,7 +470,7 @@ pub fn extremes(alloc: Global) -> Result<(u32, u32), AllocError>
     Ok((greatest(&items), least(&items)))
 }
 
-/// The number that has the items as its digits, modulo 2^32.
+/// Returns the number that has the items as its digits, modulo 2^32.
 pub fn number_of_digits(items: NEVec<u32>) -> u32
     ensures { result ≡ fold (λ n x. (n * 10 % 2 ^ 32 + x) % 2 ^ 32) 0 items }
 {
@@ -479,14 +479,14 @@ pub fn number_of_digits(items: NEVec<u32>) -> u32
         .fold(0, |n: u32, x| n.wrapping_mul(10).wrapping_add(x))
 }
 
-/// `fold`.
+/// Calls `fold`.
 pub fn folded(alloc: Global) -> Result<u32, AllocError>
     ensures { IfOk result (λ n. n ≡ 468) }
 {
     Ok(number_of_digits(nev![alloc; 4, 6, 8]?))
 }
 
-/// `nth`.
+/// Calls `nth`.
 pub fn nth(alloc: Global) -> Result<(Option<u32>, Option<u32>), AllocError>
     ensures { IfOk result (λ r. (r.0 ≡ Some 8) × (r.1 ≡ None)) }
 {
@@ -498,21 +498,21 @@ pub fn nth(alloc: Global) -> Result<(Option<u32>, Option<u32>), AllocError>
 
 // Arrays, and any iterator.
 
-/// `into_nonempty_vec` of an array.
+/// Calls `into_nonempty_vec` of an array.
 pub fn array_into_vec(alloc: Global) -> Result<NEVec<u32>, AllocError>
     ensures { IfOk result (λ v. v ≡ 4 ∷ 6 ∷ []) }
 {
     [4, 6].into_nonempty_vec(alloc)
 }
 
-/// The length of an array.
+/// Returns the length of an array.
 pub fn array_len() -> usize
     ensures { result ≡ 2 }
 {
     [4u32, 6].nonzero_len().get()
 }
 
-/// `try_into_nonempty_iter` of a vector with an item.
+/// Calls `try_into_nonempty_iter` of a vector with an item.
 pub fn looked(alloc: Global) -> Result<bool, AllocError>
     ensures { IfOk result (λ r. r ≡ true) }
 {
@@ -520,7 +520,7 @@ pub fn looked(alloc: Global) -> Result<bool, AllocError>
     Ok(items.try_into_nonempty_iter().is_some())
 }
 
-/// `try_into_nonempty_iter` of an empty vector.
+/// Calls `try_into_nonempty_iter` of an empty vector.
 pub fn looked_at_none(alloc: Global) -> bool
     ensures { result ≡ true }
 {
@@ -530,14 +530,14 @@ pub fn looked_at_none(alloc: Global) -> bool
 
 // Slices.
 
-/// The items of a slice that is handed over.
+/// Returns the items of a slice that is passed by value.
 pub fn of_a_part(alloc: Global, items: NESlice<'_, u32>) -> Result<NEVec<u32>, AllocError>
     ensures { IfOk result (λ v. v ≡ items.entry) }
 {
     items.into_nonempty_iter().copied().collect(alloc)
 }
 
-/// The chunks of a slice.
+/// Returns the chunks of a slice.
 pub fn chunks_of_a_slice<'a>(
     alloc: Global,
     items: &'a NESlice<'a, u32>,
@@ -548,7 +548,7 @@ pub fn chunks_of_a_slice<'a>(
     items.nonempty_chunks(n).collect(alloc)
 }
 
-/// The lengths of the runs in which each further item is above the run's first one.
+/// Returns the lengths of the runs in which each further item is greater than the run's first one.
 pub fn lengths_above_first(
     alloc: Global,
     items: NESlice<'_, u32>,
@@ -562,7 +562,7 @@ pub fn lengths_above_first(
         .collect(alloc)
 }
 
-/// The lengths of the runs in which each further item is above the one before it.
+/// Returns the lengths of the runs in which each further item is greater than the one before it.
 pub fn lengths_ascending(alloc: Global, items: NESlice<'_, u32>) -> Result<NEVec<usize>, AllocError>
     ensures { IfOk result (λ v. v ≡ map (λ run. length run)
         (runs_of by_previous (λ x y. ltb x y) items.entry)) }
@@ -575,30 +575,31 @@ pub fn lengths_ascending(alloc: Global, items: NESlice<'_, u32>) -> Result<NEVec
 
 // Maps and sets.
 
-/// A hash map of pairs: a key that several have gets the value of the last of them.
+/// Returns a hash map of pairs. A key that several pairs have gets the value of the last of them.
 pub fn hash_map(alloc: Global, pairs: NEVec<(u32, u32)>) -> Result<HashMap<u32, u32>, AllocError>
     ensures { IfOk result (λ m. IsMapOf nat_eq pairs m.entries) }
 {
     pairs.into_nonempty_iter().collect(alloc)
 }
 
-/// A map of pairs whose keys ascend: a key that several have gets the value of the last of them.
+/// Returns a map of pairs with ascending keys. A key that several pairs have gets the value of the
+/// last of them.
 pub fn tree_map(alloc: Global, pairs: NEVec<(u32, u32)>) -> Result<BTreeMap<u32, u32>, AllocError>
     ensures { IfOk result (λ m. IsMapOf nat_eq pairs m.entries) }
 {
     pairs.into_nonempty_iter().collect(alloc)
 }
 
-/// A hash set of items.
+/// Returns a hash set of the items.
 pub fn hash_set(alloc: Global, items: NEVec<u32>) -> Result<HashSet<u32>, AllocError>
     ensures { IfOk result (λ s. IsSetOf nat_eq items s.keys) }
 {
     items.into_nonempty_iter().collect(alloc)
 }
 
-// Iterators of adapters, by std's calls.
+// Iterators of adapters, by std's methods.
 
-/// Whether `None` comes behind the first run, if there was no memory for that.
+/// Returns whether `None` follows the first run if allocating that run failed; otherwise `true`.
 pub fn ends_at_refusal(alloc: Global, items: NEVec<u32>) -> bool
     ensures { result ≡ true }
 {
@@ -612,7 +613,8 @@ pub fn ends_at_refusal(alloc: Global, items: NEVec<u32>) -> bool
     }
 }
 
-/// The totals of the first item, of the first two, and so on, each modulo 2^32, by std's `collect`.
+/// Returns the totals of the first item, of the first two, and so on, each modulo 2^32, by std's
+/// `collect`.
 pub fn totals_by_std(alloc: Global, items: NEVec<u32>) -> Result<Vec<u32>, AllocError>
     ensures { IfOk result (λ v. v.items
         ≡ scan (λ t x. (t + x) % 2 ^ 32) (λ t x. (t + x) % 2 ^ 32) 0 items) }
@@ -627,7 +629,7 @@ pub fn totals_by_std(alloc: Global, items: NEVec<u32>) -> Result<Vec<u32>, Alloc
         .collect(alloc)
 }
 
-/// The product of floats, each partial one rounded.
+/// Returns the product of floats, where each partial product is rounded.
 pub fn product_of_floats(numbers: NEVec<f64>) -> f64
     ensures { result ≡ fold (λ a x. Ieee.mul binary64 a x)
         (from_bits binary64 0x3ff0_0000_0000_0000) numbers }

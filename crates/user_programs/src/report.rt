@@ -1,4 +1,4 @@
-//! A report on rows that are sorted by a key: a summary of each key's rows.
+//! A report about rows that are sorted by a key: a summary of the rows of each key.
 ghost use Rattle.std.specs.Prelude.{◌≡◌, ◌<◌, ◌^◌, List, All, sum, nat_eq, IfOk};
 ghost use Rattle.ne_iter.specs.Keys.{IsDividedBy};
 ghost use Rattle.user_programs.specs.Reports.{values, IsLeast, IsGreatest, IsSummary, AreSummaries};
@@ -23,7 +23,7 @@ pub struct Summary {
     pub total: u64,
 }
 
-/// The groups of the rows, each of neighbours with one key.
+/// Returns the groups of the rows. A group is a run of rows with the same key.
 pub fn groups(alloc: Global, rows: &NEVec<Row>) -> Result<NEVec<NEVec<Row>>, AllocError>
     ensures { IfOk result (IsDividedBy (λ r. r.key) nat_eq rows.now) }
 {
@@ -33,21 +33,21 @@ pub fn groups(alloc: Global, rows: &NEVec<Row>) -> Result<NEVec<NEVec<Row>>, All
         .collect::<Result<NEVec<NEVec<Row>>, AllocError>>(alloc)?
 }
 
-/// The least value of the rows.
+/// Returns the least value of the rows.
 pub fn least(rows: &NEVec<Row>) -> u32
     ensures { IsLeast (values rows.now) result }
 {
     rows.nonempty_iter().map(|row| row.value).min()
 }
 
-/// The greatest value of the rows.
+/// Returns the greatest value of the rows.
 pub fn greatest(rows: &NEVec<Row>) -> u32
     ensures { IsGreatest (values rows.now) result }
 {
     rows.nonempty_iter().map(|row| row.value).max()
 }
 
-/// The sum of the values of the rows, which has to fit.
+/// Returns the sum of the values of the rows, which must fit in a `u64`.
 pub fn total(rows: &NEVec<Row>) -> u64
     requires { sum (values rows.now) < 2 ^ 64 }
     ensures { result ≡ sum (values rows.now) }
@@ -55,7 +55,7 @@ pub fn total(rows: &NEVec<Row>) -> u64
     rows.nonempty_iter().map(|row| u64::from(row.value)).sum()
 }
 
-/// The summary of rows. The sum of their values has to fit.
+/// Returns the summary of rows. The sum of their values must fit in a `u64`.
 pub fn summary_of(rows: &NEVec<Row>) -> Summary
     requires { sum (values rows.now) < 2 ^ 64 }
     ensures { IsSummary rows.now result }
@@ -69,7 +69,8 @@ pub fn summary_of(rows: &NEVec<Row>) -> Summary
     }
 }
 
-/// The summaries of groups, in order. The sum of the values of each group has to fit.
+/// Returns the summaries of groups, in order. The sum of the values of each group must fit in a
+/// `u64`.
 pub fn summaries(alloc: Global, groups: &NEVec<NEVec<Row>>) -> Result<NEVec<Summary>, AllocError>
     requires { All (λ group. sum (values group) < 2 ^ 64) groups.now }
     ensures { IfOk result (AreSummaries groups.now) }
@@ -80,10 +81,10 @@ pub fn summaries(alloc: Global, groups: &NEVec<NEVec<Row>>) -> Result<NEVec<Summ
         .collect(alloc)
 }
 
-/// The report on rows that are sorted by their keys: a summary of each group of neighbours with one
-/// key.
+/// Returns the report about rows that are sorted by their keys: a summary of each group of
+/// neighbours with the same key.
 ///
-/// The sum of all values has to fit.
+/// The sum of all values must fit in a `u64`.
 pub fn report(alloc: Global, rows: &NEVec<Row>) -> Result<NEVec<Summary>, AllocError>
     requires { sum (values rows.now) < 2 ^ 64 }
     ensures { IfOk result (λ lines. (groups : List (List Row))

@@ -1,4 +1,4 @@
-//! The queue of a scheduler. There always is a job whose turn it is.
+//! The queue of a scheduler. There is always a job whose turn it is.
 ghost use Rattle.std.specs.Prelude.{
   ◌≡◌,
   ◌<◌,
@@ -28,7 +28,7 @@ use nonempty_collections::{NEVec, NonEmptyIterator};
 use std::alloc::{AllocError, Global};
 use std::marker::Model;
 
-/// The jobs in the order of their turns. There always is one.
+/// The jobs in the order of their turns. There is always at least one.
 #[derive(Drop)]
 pub struct Queue<J> {
     jobs: NEVec<J>,
@@ -44,14 +44,14 @@ impl<J> Model for Queue<J> {
     ghost invariant = { λ q. 0 < length q.jobs };
 }
 
-/// What is asked of a queue.
+/// A request to a queue.
 #[derive(Drop)]
 pub enum Call<J> {
-    /// A new job, behind all others.
+    /// Adds a new job after all others.
     Add(J),
-    /// The job whose turn it is goes behind all others.
+    /// Moves the job whose turn it is after all others.
     Rotate,
-    /// The job whose turn it is is done, and leaves, unless it is the only one.
+    /// Removes the job whose turn it is, as it is done, unless it is the only one.
     Finish,
 }
 
@@ -63,7 +63,7 @@ pub struct Job {
 }
 
 impl<J: Drop> Queue<J> {
-    /// The queue of one job.
+    /// Returns a queue of one job.
     pub fn new(alloc: Global, job: J) -> Result<Self, AllocError>
         ensures { IfOk result (λ q. q ≡ job ∷ []) }
     {
@@ -71,14 +71,14 @@ impl<J: Drop> Queue<J> {
         Ok(Queue { jobs })
     }
 
-    /// The job whose turn it is.
+    /// Returns the job whose turn it is.
     pub fn current(&self) -> &J
         ensures { slice_get self.now 0 ≡ Some result.now }
     {
         self.jobs.first()
     }
 
-    /// Adds a job, whose turn comes after all others.
+    /// Adds a job after all others.
     pub fn add(&mut self, job: J) -> Result<(), AllocError>
         ensures added { OnOk result (self.new ≡ self.old ++ job ∷ []) }
         ensures unchanged { OnErr result (self.new ≡ self.old) }
@@ -86,15 +86,15 @@ impl<J: Drop> Queue<J> {
         self.jobs.push(job)
     }
 
-    /// Puts the job whose turn it is behind all others.
+    /// Moves the job whose turn it is after all others.
     pub fn rotate(&mut self)
         ensures { self.new ≡ rotated self.old }
     {
         self.jobs.as_mut_slice().rotate_left(1);
     }
 
-    /// Takes the job whose turn it is out, or answers `None`, exactly where it is the only one:
-    /// that one stays.
+    /// Removes the job whose turn it is and returns it, or returns `None` if it is the only one,
+    /// which then stays.
     pub fn finish(&mut self) -> Option<J>
         ensures left { self.new ≡ finished self.old }
         ensures taken { MatchOption result (length self.old ≡ 1)
@@ -103,7 +103,7 @@ impl<J: Drop> Queue<J> {
         self.jobs.remove(0)
     }
 
-    // Does what one call asks.
+    // Carries out one call.
     fn serve(&mut self, call: Call<J>) -> Result<(), AllocError>
         ensures done { OnOk result (self.new ≡ after self.old call) }
         ensures refused { OnErr result (self.new ≡ self.old) }
@@ -120,11 +120,11 @@ impl<J: Drop> Queue<J> {
                 Ok(())
             }
         };
-        let _ = self.jobs.is_empty(); // it says that there is a job
+        let _ = self.jobs.is_empty(); // its contract says that there is a job
         done
     }
 
-    /// Does what the calls ask, in order. A job is left, whatever they are.
+    /// Carries out the calls in order. At least one job is left, whatever they are.
     pub fn run(&mut self, calls: Vec<Call<J>>) -> Result<(), AllocError>
         ensures all { OnOk result (self.new ≡ after_all self.old calls.items) }
         ensures some { 0 < length self.new }
@@ -132,13 +132,13 @@ impl<J: Drop> Queue<J> {
         for call in calls {
             self.serve(call)?;
         }
-        let _ = self.jobs.is_empty(); // it says that there is a job
+        let _ = self.jobs.is_empty(); // its contract says that there is a job
         Ok(())
     }
 }
 
 impl Queue<Job> {
-    /// How many minutes all jobs take together.
+    /// Returns how many minutes all jobs take together.
     pub fn total_minutes(&self) -> u64
         requires { sum (map (λ j. j.minutes) self.now) < 2 ^ 64 }
         ensures { result ≡ sum (map (λ j. j.minutes) self.now) }
@@ -149,7 +149,7 @@ impl Queue<Job> {
             .sum()
     }
 
-    /// A job that takes the fewest minutes.
+    /// Returns a job that takes the fewest minutes.
     pub fn shortest(&self) -> Job
         ensures among { Contains self.now result }
         ensures least { All (λ m. result.minutes ≤ m) (map (λ j. j.minutes) self.now) }
@@ -160,7 +160,7 @@ impl Queue<Job> {
             .min_by_key(|job| job.minutes)
     }
 
-    /// When each job begins, in minutes from now, modulo 2^64.
+    /// Returns when each job begins, in minutes from now, modulo 2^64.
     pub fn beginnings(&self, alloc: Global) -> Result<NEVec<u64>, AllocError>
         ensures { IfOk result (λ v.
             v ≡ scan (λ at j. (at + j.minutes) % 2 ^ 64) (λ at j. at) 0 self.now) }
@@ -176,7 +176,7 @@ impl Queue<Job> {
             .collect(alloc)
     }
 
-    /// The names of the jobs that take fewer minutes than `limit`.
+    /// Returns the names of the jobs that take fewer minutes than `limit`.
     pub fn short_names(&self, alloc: Global, limit: u32) -> Result<Vec<u32>, AllocError>
         ensures { IfOk result (λ v. v.items
             ≡ map (λ j. j.name) (filter (λ j. ltb j.minutes limit) self.now)) }

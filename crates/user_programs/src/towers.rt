@@ -1,5 +1,4 @@
-//! Towers of three to five adapters, over values and references, each with the list that comes
-//! out.
+//! Chains of three to five adapters, over values and references, each with the list that it gives.
 ghost use Rattle.std.specs.Prelude.{◌≡◌, ◌+◌, ◌/◌, ◌%◌, ◌^◌, IfOk, map, take};
 ghost use Rattle.std.specs.List.{enumerate_from, scan};
 ghost use Rattle.std.specs.Int.NonZero.{non_zero_usize_get};
@@ -8,7 +7,7 @@ use nonempty_collections::{IntoNonEmptyIterator, NEVec, NonEmptyIterator};
 use std::alloc::{AllocError, Global};
 use std::num::NonZeroUsize;
 
-/// The first `n` halves, with their places: `map`, `enumerate`, `take`.
+/// Returns the first `n` halves with their indices, with `map`, `enumerate` and `take`.
 pub fn first_numbered(
     alloc: Global,
     items: NEVec<u32>,
@@ -25,7 +24,8 @@ pub fn first_numbered(
         .collect(alloc)
 }
 
-/// The first `n` totals of the items so far, modulo 2^32: `copied`, `scan`, `take`.
+/// Returns the first `n` running totals of the items, modulo 2^32, with `copied`, `scan` and
+/// `take`.
 pub fn first_totals(
     alloc: Global,
     items: &NEVec<u32>,

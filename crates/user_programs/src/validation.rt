@@ -1,4 +1,4 @@
-//! A form whose fields are numbers: their values, or all that is wrong with them.
+//! A form whose fields are numbers: their values, or everything that is wrong with them.
 ghost use Rattle.std.specs.Prelude.{◌≡◌, ◌≢◌, [], IfOk, MatchResult, map, filter_map, Ok};
 ghost use Rattle.std.specs.Result.{result_ok};
 ghost use Rattle.ne_iter.specs.Collected.{values_or_first_err};
@@ -7,27 +7,27 @@ ghost use Rattle.user_programs.specs.Fields.{number_of, reading, readings, fault
 use nonempty_collections::{NEVec, NonEmptyIterator};
 use std::alloc::{AllocError, Global};
 
-/// The field at this place, counted from 0, is no number.
+/// Says that the field at index `place`, from 0, is not a number.
 #[derive(Clone, Copy, Debug, PartialEq, Eq)]
 pub struct Fault {
     pub place: usize,
 }
 
-/// The number that a text writes.
+/// Returns the number that a text writes, or `None` if it writes none.
 pub fn number(text: &str) -> Option<u32>
     ensures { result ≡ number_of text.now }
 {
     text.parse::<u32>().ok()
 }
 
-/// What the field at a place says: its number, or that it is none.
+/// Returns the number in the field at index `place`, or a fault if it is not a number.
 pub fn read(place: usize, text: &str) -> Result<u32, Fault>
     ensures { result ≡ reading place text.now }
 {
     number(text).ok_or(Fault { place })
 }
 
-/// The numbers of all fields, or the first fault.
+/// Returns the numbers of all fields, or the first fault.
 pub fn numbers(alloc: Global, fields: &NEVec<&str>) -> Result<Result<NEVec<u32>, Fault>, AllocError>
     ensures { IfOk result (λ valid. valid ≡ values_or_first_err (readings fields.now)) }
 {
@@ -39,7 +39,7 @@ pub fn numbers(alloc: Global, fields: &NEVec<&str>) -> Result<Result<NEVec<u32>,
         .collect(alloc)
 }
 
-/// All faults of the fields. There may be none.
+/// Returns all faults of the fields, of which there may be none.
 pub fn faults(alloc: Global, fields: &NEVec<&str>) -> Result<Vec<Fault>, AllocError>
     ensures { IfOk result (λ v. v.items ≡ faults_of fields.now) }
 {
@@ -52,7 +52,7 @@ pub fn faults(alloc: Global, fields: &NEVec<&str>) -> Result<Vec<Fault>, AllocEr
         .collect(alloc)
 }
 
-// The numbers of the fields that have one. There may be none.
+// Returns the numbers of the fields that have one. There may be none.
 fn good_numbers(alloc: Global, fields: &NEVec<&str>) -> Result<Vec<u32>, AllocError>
     ensures { IfOk result (λ v. v.items ≡ filter_map result_ok (readings fields.now)) }
 {
@@ -65,7 +65,7 @@ fn good_numbers(alloc: Global, fields: &NEVec<&str>) -> Result<Vec<u32>, AllocEr
         .collect(alloc)
 }
 
-/// The numbers of all fields, or, where any field is no number, all faults.
+/// Returns the numbers of all fields, or all faults if any field is not a number.
 pub fn validate(
     alloc: Global,
     fields: &NEVec<&str>,
@@ -74,7 +74,7 @@ pub fn validate(
         (λ numbers. readings fields.now ≡ map Ok numbers)
         (λ faults. (faults ≡ faults_of fields.now) × (faults ≢ []))) }
 {
-    let _ = fields.is_empty(); // there is a field
+    let _ = fields.is_empty(); // its contract says that there is a field
     match NEVec::try_from_vec(faults(alloc, fields)?) {
         Some(faults) => Ok(Err(faults)),
         None => match NEVec::try_from_vec(good_numbers(alloc, fields)?) {
