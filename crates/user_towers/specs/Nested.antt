@@ -1,4 +1,4 @@
--- What the tower of `flatten` and `scan` collects.
+-- What the chain of `flatten` and `scan` collects.
 use Rattle.std.specs.Prelude.{Bool, List}
 use Rattle.std.specs.Borrow.{MutBor}
 use Rattle.std.specs.Fn.{Mut}
@@ -6,8 +6,8 @@ use Rattle.ne_vec.specs.Divisions.{joined}
 use Rattle.ne_iter.specs.Calls.{CallsWithState}
 use Rattle.ne_iter.specs.Gives.{ReadsEach}
 
--- c is made of the answers of f, lent the state init at first, on the items of the lists of the
--- source's items, one list after another. If c is complete, the source and these lists had ended.
+-- c is made of what f returns for the items of the lists of the source's items, one list after
+-- another, with the state init at first. If c is complete, the source and these lists have ended.
 pub record IsScanOfAll {S U A D T F C : Type 0}
     (reads : Bool → S → List U → Type 0) (inner : Bool → U → List A → Type 0)
     (calls : Mut F (MutBor T × (A × Unit {0})) (D × (MutBor T × Unit {0})))

@@ -1,4 +1,4 @@
--- What the towers over inner sources, over two sources and into two collections make.
+-- What the chains over inner sources, over two sources and into two collections make.
 use Rattle.std.specs.Prelude.{◌≡◌, ◌≤◌, ◌<◌, ℕ, Bool, true, ◌||◌, ◌&&◌, ltb, List, length, zip}
 use Rattle.std.specs.Prelude.{IsTrue}
 use Rattle.std.specs.Fn.{Mut}
@@ -9,9 +9,9 @@ use Rattle.ne_iter.specs.Gives.{ReadsEach}
 
 module _ {F W B C : Type 0} (inner : Bool → W → List B → Type 0) (complete : C → Bool)
     (collected : List (ℕ × B) → C → Type 0) where
-  -- c is made of the items of the lists of the answers of f on the items xs, one list after
-  -- another, each item with its place. They are at most n; `whole` tells that they are fewer and c
-  -- is complete, and then the lists had ended.
+  -- c is made of the items of the lists of the sources that f returns for the items xs, one list
+  -- after another, each item with its index. They are at most n. `whole` says whether they are
+  -- fewer and c is complete; if so, the lists have ended.
   pub record JoinsAnswers {A : Type 0} (calls : Mut F (A × Unit {0}) W) (f : F) (n : ℕ)
       (xs : List A) (whole : Bool) (c : C) : Type 0 where
     pub sources : List W
@@ -23,8 +23,8 @@ module _ {F W B C : Type 0} (inner : Bool → W → List B → Type 0) (complete
     pub at_most : length (joined lists) ≤ n
     pub made : collected (enumerate_from 0 (joined lists)) c
 
--- c is made of the lists of the answers of f on the items that the source gives, to its end where
--- `whole` is true.
+-- c is made of the lists of the sources that f returns for the items that the source gives; if
+-- `whole` is true, the source has ended.
 pub record IsSpread {S A F W B C : Type 0} (reads : Bool → S → List A → Type 0)
     (calls : Mut F (A × Unit {0}) W) (inner : Bool → W → List B → Type 0) (complete : C → Bool)
     (collected : List (ℕ × B) → C → Type 0) (source : S) (f : F) (n : ℕ) (c : C) : Type 0 where
@@ -33,8 +33,8 @@ pub record IsSpread {S A F W B C : Type 0} (reads : Bool → S → List A → Ty
   pub read : reads whole source items
   pub joins : JoinsAnswers inner complete collected calls f n items whole c
 
--- The same over the pairs of the items of two sources, one of which had ended where `whole` is
--- true.
+-- c is made of the lists of the sources that f returns for the pairs of items of two sources; if
+-- `whole` is true, one of the two has ended.
 pub record IsSpreadOfPairs {S O A D F W B C : Type 0} (reads : Bool → S → List A → Type 0)
     (others : Bool → O → List D → Type 0) (calls : Mut F ((A × D) × Unit {0}) W)
     (inner : Bool → W → List B → Type 0) (complete : C → Bool)
@@ -51,8 +51,8 @@ pub record IsSpreadOfPairs {S O A D F W B C : Type 0} (reads : Bool → S → Li
   pub one_ended : whole ≡ true → IsTrue (ended || other_ended)
   pub joins : JoinsAnswers inner complete collected calls f n (zip items other_items) whole c
 
--- r is made of as many answers of f on the source's items as there are items of the other, and of
--- these. They are at most n; where they are fewer, one of the two had ended.
+-- r is made of what f returns for the source's items, and of as many items of the other source.
+-- They are at most n; if they are fewer, one of the two has ended.
 pub record IsParted {S A B F O D R Q : Type 0} (reads : Bool → S → List A → Type 0)
     (calls : Mut F (A × Unit {0}) B) (others : Bool → O → List D → Type 0)
     (firsts : List B → R → Type 0) (seconds : List D → Q → Type 0)

@@ -1,7 +1,8 @@
-//! Functions over any source that gives a list, by one law an adapter, as a user writes them.
+//! Functions over any source that gives a list, with one law for each adapter, as a user writes
+//! them.
 //!
-//! A generic function knows nothing of its source but its bounds, so its chain does not prove
-//! itself: it calls the law of each adapter, and that of what is read to its end.
+//! A generic function knows nothing about its source but its bounds, so its chain is not proved
+//! without laws. It calls the law of each adapter, and the law about what is read to the end.
 ghost use Rattle.std.specs.Prelude.{◌≡◌, ◌/◌, ◌++◌, ◌≤◌, ℕ, List, IfOk, ltb, map, filter, take};
 ghost use Rattle.std.specs.Int.NonZero.{non_zero_usize_get};
 ghost use Rattle.std.specs.List.{All, Contains};
@@ -12,7 +13,7 @@ use nonempty_collections::{NEVec, laws};
 use std::alloc::{AllocError, Global};
 use std::num::NonZeroUsize;
 
-/// Half of each item.
+/// Returns half of each item.
 pub fn halves<S: NonEmptyIterator<Item = u32>>(
     alloc: Global,
     source: S,
@@ -28,7 +29,7 @@ pub fn halves<S: NonEmptyIterator<Item = u32>>(
     mapped.collect(alloc)
 }
 
-/// The first `n` items, or all of them.
+/// Returns the first `n` items, or all of them if there are fewer.
 pub fn first_items<T: Drop, S: NonEmptyIterator<Item = T>>(
     alloc: Global,
     source: S,
@@ -44,7 +45,7 @@ pub fn first_items<T: Drop, S: NonEmptyIterator<Item = T>>(
     taken.collect(alloc)
 }
 
-/// The items, and then those of another source.
+/// Returns the items, followed by those of another source.
 pub fn joined<T: Drop, S: NonEmptyIterator<Item = T>, U: IntoIterator<Item = T>>(
     alloc: Global,
     source: S,
@@ -61,7 +62,7 @@ pub fn joined<T: Drop, S: NonEmptyIterator<Item = T>, U: IntoIterator<Item = T>>
     chained.collect(alloc)
 }
 
-/// The items below 10. There may be none, so the chain is std's behind `filter`.
+/// Returns the items below 10. There may be none, so the chain is std's after `filter`.
 pub fn small<S: NonEmptyIterator<Item = u32>>(
     alloc: Global,
     source: S,
@@ -77,7 +78,7 @@ pub fn small<S: NonEmptyIterator<Item = u32>>(
     kept.collect(alloc)
 }
 
-/// The greatest of the numbers that a source shows.
+/// Returns the greatest of the numbers that a source references.
 pub fn greatest<'a, S: NonEmptyIterator<Item = &'a u32>>(source: S) -> u32
     requires { ⟦<S as SourceWords>⟧.ends source }
     ensures among { (xs : List ℕ) → ShowsList (⟦<S as SourceWords>⟧.reads) source xs

@@ -1,8 +1,8 @@
-//! Towers of adapters over any source, and sources of a user's own, proved from the contracts of
-//! the public calls alone.
+//! Chains of adapters over any source, and a user's own sources, proved only from the contracts of
+//! the public methods.
 //!
-//! This crate is no part of the library. It stands for a user's: what is proved here, a user of the
-//! library can prove.
+//! This crate is not part of the library. It is written like a user's crate: what is proved here, a
+//! user of the library can prove.
 #![tactic(auto)]
 
 mod any_source;

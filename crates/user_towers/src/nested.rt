@@ -1,4 +1,4 @@
-//! Towers over sources of sources, and over a state.
+//! Chains of adapters over sources of sources, and over a state.
 ghost use Rattle.std.specs.Prelude.{◌≡◌, ◌^◌, ◌<◌, ◌+◌, ◌%◌, IfOk};
 ghost use Rattle.std.specs.Iterator.{IsFinite, IsFiniteIterable, size};
 ghost use Rattle.std.specs.List.{scan};
@@ -9,7 +9,8 @@ use nonempty_collections::laws::{first_items_stay_first, list_of_scan, vectors_g
 use nonempty_collections::{IntoNonEmptyIterator, NEVec};
 use std::alloc::{AllocError, Global};
 
-/// The answers of `f`, which is lent a state, on the items of the items of `source`, collected.
+/// Collects what `f` returns for the items of the items of `source`; `f` takes a mutable reference
+/// to a state.
 pub fn scan_of_all<
     St: Drop,
     A: Drop,
@@ -31,8 +32,8 @@ pub fn scan_of_all<
     source.flatten().scan(init, f).collect(alloc)
 }
 
-/// The totals of the first item, of the first two, and so on, each modulo 2^32: their list is
-/// written out.
+/// Returns the totals of the first item, of the first two, and so on, each modulo 2^32, as an
+/// explicit list.
 pub fn running_totals(alloc: Global, items: NEVec<u32>) -> Result<NEVec<u32>, AllocError>
     ensures { IfOk result (λ v.
         v ≡ scan (λ total x. (total + x) % 2 ^ 32) (λ total x. (total + x) % 2 ^ 32) 0 items) }

@@ -1,5 +1,5 @@
-//! Sources of a user's own: a plain one, one seen through a model, a borrowed and a boxed one, and
-//! a value that becomes one.
+//! A user's own sources: a plain one, one with a model, a borrowed and a boxed one, and a value
+//! that becomes one.
 //!
 //! Each implements [`NonEmptyIterator`] by its law alone, and has all the methods.
 ghost use Rattle.std.specs.Prelude.{◌≡◌, ◌<◌, List, [], ◌∷◌, length, reverse, IfOk, IfErr};
@@ -12,14 +12,14 @@ use std::alloc::{AllocError, Global};
 use std::marker::Model;
 use std::num::NonZeroU32;
 
-/// The numbers from one down to 1.
+/// The numbers from a first one down to 1.
 #[derive(Drop)]
 pub struct Countdown {
     from: NonZeroU32,
 }
 
 impl Countdown {
-    /// The numbers from `from` down to 1.
+    /// Returns the countdown from `from` down to 1.
     pub fn new(from: NonZeroU32) -> Countdown
         ensures { start_of result ≡ non_zero_u32_get from }
     {
@@ -27,7 +27,7 @@ impl Countdown {
     }
 }
 
-/// What is left of a [`Countdown`].
+/// The numbers of a [`Countdown`] that are left.
 #[derive(Drop)]
 pub struct CountdownIter {
     left: u32,
@@ -71,14 +71,14 @@ impl NonEmptyIterator for Countdown {
         ended.0 };
 }
 
-/// A start, which is a [`Countdown`] where a source is asked for.
+/// A start, which becomes a [`Countdown`] when it is passed as a source.
 #[derive(Drop)]
 pub struct Start {
     seconds: NonZeroU32,
 }
 
 impl Start {
-    /// A start of so many seconds.
+    /// Returns a start with this number of seconds.
     pub fn new(seconds: NonZeroU32) -> Start
         ensures { seconds_of result ≡ non_zero_u32_get seconds }
     {
@@ -119,7 +119,7 @@ impl IntoNonEmptyIterator for Start {
     }
 }
 
-/// A stack that has an item. A contract sees it as the list of its items, the newest first.
+/// A stack that has an item. In contracts its value is the list of its items, the newest first.
 #[derive(Drop)]
 pub struct Stack<T> {
     items: Vec<T>,
@@ -136,7 +136,8 @@ impl<T> Model for Stack<T> {
 }
 
 impl<T: Drop> Stack<T> {
-    /// A stack of one item. `AllocError` where there is no memory for it; it is then dropped.
+    /// Returns a stack of one item. Returns `AllocError` if the allocation fails; the item is then
+    /// dropped.
     pub fn new(alloc: Global, item: T) -> Result<Stack<T>, AllocError>
         ensures { IfOk result (λ s. s ≡ item ∷ []) }
     {
@@ -145,8 +146,8 @@ impl<T: Drop> Stack<T> {
         Ok(Stack { items })
     }
 
-    /// Puts an item on top. `AllocError` where there is no memory for it; it is then dropped, and
-    /// the stack stays as it was.
+    /// Puts an item on top. Returns `AllocError` if the allocation fails; the stack is then
+    /// unchanged, and the item is dropped.
     pub fn push(&mut self, item: T) -> Result<(), AllocError>
         ensures added { IfOk result (λ _. self.new ≡ item ∷ self.old) }
         ensures unchanged { IfErr result (λ _. self.new ≡ self.old) }
@@ -156,7 +157,8 @@ impl<T: Drop> Stack<T> {
     }
 }
 
-/// The items of a [`Stack`] that are left. A contract sees it as their list.
+/// An iterator over the items of a [`Stack`], by value. In contracts its value is the list of the
+/// items that are left.
 #[derive(Drop)]
 pub struct StackIntoIter<T> {
     items: Vec<T>,
@@ -200,7 +202,8 @@ impl<T: Drop> NonEmptyIterator for Stack<T> {
     ghost not_empty = { λ s it made t ended. some_left s it made.0 made.1 ended.0 };
 }
 
-/// The items of a [`Stack`] that are left to be shown. A contract sees it as their list.
+/// An iterator over references to the items of a [`Stack`]. In contracts its value is the list of
+/// the items that are left.
 #[derive(Drop)]
 pub struct StackIter<'a, T> {
     items: &'a [T],
@@ -255,7 +258,8 @@ pub struct Boxed<I> {
 }
 
 impl<I: NonEmptyIterator> Boxed<I> {
-    /// Puts a source into a box. `AllocError` where there is no memory for it; it is then dropped.
+    /// Puts a source into a box. Returns `AllocError` if the allocation fails; the source is then
+    /// dropped.
     pub fn new(alloc: Global, inner: I) -> Result<Boxed<I>, AllocError>
     where
         I: Drop,

@@ -1,4 +1,4 @@
-//! Towers with `group_by` in them, over another adapter and under others; and over borrowed runs.
+//! Chains with `group_by`, after another adapter and before others; and chains over borrowed runs.
 ghost use Rattle.std.specs.Prelude.{◌≡◌, ◌≤◌, Bool, List, ltb, length, map, IfOk};
 ghost use Rattle.std.specs.Iterator.{IsFiniteIterable, CallableOnAll};
 ghost use Rattle.std.specs.Int.NonZero.{non_zero_usize_get};
@@ -17,7 +17,8 @@ use std::alloc::{AllocError, Global};
 use std::iter;
 use std::num::NonZeroUsize;
 
-/// The runs of the answers of `f` on the items of `source`, by the keys that `key` answers at them.
+/// Returns the runs of what `f` returns for the items of `source`, by the keys that `key` returns
+/// for these.
 pub fn runs_of_answers<
     T: Drop,
     K: PartialEq + Drop,
@@ -40,8 +41,8 @@ where
     source.map(f).group_by(alloc, key).collect(alloc)?
 }
 
-/// The first `n` runs of the items of `source`, by the keys that `key` answers at them. No more is
-/// drawn than one item behind them.
+/// Returns the first `n` runs of the items of `source`, by the keys that `key` returns. At most one
+/// item after these runs is taken.
 pub fn first_runs<K: PartialEq + Drop, S: NonEmptyIterator, G: FnMut(&S::Item) -> K + Drop>(
     alloc: Global,
     source: S,
@@ -62,7 +63,7 @@ where
     source.group_by(alloc, key).take(n).collect(alloc)?
 }
 
-/// The lengths of the runs of `items`, each item compared with the one before it.
+/// Returns the lengths of the runs of `items`, where each item is compared with the one before it.
 pub fn run_lengths<T, F: Fn(&T, &T) -> bool + Drop>(
     alloc: Global,
     items: &NESlice<'_, T>,

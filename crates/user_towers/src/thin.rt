@@ -1,4 +1,4 @@
-//! A tower of four plain adapters.
+//! A chain of four simple adapters.
 ghost use Rattle.std.specs.Prelude.{◌≡◌, ◌+◌, ◌^◌, ◌<◌, ◌/◌, ◌++◌, IfOk, length, map, take};
 ghost use Rattle.std.specs.Iterator.{IsFiniteIterable, CallableOnAll, size};
 ghost use Rattle.std.specs.Int.NonZero.{non_zero_usize_get};
@@ -14,10 +14,10 @@ use nonempty_collections::{IntoNonEmptyIterator, NEVec};
 use std::alloc::{AllocError, Global};
 use std::num::NonZeroUsize;
 
-/// The answers of `f` on the items of `source`, and then the items of `other`, with their places:
-/// the first `n` of them, collected.
+/// Collects the first `n` of these items, with their indices: what `f` returns for the items of
+/// `source`, followed by the items of `other`.
 ///
-/// The places have to fit.
+/// The indices must fit in a `usize`.
 pub fn numbered<
     U,
     S: NonEmptyIterator,
@@ -46,7 +46,7 @@ pub fn numbered<
         .collect(alloc)
 }
 
-/// The same of a vector, whose items are halved: its list is written out.
+/// Does the same for a vector whose items are halved, and states the list that comes out.
 pub fn numbered_halves(
     alloc: Global,
     items: NEVec<u32>,

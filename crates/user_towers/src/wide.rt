@@ -1,4 +1,4 @@
-//! Towers over inner sources and over two sources, into one collection and into two.
+//! Chains over inner sources and over two sources, into one collection and into two.
 ghost use Rattle.std.specs.Prelude.{◌≡◌, ◌^◌, ◌<◌, ◌∷◌, [], IfOk, flat_map, take};
 ghost use Rattle.std.specs.Iterator.{IsFinite, IsFiniteIterable, CallableOnAll, size};
 ghost use Rattle.std.specs.Int.NonZero.{non_zero_usize_get};
@@ -16,8 +16,8 @@ use nonempty_collections::{IntoNonEmptyIterator, NEVec, Singleton};
 use std::alloc::{AllocError, Global};
 use std::num::NonZeroUsize;
 
-/// The items of what `f` answers on the items of `source`, with their places: the first `n` of
-/// them, collected. The first item is looked at on the way.
+/// Collects the first `n` items, with their indices, of the sources that `f` returns for the items
+/// of `source`. The first item is peeked on the way.
 pub fn spread<
     U: Drop,
     W: IntoNonEmptyIterator<Item = U>,
@@ -43,7 +43,8 @@ pub fn spread<
         .collect(alloc)
 }
 
-/// The same over the pairs of two sources.
+/// Collects the first `n` items, with their indices, of the sources that `f` returns for the pairs
+/// of items of two sources.
 pub fn spread_pairs<
     U: Drop,
     W: IntoNonEmptyIterator<Item = U>,
@@ -69,7 +70,8 @@ where
     spread(alloc, source.zip(other), f, n)
 }
 
-/// The numbers of a countdown, each twice: its list is written out.
+/// Returns the first `n` numbers, with their indices, of a countdown in which each number comes
+/// twice, as an explicit list.
 pub fn spread_countdown(
     alloc: Global,
     source: Countdown,
@@ -90,8 +92,8 @@ pub fn spread_countdown(
     spread(alloc, source, twice, n)
 }
 
-/// The answers of `f` on the items of `source` in pairs with the items of `other`: the first `n` of
-/// them, parted into two collections.
+/// Pairs what `f` returns for the items of `source` with the items of `other`, and collects the
+/// first `n` pairs into two collections.
 pub fn parted<
     U: Drop,
     D: Drop,

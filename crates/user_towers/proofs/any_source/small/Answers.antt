@@ -2,7 +2,7 @@ use Rattle.std.proofs.Common.{rules, refl, ◌∙◌, filter, ltb}
 use Rattle.std.proofs.lemmas.Result.{IfOk-weaker}
 use Rattle.user_towers.proofs.any_source.small.Goals as goal
 
--- std's `collect` says what it drew of the iterator, which is what is read of it as a source.
+-- std's `collect` says what it took from the iterator, which is what is read of it as a source.
 pub returns : goal.returns
 returns g c = IfOk-weaker c.collect.result _ _ (λ v h xs list.
     let kept = c.list_of_filter.ensures c.filter-kept.result (λ x. ltb x 10) xs

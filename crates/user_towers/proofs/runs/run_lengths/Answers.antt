@@ -4,7 +4,7 @@ use Rattle.ne_vec.specs.Divisions.{IsDivision, by_previous}
 use Rattle.ne_vec.specs.SliceRuns.{ActsAsAtPair}
 use Rattle.user_towers.proofs.runs.run_lengths.Goals as goal
 
--- From the lengths back to the runs that came, which are all.
+-- From the lengths back to the runs that came, which are all runs.
 pub returns : goal.returns
 returns g c = IfOk-weaker c.collect.result _ _ (λ v h test acts.
     let holds = c.adjacent_runs.ensures.holds in

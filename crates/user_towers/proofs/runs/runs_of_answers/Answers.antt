@@ -5,7 +5,7 @@ use Rattle.ne_iter.specs.Sources.{Reads}
 use Rattle.ne_iter.specs.Keys.{items_of, DividesByKey}
 use Rattle.user_towers.proofs.runs.runs_of_answers.Goals as goal
 
--- From the runs collected back to what `map` answered, and to the source's items.
+-- From the runs collected back to what `map` returned, and to the source's items.
 pub returns : goal.returns
 returns g c = IfOk-weaker c.in_ok-collect.field-0 _ _ (λ v h.
     let runs = c.group_by.ensures.gives true v h in
@@ -24,7 +24,7 @@ returns g c = IfOk-weaker c.in_ok-collect.field-0 _ _ (λ v h.
     }) (c.results_are_read_whole.ensures c.group_by.result c.in_ok-collect.field-0
     c.in_ok-collect.ensures.gives)
 
--- The tower ends: the mapped items do, and the key may be asked at each of them.
+-- The chain ends: the mapped items do, and the key can be computed for each of them.
 pub collect-requires : goal.collect-requires
 collect-requires g c =
     c.group_by.ensures.ends (search rules)

@@ -6,7 +6,8 @@ use Rattle.std.proofs.lemmas.Result.{IfOk-weaker}
 use Rattle.ne_vec.specs.Fronts.{AreFirst}
 use Rattle.user_towers.proofs.thin.numbered_halves.Goals as goal
 
--- From the vectors' items up through the adapters: what came so far are first items of each list.
+-- From the vectors' items forward through the adapters: what came so far are the first items of
+-- each list.
 pub returns : goal.returns
 returns c = IfOk-weaker c.numbered.result _ _ (λ v h.
     let n = non_zero_usize_get c.args.n in
