@@ -87,7 +87,7 @@ impl<'a, T> NESlice<'a, T> {
         ensures never { result ≡ false }
         ensures nonempty { 0 < length self.now }
     {
-        let _ = &self.inner; // the invariant is known where a field is used
+        let _ = &self.inner; // the invariant is known once a field is used
         false
     }
 
