@@ -37,7 +37,7 @@ module _ {U S A : Type 0} (becomes : U → S → Type 0) (steps : S → Option A
   Shown view u xs = (mark u xs ≡ 0) × (view_mark view u xs ≡ 0) × Shows view u xs
 
 module _ {S A : Type 0} (steps : S → Option A → S → Type 0) where
-  -- What `grind` gets to know of each run of an iterator that gives the items of xs: at most as
+  -- What `grind` learns about each run of an iterator that gives the items of xs: at most as
   -- many came; all of them if the run is whole; a fold that never decreases is at most the fold
   -- over xs; and which item is at each place.
   abbrev pub GivesFronts : List A → S → Type 0
@@ -47,8 +47,7 @@ module _ {S A : Type 0} (steps : S → Option A → S → Type 0) where
       → fold h n p.items ≤ fold h n xs)
       × ((k : ℕ) → k < p.len → p.at k ≡ slice_get xs k))
 
-  -- What `grind` gets to know of each run of an iterator whose items, through `view`, are those of
-  -- xs.
+  -- What `grind` learns about each run of an iterator whose items, through `view`, are those of xs.
   abbrev pub ShowsFronts : {B : Type 0} → (A → B) → List B → S → Type 0
   ShowsFronts {B} view xs it = EachRunFrom steps it (λ p.
       (p.len ≤ length xs) × (p.whole ≡ true → p.len ≡ length xs)
@@ -56,7 +55,7 @@ module _ {S A : Type 0} (steps : S → Option A → S → Type 0) where
       × FoldIsAtMost p view xs)
 
 module _ {U S A : Type 0} (becomes : U → S → Type 0) (steps : S → Option A → S → Type 0) where
-  -- all that `grind` gets to know of a source that gives the items of xs
+  -- all that `grind` learns about a source that gives the items of xs
   abbrev pub GivesItems : U → List A → Type 0
   GivesItems u xs = Listed becomes steps u xs
       × ((it : S) → becomes u it → GivesFronts steps xs it)

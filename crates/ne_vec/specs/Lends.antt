@@ -1,4 +1,4 @@
--- The final value of a vector after the mutable borrow that it lent ends.
+-- The value of a vector after a mutable borrow of its items has ended.
 use Rattle.std.specs.Prelude.{ℕ, List, length, slice_set, Option}
 use Rattle.std.specs.Borrow.{Lends, LendsIf, follows, Fml, RattleType, MutBor, Array}
 use Rattle.std.specs.List.{refill}

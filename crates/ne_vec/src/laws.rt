@@ -17,7 +17,7 @@ ghost use Rattle.std.specs.Iterator.{Yields};
 use crate::{NESlice, NEVec};
 use std::hash::Hash;
 
-/// Each list has exactly one division into runs, whichever items continue a run.
+/// Each list has exactly one division into runs, for any rule that says which items continue a run.
 pub fn has_one_division<T>()
     ensures exists { (goes_on : List T → T → Bool) (xs : List T) → (rs : List (List T))
         × IsDivision goes_on xs rs }
@@ -80,8 +80,8 @@ pub fn dedup_by_key_keeps_the_first_items<T, K: PartialEq>()
     converse_has_the_same_division::<T>();
 }
 
-/// If a mapped item continues a mapped run exactly if the item continues the run, then the runs of
-/// the mapped list are the mapped runs.
+/// The runs of a mapped list are the mapped runs, if a mapped item continues a mapped run exactly
+/// when the item continues the run.
 pub fn mapped_list_has_the_mapped_runs<T, U>()
     ensures { (f : T → U) (goes_on : List T → T → Bool) (mapped_on : List U → U → Bool)
         (xs : List T) (rs : List (List T)) → ((r : List T) (x : T)

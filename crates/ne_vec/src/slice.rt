@@ -117,9 +117,9 @@ impl<'a, T> NESlice<'a, T> {
         }
     }
 
-    /// Returns the runs of the items, in order. An item continues the run if `same(first item of
-    /// the run, item)` returns `true`; otherwise it begins the next run. No item is compared with
-    /// the one before it; [`adjacent_runs`](Self::adjacent_runs) does that.
+    /// Returns the runs of the items, in order. An item continues the run if
+    /// `same(first item of the run, item)` returns `true`; otherwise it begins the next run. No
+    /// item is compared with the one before it; [`adjacent_runs`](Self::adjacent_runs) does that.
     ///
     /// Each run is a part of the slice, so nothing is copied and nothing is allocated. If what
     /// `same` returns depends on the two items alone, the runs are the one division of the items;
@@ -143,8 +143,8 @@ impl<'a, T> NESlice<'a, T> {
         }
     }
 
-    /// Returns the runs of the items, in order. An item continues the run if `same(item before it,
-    /// item)` returns `true`; otherwise it begins the next run.
+    /// Returns the runs of the items, in order. An item continues the run if
+    /// `same(item before it, item)` returns `true`; otherwise it begins the next run.
     ///
     /// Each run is a part of the slice, so nothing is copied and nothing is allocated. If what
     /// `same` returns depends on the two items alone, the runs are the one division of the items.
@@ -209,8 +209,8 @@ impl<'a, T> IntoIterator for &'a NESlice<'a, T> {
     }
 }
 
-/// Returns the item at `index`, which must be at most the last index; 0 always is. The Rust crate
-/// panics otherwise.
+/// Returns the item at `index`, which must be at most the last index; 0 is always allowed. The Rust
+/// crate panics otherwise.
 impl<'a, T> Index<usize> for NESlice<'a, T> {
     type Output = T;
 

@@ -33,9 +33,9 @@ pub use walks::{IntoIter, Iter, IterMut};
 
 /// A vector that holds at least one item.
 ///
-/// It replaces std's `Vec` and grows at the end like it; a first and a last item always exist. In
-/// contracts its value is the list of its items. Methods that don't mention allocation don't
-/// allocate.
+/// It takes the place of std's `Vec`, and grows at the end like it. Its first and last items always
+/// exist. In contracts its value is the list of its items. Methods that don't mention allocation
+/// don't allocate.
 ///
 /// ```
 /// let mut words = nev![alloc; "one"]?;
@@ -493,9 +493,9 @@ impl<T> NEVec<T> {
 
     /// Appends the items of `iter` to the end, in order.
     ///
-    /// `iter` must end. Returns `AllocError` if the vector has to grow and the allocation fails;
-    /// the items taken from `iter` before that are then appended, and the item that had no room is
-    /// dropped. `Extend` calls this method.
+    /// `iter` must be finite. Returns `AllocError` if the vector has to grow and the allocation
+    /// fails; the items taken from `iter` before that are then appended, and the item that had no
+    /// room is dropped. `Extend` calls this method.
     pub fn extend<I: IntoIterator<Item = T>>(&mut self, iter: I) -> Result<(), AllocError>
     where
         T: Drop,

@@ -19,9 +19,9 @@ use std::alloc::AllocError;
 use std::cmp::Ordering;
 
 impl<T> NEVec<T> {
-    /// Searches for an item that equals `x`. Returns `Ok` with its index, or `Err` with the index
-    /// at which `x` can be inserted so that the items stay sorted. If several items equal `x`, the
-    /// index is that of any of them.
+    /// Searches for an item that equals `x`. Returns `Ok` with its index. If there is none, returns
+    /// `Err` with the index at which `x` can be inserted so that the items stay sorted. If several
+    /// items equal `x`, the index is that of any of them.
     ///
     /// The index in `Err` has this meaning only if the vector is sorted; otherwise it is some index
     /// up to the length. An `Ok` is right in either case.
@@ -34,9 +34,10 @@ impl<T> NEVec<T> {
         self.inner.binary_search(x)
     }
 
-    /// Searches for an item for which `f` returns `Equal`. Returns `Ok` with its index, or `Err`
-    /// with the index between the items for which `f` returns `Less` and those for which it returns
-    /// `Greater`. If there are several such items, the index is that of any of them.
+    /// Searches for an item for which `f` returns `Equal`. Returns `Ok` with its index. If there is
+    /// none, returns `Err` with the index between the items for which `f` returns `Less` and those
+    /// for which it returns `Greater`. If there are several items with `Equal`, the index is that
+    /// of any of them.
     ///
     /// `f` must be callable with the vector's items, in any order. The indices have this meaning if
     /// what `f` returns depends on the item alone. For `Err` the vector must also be sorted by `f`:
@@ -50,9 +51,9 @@ impl<T> NEVec<T> {
         search::binary_search_by(self.inner.as_slice(), f)
     }
 
-    /// Searches for an item whose key, as `f` returns it, equals `b`. Returns `Ok` with its index,
-    /// or `Err` with the index at which such an item can be inserted so that the keys stay sorted.
-    /// If there are several such items, the index is that of any of them.
+    /// Searches for an item whose key, as `f` returns it, equals `b`. Returns `Ok` with its index.
+    /// If there is none, returns `Err` with the index at which such an item can be inserted so that
+    /// the keys stay sorted. If several keys equal `b`, the index is that of any such item.
     ///
     /// `f` must be callable with the vector's items, in any order. The indices have this meaning if
     /// the key depends on the item alone. For `Err` the vector must also be sorted by the key.

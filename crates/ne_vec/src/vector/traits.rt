@@ -37,8 +37,7 @@ impl<T> AsRef<Vec<T>> for NEVec<T> {
     }
 }
 
-/// Returns the items as a slice. The Rust crate doesn't implement this trait and uses `as_ref`
-/// first.
+/// Returns the items as a slice. Not in the Rust crate, where a caller calls `as_ref` first.
 impl<T> AsSlice<T> for NEVec<T> {
     ghost items = { λ v. v };
 
@@ -50,8 +49,8 @@ impl<T> AsSlice<T> for NEVec<T> {
     }
 }
 
-/// Returns the item at `index`, which must be at most the last index; 0 always is. The Rust crate
-/// panics otherwise, and also takes ranges.
+/// Returns the item at `index`, which must be at most the last index; 0 is always allowed. The Rust
+/// crate panics otherwise, and also takes ranges.
 impl<T> Index<usize> for NEVec<T> {
     type Output = T;
 
@@ -67,8 +66,8 @@ impl<T> Index<usize> for NEVec<T> {
     }
 }
 
-/// Returns a mutable reference to the item at `index`, which must be at most the last index; 0
-/// always is. The other items stay unchanged.
+/// Returns a mutable reference to the item at `index`, which must be at most the last index; 0 is
+/// always allowed. The other items stay unchanged.
 impl<T> IndexMut<usize> for NEVec<T> {
     ghost use Rattle.std.specs.Borrow.{sem};
     ghost use Rattle.ne_vec.specs.Lends.{LendsItem};

@@ -50,8 +50,8 @@ impl<'a, T> Clone for Iter<'a, T> {
     }
 }
 
-/// A mutable iterator over the items of an [`NEVec`], of which there is at least one. In contracts
-/// `std_walk` is the std iterator that it holds.
+/// A mutable iterator over the items of an [`NEVec`], of which there is at least one. Contracts
+/// describe it by the std iterator inside, `std_walk`.
 #[derive(Drop)]
 pub struct IterMut<'a, T> {
     pub(super) inner: slice::IterMut<'a, T>,
