@@ -62,7 +62,7 @@ module _ {S K A F : Type 0} (steps : S → Option A → S → Type 0) (asks : Mu
   AnswersThen s f rs (Some (Err e) ∷ more) h = ((k : Grouping S K A F) × HasRead s f rs k)
       × IsOver h × AllByRecursion (λ a. a ≡ None) more
 
-  -- A grouping that had returned the runs done returned `answers` next, and is now h.
+  -- A grouping that had returned the runs `done` returned `answers` next, and is now h.
   pub record AnswersOn (s : S) (f : F) (done : List (List A))
       (answers : List (Option (Result (List A) AllocError))) (h : Grouping S K A F) : Type 0 where
     pub runs : List (List A)

@@ -86,7 +86,7 @@ module _ {S A E : Type 0} (steps : S → Option A → S → Type 0) (tries : A �
 
 -- Each run of `it` has a run of `rest`, whose items come after x. If clones of the separator s
 -- equal it and cannot fail, a whole run gives all of these items with s between each two, each in
--- `Ok`. Any values that, in `Ok`, equal what the run gave are the same list.
+-- `Ok`. If what the run gave equals some values, each in `Ok`, then these values are that list.
 abbrev pub IntersperseRuns : {S A : Type 0} → (S → Option A → S → Type 0) → (A → A → Type 0)
     → (A → Type 0) → A → A → S → RawIntersperse S A → Type 0
 IntersperseRuns {S} {A} steps clones infallible s x rest it =

@@ -17,6 +17,6 @@ KeysWalkOut {X} es it = (0 < length es) × (it ≡ es) × (length es < 2 ^ 63) �
 abbrev pub KeyWalkShows : {A X : Type 0} → (A → X) → List X → List X → Type 0
 KeyWalkShows shows w es = Shown (KeysWalk shows) (TakesFirst shows) shows w es
 
--- The iterator w by value gives the entries es. `becomes` says what std's iterator it becomes.
+-- The iterator w by value gives the entries es. `becomes` says which std iterator it becomes.
 abbrev pub KeyWalkGives : {W X : Type 0} → (W → List X → Type 0) → W → List X → Type 0
 KeyWalkGives becomes w es = Listed becomes (TakesFirst (λ x. x)) w es

@@ -1,4 +1,4 @@
--- The final value of a `Peekable` from which a `&mut` to its first item was returned.
+-- The value of a `Peekable` after a mutable borrow of its first item has ended.
 use Rattle.std.specs.Borrow.{Lends, MutBor, Fml, RattleType}
 use Rattle.ne_iter.specs.declared.iter.peek.Peekable.{Peekable}
 use Rattle.ne_iter.specs.Peeks.{with_first}

@@ -115,7 +115,7 @@ where
     }
 }
 
-/// A reference to an array becomes the slice's iterator, as a slice does.
+/// A reference to an array becomes the iterator of its slice.
 impl<'a, T, const N: usize> IntoNonEmptyIterator for &'a [T; N]
 where
     [T; N]: NonEmptyArray<N>,

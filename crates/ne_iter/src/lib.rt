@@ -3,9 +3,10 @@
 //! This is the part of the port of `nonempty-collections` that the crates of maps and sets build
 //! on. Its modules and the items in them have the Rust crate's names.
 //!
-//! Contracts describe a source by the items that it may give: the lists `xs` for which `reads whole
-//! source xs` holds. If `whole` is true, the source gives `xs` and ends; otherwise it may give more
-//! after `xs`. That a source gives at least one item is the law of [`NonEmptyIterator`].
+//! Contracts describe a source by the items that it may give: the lists `xs` for which
+//! `reads whole source xs` holds. If `whole` is true, the source gives `xs` and ends; otherwise it
+//! may give more after `xs`. That a source gives at least one item is the law of
+//! [`NonEmptyIterator`].
 #![tactic(auto)]
 
 pub mod array;

@@ -10,8 +10,8 @@ ghost use Rattle.ne_iter.specs.Calls.{ShownEach};
 use super::NonEmptyIterator;
 use super::sources::SourceWords;
 
-/// Returns the item that is kept: at first the first one, then each later one for which `better`
-/// returns `true`.
+/// Returns the item that is kept: the first one, until `better` returns `true` for a later one,
+/// which then replaces it.
 ///
 /// `better` is called with the item kept so far and the next one, in this order.
 pub(super) fn best<S: NonEmptyIterator, F: Fn(&S::Item, &S::Item) -> bool>(

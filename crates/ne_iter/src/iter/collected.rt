@@ -41,7 +41,7 @@ impl<T: Drop> FromNonEmptyIterator<T> for Vec<T> {
 
 /// Makes `Ok` of what the values make, or the first `Err`; no item after that is taken.
 ///
-/// The values are kept in an [`NEVec`] until all are there, which takes an allocation of its own.
+/// The values are first collected in an [`NEVec`], which is allocated separately.
 impl<T: Drop, E: Drop, V: FromNonEmptyIterator<T>> FromNonEmptyIterator<Result<T, E>>
     for Result<V, E> {
     ghost collected = { ResultsMake V.collected V.is_complete };

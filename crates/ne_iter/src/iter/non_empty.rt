@@ -418,11 +418,12 @@ pub trait NonEmptyIterator: IntoIterator {
     /// `f` is called once for each item taken, in order, and returns its key. The first item begins
     /// a run. Each further item continues the run if `key of the run's first item == its own key`;
     /// otherwise it begins the next run. So no item is compared with the one before it. A run is
-    /// returned when the first item of the next one was taken, or when the source has ended. No
-    /// more is taken, so if the caller stops, at most one item after the returned runs was taken.
+    /// returned when the first item of the next one was taken, or when the source has ended.
+    /// Nothing more is taken: if the caller stops early, at most one item after the returned runs
+    /// has been taken.
     ///
-    /// `f` must be callable with each item of the source, in order, and with no other value: for
-    /// items above 0 the key may be `|x| 100 / *x`.
+    /// `f` must be callable with the items of the source, in order; it may reject any other value.
+    /// For example, if all items are above 0, the key may be `|x| 100 / *x`.
     ///
     /// A run is allocated from `alloc` when it is requested; nothing is allocated for the next run
     /// yet. If an allocation for a run fails, `Err` is returned in its place. The items that were
@@ -455,8 +456,8 @@ pub trait NonEmptyIterator: IntoIterator {
 
     /// Returns a source of the items with a clone of `separator` between each two. Each item or
     /// clone is in `Ok`; if a clone fails, an `Err` comes in its place and nothing after it. So n
-    /// items become 2n - 1, and no separator is first or last. One clone is made for each separator
-    /// given.
+    /// items become 2n - 1 if no clone fails, and no separator is first or last. One clone is made
+    /// for each separator given.
     ///
     /// The first item is taken immediately. In the Rust crate `into_iter` of the result takes it,
     /// and clones the separator once more; the items there are not in a `Result`.

@@ -17,8 +17,8 @@ use std::alloc::{AllocError, Global};
 ///
 /// `lists source xs` says that `source` gives the items `xs` and no others, as far as they are
 /// taken. `shows view source xs` says the same of what `view` makes of its items. The search of the
-/// checker does not unfold these two; `gives_items` and `gives_shown` add what it gets to know of
-/// each run of the iterator.
+/// checker does not unfold these two; `gives_items` and `gives_shown` add what it learns about each
+/// run of the iterator.
 pub trait SourceWords: IntoIterator {
     ghost reads: { Bool → Self → List Self.Item → Type 0 };
 
