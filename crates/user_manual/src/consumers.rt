@@ -76,7 +76,7 @@ pub fn greatest_half(items: &NEVec<u32>) -> u32
     items.nonempty_iter().map(|x| *x / 2).max()
 }
 
-/// Returns the item with the greatest remainder by 10.
+/// Returns an item whose last digit is the greatest.
 pub fn greatest_digit(items: NEVec<u32>) -> u32
     ensures among { Contains items result }
     ensures bound { All (λ k. k ≤ result % 10) (map (λ x. x % 10) items) }
