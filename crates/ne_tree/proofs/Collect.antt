@@ -1,4 +1,4 @@
--- Pairs inserted in turn into a tree map.
+-- Pairs inserted into a tree map, and items inserted into a tree set, one after the other.
 use Rattle.std.proofs.Common.{◌≡◌, ◌<◌, Bool, List, [], ◌∷◌, ◌++◌, Some, true, sym, subst, length}
 use Rattle.std.proofs.Common.{arith, ◌∙◌}
 use Rattle.std.specs.Prelude.{Result, Ok, Err, IfOk}
@@ -40,7 +40,7 @@ module _ {K : Type 0} {eq : K → K → Bool}
   by_cmp : eq_by_cmp cmp ≡ eq
   by_cmp = sym (fun_ext (λ a. fun_ext (λ b. same a b)))
 
-  -- one pair more
+  -- The map after one more pair.
   pub map_of-put : {V : Type 0} (xs : List (K × V)) (m n : BTreeMap K V) (p : K × V)
       → IsOrdered cmp n → Updates cmp m n p.0 (Some p.1) → IsMapOf eq xs m.entries
       → IsMapOf eq (xs ++ p ∷ []) n.entries
@@ -50,14 +50,14 @@ module _ {K : Type 0} {eq : K → K → Bool}
       (IsDistinct-from_sorted cmp _ o) put.0
       (subst (λ (e : K → K → Bool). IsMapOf e xs m.entries) (sym by_cmp) h))
 
-  -- the same pairs make the same map
+  -- The same pairs make the same map.
   pub one_map : {V : Type 0} (ps : List (K × V)) (m n : BTreeMap K V) → IsMapOf eq ps m.entries
       → IsMapOf eq ps n.entries → (q : K) → get cmp m q ≡ get cmp n q
   one_map ps m n a b q =
       subst (λ (e : K → K → Bool). lookup (e q) m.entries ≡ lookup (e q) n.entries) (sym by_cmp)
       (a.1 q ∙ sym (b.1 q))
 
--- a map of one pair
+-- A map of one pair.
 module _ {K V E : Type 0} (eq : K → K → Bool)
     (cmp : K → K → Ordering) (r : Result (BTreeMap K V) E) (p : K × V) where
   pub one_made : IfOk r (λ m. m.entries ≡ p ∷ []) → IfOk r (IsOrdered cmp)
@@ -79,21 +79,21 @@ module _ {K : Type 0} {eq : K → K → Bool}
   is_cmp : eq_by_cmp cmp ≡ eq
   is_cmp = sym (fun_ext (λ a. fun_ext (λ b. same a b)))
 
-  -- one item more
+  -- The set after one more item.
   pub set_of-put : (xs : List K) (s t : BTreeSet K) (x : K) → AreOrdered cmp t
       → set.Updates cmp s t x true → IsSetOf eq xs s.keys → IsSetOf eq (xs ++ x ∷ []) t.keys
   set_of-put xs s t x o put h = subst (λ (e : K → K → Bool). IsSetOf e (xs ++ x ∷ []) t.keys) is_cmp
       (set_of-more (eq_by_cmp_equiv total) xs s.keys t.keys x (IsDistinct-from_sorted cmp _ o) put.0
       (subst (λ (e : K → K → Bool). IsSetOf e xs s.keys) (sym is_cmp) h))
 
-  -- the same items make the same set
+  -- The same items make the same set.
   pub one_set : (xs : List K) (s t : BTreeSet K) → IsSetOf eq xs s.keys → IsSetOf eq xs t.keys
       → set.IsSameSet cmp s t
   one_set xs s t a b q =
       subst (λ (e : K → K → Bool). is_member e s.keys q ≡ is_member e t.keys q) (sym is_cmp)
       (a.1 q ∙ sym (b.1 q))
 
-  -- items inserted in turn
+  -- Items inserted one after the other.
   pub set_of-inserts_all : (s t : BTreeSet K) (xs : List K) → set.InsertsAll cmp s xs t
       → IsSetOf eq (s.keys ++ xs) t.keys
   set_of-inserts_all s t xs h =
@@ -108,7 +108,7 @@ pub nonempty_set-inserts_all : {K : Type 0}
 nonempty_set-inserts_all total s t xs h some =
     nonempty_set-inserts (eq_by_cmp_equiv total) s.keys xs t.keys h.0 some
 
--- a set of one item
+-- A set of one item.
 module _ {K E : Type 0} (eq : K → K → Bool)
     (cmp : K → K → Ordering) (r : Result (BTreeSet K) E) (x : K) where
   pub one_item_made : IfOk r (λ s. s.keys ≡ x ∷ []) → IfOk r (AreOrdered cmp)

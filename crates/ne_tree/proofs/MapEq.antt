@@ -1,4 +1,5 @@
--- Two maps in order are equal entry by entry exactly if they are the same map.
+-- Two maps with their keys in ascending order are equal entry by entry if and only if they are the
+-- same map.
 use Rattle.std.proofs.Common.{◌≡◌, Bool, true, false, cond, ◌&&◌, List, [], ◌∷◌, refl, sym, ap, ap₂}
 use Rattle.std.proofs.Common.{◌∙◌, true≢false, ◌↔◌, IsTrue, Option, None, Some}
 use Rattle.std.specs.Cmp.{IsTotalOrder, tied_itself}
@@ -22,7 +23,7 @@ module _ {K V : Type 0} {eq : K → K → Bool} {cmp : K → K → Ordering}
   abbrev pair_eq : K × V → K × V → Bool
   pair_eq p q = eq p.0 q.0 && veq p.1 q.1
 
-  -- what compares below the later keys is none of them
+  -- A key that is less than each key of the entries is none of them.
   not_later : (q : K) (es : List (K × V)) → AllByRecursion (λ y. cmp q y ≡ Less) (keys_of es)
       → at es q ≡ None
   not_later q [] h = refl
@@ -47,7 +48,7 @@ module _ {K V : Type 0} {eq : K → K → Bool} {cmp : K → K → Ordering}
   first : (q : K) (e : K × V) (es : List (K × V)) → cmp q e.0 ≡ Equal → at (e ∷ es) q ≡ Some e.1
   first q e es l = rw l refl
 
-  -- equal items compare alike
+  -- Equal items compare alike with any other item.
   alike : (q x y : K) → cmp x y ≡ Equal → cmp q x ≡ cmp q y
   alike q x y e = o.antisymm q x ∙ ap ordering_reverse (o.congr x y q e) ∙ sym (o.antisymm q y)
 

@@ -1,4 +1,4 @@
--- Two sets in order are equal item by item exactly if they have the same items.
+-- Two sets in ascending order are equal item by item if and only if they have the same items.
 use Rattle.std.proofs.Common.{◌≡◌, Bool, true, false, ◌&&◌, ◌||◌, List, [], ◌∷◌, refl, sym, ap, ◌∙◌}
 use Rattle.std.proofs.Common.{true≢false, ◌↔◌, IsTrue}
 use Rattle.std.specs.Cmp.{IsTotalOrder, tied_itself}
@@ -17,7 +17,7 @@ module _ {K : Type 0} {eq : K → K → Bool}
   abbrev has : List K → K → Bool
   has xs q = list_any (is_at (cmp q)) xs
 
-  -- what is not above the first item is none of the later ones
+  -- An item that is not greater than the first item is none of the later ones.
   not_later : (q x : K) (xs : List K) → ((y : K) → cmp x y ≡ Less → cmp q y ≡ Less)
       → AllByRecursion (λ y. cmp x y ≡ Less) xs → has xs q ≡ false
   not_later q x [] up h = refl
@@ -32,11 +32,11 @@ module _ {K : Type 0} {eq : K → K → Bool}
   not_later_equal q x xs s e = not_later q x xs (λ y h. o.congr q x y e
       ∙ h) (sorted_head cmp x xs s)
 
-  -- a first item is there
+  -- A list holds its first item.
   first_has : (x : K) (xs : List K) → has (x ∷ xs) x ≡ true
   first_has x xs = ap (λ r. is_eq r || has xs x) (tied_itself o x)
 
-  -- equal items compare alike
+  -- Equal items compare alike with any other item.
   alike : (q x y : K) → cmp x y ≡ Equal → cmp q x ≡ cmp q y
   alike q x y e = o.antisymm q x ∙ ap ordering_reverse (o.congr x y q e) ∙ sym (o.antisymm q y)
 

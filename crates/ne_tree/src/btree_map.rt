@@ -1,7 +1,7 @@
-//! Tree maps that hold at least one key, their walks, and what they implement.
+//! Tree maps that hold at least one key, their iterators, and the traits that they implement.
 //!
-//! An [`NEBTreeMap`] walks in ascending order of its keys. Look-ups go by `Ord` of the keys, and a
-//! key that is there stays as it is where an equal one is inserted.
+//! An [`NEBTreeMap`] iterates in ascending order of its keys. Keys are looked up by `Ord`. A key
+//! that is in the map stays as it is if an equal one is inserted.
 ghost use Rattle.std.specs.Prelude.{◌≡◌, ◌+◌, ◌<◌, ◌^◌, ◌++◌, [], ◌∷◌, List, None, Some, is_some};
 ghost use Rattle.std.specs.Prelude.{if◌then◌else◌, IfOk, IfSome, IsSome, MatchOption, OnErr, OnOk};
 ghost use Rattle.std.specs.BTreeMap.{btree_map_len, get, get_key, insert_entry, keys, values};
@@ -34,13 +34,14 @@ use std::marker::Model;
 use std::num::NonZeroUsize;
 pub use walks::{IntoIter, Iter, IterMut, Keys, Values};
 
-/// A tree map that holds at least one key, after std's [`BTreeMap`].
+/// A tree map that holds at least one key. It wraps std's [`BTreeMap`].
 ///
-/// A contract sees it as std's record of the map: `get K.cmp m k` is the value of the key `k`,
-/// `m.entries` are the pairs in ascending order of the keys, and `IsOrdered K.cmp m` says that they
-/// ascend.
+/// In contracts it is std's record of the map: `get K.cmp m k` is the value of the key `k`,
+/// `m.entries` is the list of the pairs in ascending order of the keys, and `IsOrdered K.cmp m`
+/// says that they are in that order.
 ///
-/// Equality, order and clones of keys and values are taken to be lawful where a clause says so.
+/// Equality, order and clones of keys and values are assumed to be lawful only where a clause says
+/// so.
 #[derive(Drop)]
 pub struct NEBTreeMap<K: Ord, V> {
     inner: BTreeMap<K, V>,
@@ -61,9 +62,9 @@ impl<K: Ord, V> Model for NEBTreeMap<K, V> {
 }
 
 impl<K: Ord, V> NEBTreeMap<K, V> {
-    /// The map of one key.
+    /// Creates a map that holds the key `k` with the value `v`.
     ///
-    /// `AllocError` where there is no memory for it; the pair is then dropped.
+    /// Returns `AllocError` if the allocation fails; the pair is then dropped.
     pub fn new(alloc: Global, k: K, v: V) -> Result<Self, AllocError>
     where
         K: Drop,
@@ -78,7 +79,8 @@ impl<K: Ord, V> NEBTreeMap<K, V> {
         Ok(NEBTreeMap { inner })
     }
 
-    /// The map as it is, or `None`, exactly where it is empty. It takes no memory.
+    /// Returns the map as a non-empty map, or `None` if and only if it is empty. The entries stay
+    /// as they are, and nothing is allocated.
     pub fn try_from_map(map: BTreeMap<K, V>) -> Option<Self>
     where
         K: Drop,
@@ -89,13 +91,13 @@ impl<K: Ord, V> NEBTreeMap<K, V> {
         if map.is_empty() {
             None
         } else {
-            // `len` says that the keys ascend.
+            // The contract of `len` says that the keys ascend.
             let _len = map.len();
             Some(NEBTreeMap { inner: map })
         }
     }
 
-    /// std's walk over the pairs, in ascending order of the keys.
+    /// Returns std's iterator over the pairs, in ascending order of the keys.
     pub fn iter(&self) -> btree_map::Iter<'_, K, V>
         ensures rest { result ≡ self.now.entries }
         ensures runs { ShowsInOrder (deref_pair {K = K} {X = V}) }
@@ -107,8 +109,8 @@ impl<K: Ord, V> NEBTreeMap<K, V> {
         self.inner.iter()
     }
 
-    /// std's walk over the pairs, in ascending order of the keys, with the values for writing. The
-    /// keys stay, and so does their number.
+    /// Returns std's iterator over the pairs with mutable references to the values, in ascending
+    /// order of the keys. The keys and their number do not change.
     pub fn iter_mut(&mut self) -> btree_map::IterMut<'_, K, V>
         ensures* writes_back { sem 𝓛 (LendsValues K.row V.row K.Ord self.entry result) }
         ensures keeps { KeepsKeys self.old 0 }
@@ -122,7 +124,7 @@ impl<K: Ord, V> NEBTreeMap<K, V> {
         walk(&mut self.inner)
     }
 
-    /// The walk over the pairs, in ascending order of the keys, that knows that there is one.
+    /// Returns a non-empty iterator over the pairs, in ascending order of the keys.
     pub fn nonempty_iter(&self) -> Iter<'_, K, V>
         ensures entries { result ≡ self.now.entries }
         ensures shows { KeyWalkShows (deref_pair {K = K} {X = V}) result self.now.entries }
@@ -134,7 +136,8 @@ impl<K: Ord, V> NEBTreeMap<K, V> {
         }
     }
 
-    /// The same, with the values for writing. The keys stay, and so does their number.
+    /// Returns a non-empty iterator over the pairs with mutable references to the values, in
+    /// ascending order of the keys. The keys and their number do not change.
     pub fn nonempty_iter_mut(&mut self) -> IterMut<'_, K, V>
         ensures* writes_back { sem 𝓛 (LendsValues K.row V.row K.Ord self.entry (std_walk result)) }
         ensures keeps { KeepsKeys self.old 0 }
@@ -150,7 +153,7 @@ impl<K: Ord, V> NEBTreeMap<K, V> {
         }
     }
 
-    /// The keys, ascending, at least one.
+    /// Returns a non-empty iterator over the keys, in ascending order.
     pub fn keys(&self) -> Keys<'_, K, V>
         ensures keys { result ≡ keys self.now }
         ensures shows { KeyWalkShows (deref {X = K}) result (keys self.now) }
@@ -164,7 +167,7 @@ impl<K: Ord, V> NEBTreeMap<K, V> {
         }
     }
 
-    /// How many keys there are, at least 1.
+    /// Returns the number of keys, which is at least 1.
     pub fn len(&self) -> NonZeroUsize
         ensures len { non_zero_usize_get result ≡ btree_map_len self.now }
         ensures ordered { IsOrdered K.cmp self.now }
@@ -176,7 +179,7 @@ impl<K: Ord, V> NEBTreeMap<K, V> {
         }
     }
 
-    /// The values, in ascending order of their keys, at least one.
+    /// Returns a non-empty iterator over the values, in ascending order of their keys.
     pub fn values(&self) -> Values<'_, K, V>
         ensures values { result ≡ values self.now }
         ensures shows { KeyWalkShows (deref {X = V}) result (values self.now) }
@@ -188,14 +191,14 @@ impl<K: Ord, V> NEBTreeMap<K, V> {
         }
     }
 
-    /// Whether there is an equal key.
+    /// Returns whether the map holds a key equal to `k`.
     pub fn contains_key(&self, k: &K) -> bool
         ensures { result ≡ is_some (get K.cmp self.now k.now) }
     {
         self.inner.contains_key(k)
     }
 
-    /// The value of the equal key, if there is one.
+    /// Returns the value of the key equal to `k`, or `None` if there is no such key.
     pub fn get(&self, k: &K) -> Option<&V>
         ensures value { option_copied result ≡ get K.cmp self.now k.now }
         ensures member { IfSome result (λ v. IsAmong (values self.now) v.now) }
@@ -203,7 +206,8 @@ impl<K: Ord, V> NEBTreeMap<K, V> {
         self.inner.get(k)
     }
 
-    /// The equal key and its value, if there is one: the key as it is in the map.
+    /// Returns the key equal to `k`, as it is in the map, and its value, or `None` if there is no
+    /// such key.
     pub fn get_key_value(&self, k: &K) -> Option<(&K, &V)>
         ensures key { option_map (λ p. p.0.now) result ≡ get_key K.cmp self.now k.now }
         ensures value { option_map (λ p. p.1.now) result ≡ get K.cmp self.now k.now }
@@ -211,8 +215,8 @@ impl<K: Ord, V> NEBTreeMap<K, V> {
         self.inner.get_key_value(k)
     }
 
-    /// The value of the equal key for writing, if there is one. The keys stay, and so do the other
-    /// values.
+    /// Returns a mutable reference to the value of the key equal to `k`, or `None` if there is no
+    /// such key. The keys and the other values do not change.
     pub fn get_mut(&mut self, k: &K) -> Option<&mut V>
         ensures* writes_back { sem 𝓛 (LendsValue K.row V.row K.Ord self.entry k.now result) }
         ensures value { option_copied_mut result ≡ get K.cmp self.old k.now }
@@ -222,11 +226,12 @@ impl<K: Ord, V> NEBTreeMap<K, V> {
         self.inner.get_mut(k)
     }
 
-    /// Puts a value at a key. Where an equal key is there, it stays, takes the value, and its old
-    /// one comes back; the key that was handed in is dropped.
+    /// Inserts a key and its value, and returns the old value of an equal key, or `None` if the key
+    /// is new. An equal key that is in the map stays there and takes the new value, and `k` is
+    /// dropped.
     ///
-    /// `AllocError` where the map has to grow, so only for a new key, and there is no memory for
-    /// it; the entries are then as they were, and the pair is dropped.
+    /// Returns `AllocError` if the map has to grow and the allocation fails. This can happen only
+    /// for a new key; the entries are then unchanged and the pair is dropped.
     pub fn insert(&mut self, k: K, v: V) -> Result<Option<V>, AllocError>
     where
         K: Drop,
@@ -246,11 +251,11 @@ impl<K: Ord, V> NEBTreeMap<K, V> {
         Ok(self.inner.insert(k, v)?)
     }
 
-    /// Inserts the pairs, in order: a key has the value of its last pair, and a key that is there
-    /// stays as it is.
+    /// Inserts the pairs, in order. Each key has the value of its last pair. A key that is already
+    /// in the map stays as it is.
     ///
-    /// `AllocError` where the map has to grow and there is no memory for it; the pairs before are
-    /// then in, and the one at which it was refused is dropped.
+    /// Returns `AllocError` if the map has to grow and the allocation fails. The pairs before the
+    /// one that failed are then in the map, and that one is dropped.
     pub fn extend<I: IntoIterator<Item = (K, V)>>(&mut self, iter: I) -> Result<(), AllocError>
     where
         K: Drop,
@@ -266,15 +271,17 @@ impl<K: Ord, V> NEBTreeMap<K, V> {
         ensures ordered { IsOrdered K.cmp self.new }
         ensures nonempty { 0 < btree_map_len self.new }
     {
-        // `len` says that the keys ascend, also where no pair comes.
+        // The contract of `len` says that the keys ascend, even if there are no pairs to insert.
         let _len = self.inner.len();
         self.inner.extend(iter)
     }
 
-    /// A map of clones, entry by entry: the same entries, where clones equal their originals.
+    /// Returns a map of clones, entry by entry. If clones equal their originals, it has the same
+    /// entries.
     ///
-    /// `AllocError` where there is no memory for it, or where a clone is refused; and, as std's map
-    /// has no law that a clone equals its original, where the clones of the keys do not ascend.
+    /// Returns `AllocError` if an allocation or a clone fails. No law says that a clone equals its
+    /// original; so this also returns `AllocError` if the clones of the keys are not in ascending
+    /// order.
     pub fn clone(&self) -> Result<Self, AllocError>
     where
         K: Clone,
@@ -284,13 +291,13 @@ impl<K: Ord, V> NEBTreeMap<K, V> {
         ensures nonempty { IfOk result (λ m. 0 < btree_map_len m) }
     {
         let inner = self.inner.clone()?;
-        // `len` says that the keys ascend.
+        // The contract of `len` says that the keys ascend.
         let _len = inner.len();
         Ok(NEBTreeMap { inner })
     }
 }
 
-// Lends the values of the map inside.
+// Lends the values of the inner map.
 fn walk<'a, K: Ord, V>(map: &'a mut BTreeMap<K, V>) -> btree_map::IterMut<'a, K, V>
     ensures* writes_back { sem 𝓛 (LendsValuesInside K.row V.row K.Ord map.entry result) }
     ensures keeps { KeepsKeys map.old 0 }

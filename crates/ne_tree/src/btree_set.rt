@@ -1,7 +1,7 @@
-//! Tree sets that hold at least one item, their walks, and what they implement.
+//! Tree sets that hold at least one item, their iterators, and the traits that they implement.
 //!
-//! An [`NEBTreeSet`] walks in ascending order of its items. Items count as the same by their `Ord`;
-//! of several equal ones the set holds one.
+//! An [`NEBTreeSet`] iterates in ascending order of its items. Items are compared by `Ord`. Of
+//! several equal items the set holds one.
 ghost use Rattle.std.specs.Prelude.{◌≡◌, ◌+◌, ◌<◌, ◌^◌, ◌↔◌, ◌++◌, [], ◌∷◌, true, false, not};
 ghost use Rattle.std.specs.Prelude.{if◌then◌else◌, is_some, length, IfOk, IsTrue, MatchOption};
 ghost use Rattle.std.specs.Prelude.{OnErr, OnOk};
@@ -32,11 +32,11 @@ use std::marker::Model;
 use std::num::NonZeroUsize;
 pub use walks::{IntoIter, Iter, Union};
 
-/// A tree set that holds at least one item, after std's [`BTreeSet`].
+/// A tree set that holds at least one item. It wraps std's [`BTreeSet`].
 ///
-/// A contract sees it as std's record of the set: `contains T.cmp s x` tells whether an item equal
-/// to `x` is there, `s.keys` are the items in ascending order, and `IsOrdered T.cmp s` says that
-/// they ascend.
+/// In contracts it is std's record of the set: `contains T.cmp s x` says whether an item equal to
+/// `x` is in the set, `s.keys` is the list of the items in ascending order, and `IsOrdered T.cmp s`
+/// says that they are in that order.
 #[derive(Drop)]
 pub struct NEBTreeSet<T: Ord> {
     inner: BTreeSet<T>,
@@ -57,9 +57,9 @@ impl<T: Ord> Model for NEBTreeSet<T> {
 }
 
 impl<T: Ord> NEBTreeSet<T> {
-    /// The set of one item.
+    /// Creates a set that holds the item `value`.
     ///
-    /// `AllocError` where there is no memory for it; the item is then dropped.
+    /// Returns `AllocError` if the allocation fails; the item is then dropped.
     pub fn new(alloc: Global, value: T) -> Result<Self, AllocError>
     where
         T: Drop,
@@ -73,7 +73,7 @@ impl<T: Ord> NEBTreeSet<T> {
         Ok(NEBTreeSet { inner })
     }
 
-    /// std's walk over the items, ascending.
+    /// Returns std's iterator over the items, in ascending order.
     pub fn iter(&self) -> btree_set::Iter<'_, T>
         ensures rest { result ≡ self.now.keys }
         ensures runs { ShowsInOrder (deref {X = T}) }
@@ -84,7 +84,7 @@ impl<T: Ord> NEBTreeSet<T> {
         self.inner.iter()
     }
 
-    /// The walk over the items, ascending, that knows that there is one.
+    /// Returns a non-empty iterator over the items, in ascending order.
     pub fn nonempty_iter(&self) -> Iter<'_, T>
         ensures keys { result ≡ self.now.keys }
         ensures shows { KeyWalkShows (deref {X = T}) result self.now.keys }
@@ -96,7 +96,7 @@ impl<T: Ord> NEBTreeSet<T> {
         }
     }
 
-    /// How many items there are, at least 1.
+    /// Returns the number of items, which is at least 1.
     pub fn len(&self) -> NonZeroUsize
         ensures len { non_zero_usize_get result ≡ btree_set_len self.now }
         ensures ordered { IsOrdered T.cmp self.now }
@@ -108,7 +108,8 @@ impl<T: Ord> NEBTreeSet<T> {
         }
     }
 
-    /// The set as it is, or `None`, exactly where it is empty. It takes no memory.
+    /// Returns the set as a non-empty set, or `None` if and only if it is empty. The items stay as
+    /// they are, and nothing is allocated.
     pub fn try_from_set(set: BTreeSet<T>) -> Option<Self>
     where
         T: Drop,
@@ -118,20 +119,21 @@ impl<T: Ord> NEBTreeSet<T> {
         if set.is_empty() {
             None
         } else {
-            // `len` says that the items ascend.
+            // The contract of `len` says that the items ascend.
             let _len = set.len();
             Some(NEBTreeSet { inner: set })
         }
     }
 
-    /// Whether there is an equal item.
+    /// Returns whether the set holds an item equal to `value`.
     pub fn contains(&self, value: &T) -> bool
         ensures { result ≡ contains T.cmp self.now value.now }
     {
         self.inner.contains(value)
     }
 
-    /// The items that are not in `other`, ascending. There may be none, so this is std's iterator.
+    /// Returns an iterator over the items that are not in `other`, in ascending order. There may be
+    /// none, so this is std's iterator.
     pub fn difference<'a>(&'a self, other: &'a NEBTreeSet<T>) -> btree_set::Difference<'a, T>
         ensures items { result ≡ difference T.cmp self.now other.now }
         ensures members { IsDifference T.cmp self.now other.now result }
@@ -142,7 +144,7 @@ impl<T: Ord> NEBTreeSet<T> {
         self.inner.difference(&other.inner)
     }
 
-    /// The equal item, as it is in the set, if there is one.
+    /// Returns the item equal to `value`, as it is in the set, or `None` if there is no such item.
     pub fn get(&self, value: &T) -> Option<&T>
         ensures item { option_copied result ≡ get T.cmp self.now value.now }
         ensures found { is_some result ≡ contains T.cmp self.now value.now }
@@ -150,11 +152,11 @@ impl<T: Ord> NEBTreeSet<T> {
         self.inner.get(value)
     }
 
-    /// Puts an item in, and answers whether it is new. Where an equal one is there, that one stays,
-    /// and the one that was handed in is dropped.
+    /// Inserts an item, and returns whether it is new. An equal item that is in the set stays
+    /// there, and `value` is dropped.
     ///
-    /// `AllocError` where the set has to grow, so only for a new item, and there is no memory for
-    /// it; the items are then as they were, and the new one is dropped.
+    /// Returns `AllocError` if the set has to grow and the allocation fails. This can happen only
+    /// for a new item; the items are then unchanged and the new one is dropped.
     pub fn insert(&mut self, value: T) -> Result<bool, AllocError>
     where
         T: Drop,
@@ -172,7 +174,8 @@ impl<T: Ord> NEBTreeSet<T> {
         Ok(self.inner.insert(value)?)
     }
 
-    /// The items that are in `other` too, ascending. There may be none, so this is std's iterator.
+    /// Returns an iterator over the items that are also in `other`, in ascending order. There may
+    /// be none, so this is std's iterator.
     pub fn intersection<'a>(&'a self, other: &'a NEBTreeSet<T>) -> btree_set::Intersection<'a, T>
         ensures items { result ≡ intersection T.cmp self.now other.now }
         ensures members { IsIntersection T.cmp self.now other.now result }
@@ -183,31 +186,32 @@ impl<T: Ord> NEBTreeSet<T> {
         self.inner.intersection(&other.inner)
     }
 
-    /// Whether no item is in both sets.
+    /// Returns whether no item is in both sets.
     pub fn is_disjoint(&self, other: &NEBTreeSet<T>) -> bool
         ensures { IsTrue result ↔ IsDisjoint T.cmp self.now other.now }
     {
         self.inner.is_disjoint(&other.inner)
     }
 
-    /// Whether all items are in `other`.
+    /// Returns whether every item of this set is in `other`.
     pub fn is_subset(&self, other: &NEBTreeSet<T>) -> bool
         ensures { IsTrue result ↔ IsSubset T.cmp self.now other.now }
     {
         self.inner.is_subset(&other.inner)
     }
 
-    /// Whether all items of `other` are in this set.
+    /// Returns whether every item of `other` is in this set.
     pub fn is_superset(&self, other: &NEBTreeSet<T>) -> bool
         ensures { IsTrue result ↔ IsSubset T.cmp other.now self.now }
     {
         self.inner.is_superset(&other.inner)
     }
 
-    /// Puts an item in, in the place of an equal one, which comes back.
+    /// Inserts an item in place of an equal one, and returns the replaced item, or `None` if the
+    /// item is new.
     ///
-    /// `AllocError` where the set has to grow, so only for a new item, and there is no memory for
-    /// it; the items are then as they were, and the new one is dropped.
+    /// Returns `AllocError` if the set has to grow and the allocation fails. This can happen only
+    /// for a new item; the items are then unchanged and the new one is dropped.
     pub fn replace(&mut self, value: T) -> Result<Option<T>, AllocError>
     where
         T: Drop,
@@ -224,8 +228,8 @@ impl<T: Ord> NEBTreeSet<T> {
         Ok(self.inner.replace(value)?)
     }
 
-    /// The items of both sets, each once, ascending: at least one. Of two equal items this set's
-    /// comes.
+    /// Returns a non-empty iterator over the items of both sets, each once, in ascending order. Of
+    /// two equal items it returns this set's.
     pub fn union<'a>(&'a self, other: &'a NEBTreeSet<T>) -> Union<'a, T>
         ensures items { result ≡ union T.cmp self.now other.now }
         ensures members { IsUnion T.cmp self.now other.now result }
@@ -238,10 +242,10 @@ impl<T: Ord> NEBTreeSet<T> {
         }
     }
 
-    /// Inserts the items, in order. One that is there stays as it is.
+    /// Inserts the items, in order. An item that is already in the set stays as it is.
     ///
-    /// `AllocError` where the set has to grow and there is no memory for it; the items before are
-    /// then in, and the one at which it was refused is dropped.
+    /// Returns `AllocError` if the set has to grow and the allocation fails. The items before the
+    /// one that failed are then in the set, and that one is dropped.
     pub fn extend<I: IntoIterator<Item = T>>(&mut self, iter: I) -> Result<(), AllocError>
     where
         T: Drop,
@@ -256,15 +260,16 @@ impl<T: Ord> NEBTreeSet<T> {
         ensures ordered { IsOrdered T.cmp self.new }
         ensures nonempty { 0 < btree_set_len self.new }
     {
-        // `len` says that the items ascend, also where no item comes.
+        // The contract of `len` says that the items ascend, even if there are no items to insert.
         let _len = self.inner.len();
         self.inner.extend(iter)
     }
 
-    /// A set of clones, item by item: the same items, where clones equal their originals.
+    /// Returns a set of clones, item by item. If clones equal their originals, it has the same
+    /// items.
     ///
-    /// `AllocError` where there is no memory for it, or where a clone is refused; and, as std's set
-    /// has no law that a clone equals its original, where the clones do not ascend.
+    /// Returns `AllocError` if an allocation or a clone fails. No law says that a clone equals its
+    /// original; so this also returns `AllocError` if the clones are not in ascending order.
     pub fn clone(&self) -> Result<Self, AllocError>
     where
         T: Clone,
@@ -273,7 +278,7 @@ impl<T: Ord> NEBTreeSet<T> {
         ensures nonempty { IfOk result (λ s. 0 < btree_set_len s) }
     {
         let inner = self.inner.clone()?;
-        // `len` says that the items ascend.
+        // The contract of `len` says that the items ascend.
         let _len = inner.len();
         Ok(NEBTreeSet { inner })
     }

@@ -1,5 +1,5 @@
-//! The laws of tree maps and sets. Each is the contract of a function that does nothing: a caller
-//! calls it, and then knows what it ensures.
+//! Laws of tree maps and sets. Each law is the contract of a function that does nothing. A caller
+//! calls the function to use what it ensures.
 ghost use Rattle.std.specs.Prelude.{◌≡◌, ◌↔◌, true, List, Ok, Result};
 ghost use Rattle.std.specs.BTreeMap.{BTreeMap as Entries, get};
 ghost use Rattle.std.specs.BTreeSet.{BTreeSet as Keys, IsSameSet};
@@ -10,7 +10,8 @@ use crate::{NEBTreeMap, NEBTreeSet};
 use ne_iter::{FromNonEmptyIterator, Singleton};
 use std::collections::{BTreeMap, BTreeSet};
 
-/// A map that was handed out as std's and comes back is the same map, and is never refused.
+/// A map that is converted into std's map and back is the same map, and the conversion back never
+/// fails.
 pub fn maps_come_back<K: Ord + Drop, V: Drop>()
     ensures { (m inner : Entries K V) (r : Result (Entries K V) Error)
         → ⟦<BTreeMap<K, V> as From<NEBTreeMap<K, V>>>⟧.from_gives m inner
@@ -18,7 +19,8 @@ pub fn maps_come_back<K: Ord + Drop, V: Drop>()
         → r ≡ Ok m }
 {}
 
-/// A set that was handed out as std's and comes back is the same set, and is never refused.
+/// A set that is converted into std's set and back is the same set, and the conversion back never
+/// fails.
 pub fn sets_come_back<T: Ord + Drop>()
     ensures { (s inner : Keys T) (r : Result (Keys T) Error)
         → ⟦<BTreeSet<T> as From<NEBTreeSet<T>>>⟧.from_gives s inner
@@ -26,20 +28,19 @@ pub fn sets_come_back<T: Ord + Drop>()
         → r ≡ Ok s }
 {}
 
-/// Equality of maps, as `==` tells it, is symmetric and transitive, whatever that of their values
-/// is.
+/// Equality of maps by `==` is symmetric and transitive for all values that implement `PartialEq`.
 pub fn map_equality_is_symmetric_and_transitive<K: Ord, V: PartialEq>()
     ensures symmetric { (m n : Entries K V) → IsSameMap K.cmp V.eq m n → IsSameMap K.cmp V.eq n m }
     ensures transitive { (m n o : Entries K V) → IsSameMap K.cmp V.eq m n
         → IsSameMap K.cmp V.eq n o → IsSameMap K.cmp V.eq m o }
 {}
 
-/// Where each value equals itself, so does each map.
+/// If each value equals itself, so does each map.
 pub fn map_equality_is_reflexive<K: Ord, V: Eq>()
     ensures { (m : Entries K V) → IsSameMap K.cmp V.eq m m }
 {}
 
-/// Equality of sets, as `==` tells it, is reflexive, symmetric and transitive.
+/// Equality of sets by `==` is reflexive, symmetric and transitive.
 pub fn set_equality_is_an_equivalence<T: Ord>()
     ensures reflexive { (s : Keys T) → IsSameSet T.cmp s s }
     ensures symmetric { (s t : Keys T) → IsSameSet T.cmp s t → IsSameSet T.cmp t s }
@@ -47,8 +48,8 @@ pub fn set_equality_is_an_equivalence<T: Ord>()
         → IsSameSet T.cmp s u }
 {}
 
-/// What pairs make one by one, by `singleton` and then `extend_one`, is what they make where they
-/// are collected; and two maps that the same pairs make have the same value at each key.
+/// Pairs that are added one by one, by `singleton` and then `extend_one`, make what they make when
+/// they are collected. Two maps made from the same pairs have the same value at each key.
 pub fn maps_one_by_one_are_collected<K: Ord + Drop, V: Drop>()
     ensures same_word { (pairs : List (K × V)) (m : Entries K V)
         → ⟦<NEBTreeMap<K, V> as Singleton>⟧.collected pairs m
@@ -59,8 +60,8 @@ pub fn maps_one_by_one_are_collected<K: Ord + Drop, V: Drop>()
         → (q : K) → get K.cmp m q ≡ get K.cmp n q }
 {}
 
-/// What items make one by one, by `singleton` and then `extend_one`, is what they make where they
-/// are collected; and two sets that the same items make are the same set.
+/// Items that are added one by one, by `singleton` and then `extend_one`, make what they make when
+/// they are collected. Two sets made from the same items are the same set.
 pub fn sets_one_by_one_are_collected<T: Ord + Drop>()
     ensures same_word { (items : List T) (s : Keys T)
         → ⟦<NEBTreeSet<T> as Singleton>⟧.collected items s

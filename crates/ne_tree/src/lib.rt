@@ -1,11 +1,12 @@
 //! Tree maps and sets that hold at least one item.
 //!
-//! This is a part of the port of `nonempty-collections`: its modules and the items in them have the
-//! Rust crate's names. The maps and sets are std's `BTreeMap` and `BTreeSet`, and walk in ascending
-//! order of their keys.
+//! This crate is a part of the port of `nonempty-collections`. Its modules and items have the names
+//! of the Rust crate. The maps and sets are std's `BTreeMap` and `BTreeSet`, and iterate in
+//! ascending order of their keys.
 //!
-//! A contract sees an [`NEBTreeMap`] as std's own record of the map, and an [`NEBTreeSet`] as std's
-//! of the set, so that std's words on them serve. That there is an item is the types' invariant.
+//! In contracts, an [`NEBTreeMap`] is std's record of a map and an [`NEBTreeSet`] is std's record
+//! of a set, so std's definitions for them apply. The invariant of both types is that there is at
+//! least one item.
 #![tactic(auto)]
 
 pub mod btree_map;

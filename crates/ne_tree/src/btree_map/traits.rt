@@ -1,4 +1,4 @@
-//! What an [`NEBTreeMap`] implements: conversions, clones, equality as a map, collecting, printing.
+//! The traits of an [`NEBTreeMap`]: conversions, clones, equality as a map, collecting, printing.
 ghost use Rattle.std.specs.Prelude.{◌≡◌, ◌<◌, ◌↔◌, ◌++◌, ◌&&◌, IsTrue, MatchResult};
 ghost use Rattle.std.specs.BTreeMap.{IsEmpty, IsOrdered, btree_map_len};
 ghost use Rattle.std.specs.Cmp.{and_equiv, and_per, on_equiv, on_per};
@@ -14,20 +14,22 @@ use std::collections::BTreeMap;
 use std::fmt;
 use std::fmt::Debug;
 
-/// To read what only a `BTreeMap` has. It cannot be written through.
+/// Returns the inner `BTreeMap`, for the methods that only a `BTreeMap` has. The map cannot be
+/// changed through it.
 impl<K: Ord, V> AsRef<BTreeMap<K, V>> for NEBTreeMap<K, V> {
     fn as_ref(&self) -> &BTreeMap<K, V>
         ensures same { result.now ≡ self.now }
         ensures ordered { IsOrdered K.cmp self.now }
         ensures nonempty { 0 < btree_map_len self.now }
     {
-        // `len` says that the keys ascend.
+        // The contract of `len` says that the keys ascend.
         let _len = self.inner.len();
         &self.inner
     }
 }
 
-/// Equality of maps: each key is in both or in neither, and then with equal values.
+/// Compares maps: they are equal if each key is in both or in neither, and has equal values if it
+/// is in both.
 impl<K: Ord, V: PartialEq> PartialEq for NEBTreeMap<K, V> {
     ghost eq = { λ m n. pointwise (λ p q. K.eq p.0 q.0 && V.eq p.1 q.1) m.entries n.entries };
 
@@ -39,7 +41,7 @@ impl<K: Ord, V: PartialEq> PartialEq for NEBTreeMap<K, V> {
             other.now.entries }
         ensures same_map { IsTrue result ↔ IsSameMap K.cmp V.eq self.now other.now }
     {
-        // `len` says that the keys ascend.
+        // The contract of `len` says that the keys ascend.
         let _lens = (self.inner.len(), other.inner.len());
         self.inner == other.inner
     }
@@ -50,7 +52,7 @@ impl<K: Ord, V: Eq> Eq for NEBTreeMap<K, V> {
         (and_equiv (on_equiv (λ p. p.0) K.Eq.laws) (on_equiv (λ p. p.1) V.Eq.laws))) };
 }
 
-/// The map as it is, without the promise.
+/// Returns the inner `BTreeMap` unchanged. Its type no longer guarantees a key.
 impl<K: Ord, V> From<NEBTreeMap<K, V>> for BTreeMap<K, V> {
     ghost from_gives = { λ m n. (n ≡ m) × (0 < btree_map_len n) };
 
@@ -60,8 +62,8 @@ impl<K: Ord, V> From<NEBTreeMap<K, V>> for BTreeMap<K, V> {
     }
 }
 
-/// The map as `try_from_map` has it, or `Error::Empty`, exactly where `map` is empty. It takes no
-/// memory; in the Rust crate the pairs are collected anew.
+/// Converts a map as `try_from_map` does, and returns `Error::Empty` if and only if `map` is empty.
+/// It does not allocate; the Rust crate collects the pairs into a new map.
 impl<K: Ord + Drop, V: Drop> TryFrom<BTreeMap<K, V>> for NEBTreeMap<K, V> {
     ghost use Rattle.std.specs.Prelude.{Result};
 
@@ -77,7 +79,7 @@ impl<K: Ord + Drop, V: Drop> TryFrom<BTreeMap<K, V>> for NEBTreeMap<K, V> {
     }
 }
 
-/// By the inherent call `clone`.
+/// Calls the inherent method `clone`.
 impl<K: Ord + Clone, V: Clone> Clone for NEBTreeMap<K, V> {
     ghost is_clone = { IsCloneOfMap K.is_clone V.is_clone };
 
@@ -86,7 +88,8 @@ impl<K: Ord + Clone, V: Clone> Clone for NEBTreeMap<K, V> {
     }
 }
 
-/// Each key once, with the value of the last pair that has it; the keys ascend.
+/// Collects pairs into a map that holds each key once, with the value of its last pair. The keys
+/// are in ascending order.
 impl<K: Ord + Drop, V: Drop> FromNonEmptyIterator<(K, V)> for NEBTreeMap<K, V> {
     ghost use Rattle.std.specs.Prelude.{◌<◌, length};
 
@@ -109,7 +112,7 @@ impl<K: Ord + Debug, V: Debug> Debug for NEBTreeMap<K, V> {
     }
 }
 
-/// One pair, and then further ones by `insert`.
+/// Starts with one pair, and adds each further pair by `insert`.
 impl<K: Ord + Drop, V: Drop> Singleton for NEBTreeMap<K, V> {
     ghost use Rattle.std.specs.Prelude.{◌<◌, length};
 
@@ -130,7 +133,7 @@ impl<K: Ord + Drop, V: Drop> Singleton for NEBTreeMap<K, V> {
     }
 }
 
-/// By the inherent call `extend`.
+/// Calls the inherent method `extend`.
 impl<K: Ord + Drop, V: Drop> Extend<(K, V)> for NEBTreeMap<K, V> {
     ghost extend_gives = { λ m pairs n. IsMapOf K.eq (m.entries ++ pairs) n.entries
         × IsOrdered K.cmp n × (0 < btree_map_len n) };

@@ -1,5 +1,5 @@
-//! The walks over an [`NEBTreeMap`], which know that there is a pair, and how a map and they become
-//! std's.
+//! The non-empty iterators over an [`NEBTreeMap`], and how a map and these iterators are turned
+//! into std's iterators.
 ghost use Rattle.std.specs.Prelude.{◌≡◌, ◌<◌, ◌^◌, length};
 ghost use Rattle.std.specs.BTreeMap.{IsOrdered, btree_map_len};
 ghost use Rattle.std.specs.BTreeMap.IterMut.{iter_mut_rest, IterMutCanStep};
@@ -121,8 +121,8 @@ impl<'a, K: Ord, V> IntoIterator for &'a mut NEBTreeMap<K, V> {
     }
 }
 
-/// A walk over the pairs of an [`NEBTreeMap`], in ascending order of the keys, at least one. A
-/// contract sees it as their list.
+/// A non-empty iterator over the pairs of an [`NEBTreeMap`], in ascending order of the keys. In
+/// contracts it is the list of the pairs.
 #[derive(Drop)]
 pub struct Iter<'a, K, V> {
     pub(super) inner: btree_map::Iter<'a, K, V>,
@@ -159,7 +159,8 @@ impl<'a, K, V> IntoIterator for Iter<'a, K, V> {
     }
 }
 
-/// The same, with the values for writing. A contract sees std's walk in it, by `std_walk`.
+/// A non-empty iterator over the pairs of an [`NEBTreeMap`], in ascending order of the keys, with
+/// mutable references to the values. In contracts, `std_walk` is the std iterator that it holds.
 #[derive(Drop)]
 pub struct IterMut<'a, K, V> {
     pub(super) inner: btree_map::IterMut<'a, K, V>,
@@ -187,8 +188,8 @@ impl<'a, K, V> IntoIterator for IterMut<'a, K, V> {
     }
 }
 
-/// The pairs of an [`NEBTreeMap`], in ascending order of the keys, at least one, by value. A
-/// contract sees it as the map.
+/// A non-empty iterator over the pairs of an [`NEBTreeMap`] by value, in ascending order of the
+/// keys. In contracts it is the map.
 #[derive(Drop)]
 pub struct IntoIter<K: Ord, V> {
     inner: NEBTreeMap<K, V>,
@@ -223,7 +224,8 @@ impl<K: Ord + Drop, V: Drop> IntoIterator for IntoIter<K, V> {
     }
 }
 
-/// The keys of an [`NEBTreeMap`], ascending, at least one. A contract sees it as their list.
+/// A non-empty iterator over the keys of an [`NEBTreeMap`], in ascending order. In contracts it is
+/// the list of the keys.
 #[derive(Drop)]
 pub struct Keys<'a, K, V> {
     pub(super) inner: btree_map::Keys<'a, K, V>,
@@ -260,8 +262,8 @@ impl<'a, K, V> IntoIterator for Keys<'a, K, V> {
     }
 }
 
-/// The values of an [`NEBTreeMap`], in ascending order of their keys, at least one. A contract sees
-/// it as their list.
+/// A non-empty iterator over the values of an [`NEBTreeMap`], in ascending order of their keys. In
+/// contracts it is the list of the values.
 #[derive(Drop)]
 pub struct Values<'a, K, V> {
     pub(super) inner: btree_map::Values<'a, K, V>,

@@ -1,4 +1,4 @@
-//! What an [`NEBTreeSet`] implements: conversions, clones, equality as a set, collecting, printing.
+//! The traits of an [`NEBTreeSet`]: conversions, clones, equality as a set, collecting, printing.
 ghost use Rattle.std.specs.Prelude.{◌≡◌, ◌<◌, ◌↔◌, ◌++◌, IsTrue, MatchResult};
 ghost use Rattle.std.specs.BTreeSet.{IsEmpty, IsOrdered, IsSameSet, btree_set_len};
 ghost use Rattle.std.specs.Cmp.{on_equiv, on_per};
@@ -13,21 +13,22 @@ use std::collections::{BTreeSet, btree_set};
 use std::fmt;
 use std::fmt::Debug;
 
-/// To read what only a `BTreeSet` has. It cannot be written through.
+/// Returns the inner `BTreeSet`, for the methods that only a `BTreeSet` has. The set cannot be
+/// changed through it.
 impl<T: Ord> AsRef<BTreeSet<T>> for NEBTreeSet<T> {
     fn as_ref(&self) -> &BTreeSet<T>
         ensures same { result.now ≡ self.now }
         ensures ordered { IsOrdered T.cmp self.now }
         ensures nonempty { 0 < btree_set_len self.now }
     {
-        // `len` says that the items ascend.
+        // The contract of `len` says that the items ascend.
         let _len = self.inner.len();
         &self.inner
     }
 }
 
-/// Equality of sets: each item of one is in the other. Both are walked once, side by side, as far
-/// as they are equal; no memory is taken.
+/// Compares sets: they are equal if each item of one is in the other. It iterates over both sets
+/// once, side by side, up to the first difference, and does not allocate.
 impl<T: Ord> PartialEq for NEBTreeSet<T> {
     ghost eq = { λ s t. pointwise T.eq s.keys t.keys };
 
@@ -41,7 +42,7 @@ impl<T: Ord> PartialEq for NEBTreeSet<T> {
     }
 }
 
-// Whether they have equal items at all places, and end together.
+// Returns whether the two iterators have equal items at each place and end together.
 fn equal_walks<'a, T: Ord>(mine: btree_set::Iter<'a, T>, theirs: btree_set::Iter<'a, T>) -> bool
     ensures { result ≡ pointwise T.eq mine.entry theirs.entry }
 {
@@ -62,7 +63,7 @@ impl<T: Ord> Eq for NEBTreeSet<T> {
     ghost laws = { on_equiv (λ s. s.keys) (lists_equiv T.Eq.laws) };
 }
 
-/// Each item once; the items ascend.
+/// Collects items into a set that holds each of them once. The items are in ascending order.
 impl<T: Ord + Drop> FromNonEmptyIterator<T> for NEBTreeSet<T> {
     ghost use Rattle.std.specs.Prelude.{◌<◌, length};
 
@@ -77,7 +78,7 @@ impl<T: Ord + Drop> FromNonEmptyIterator<T> for NEBTreeSet<T> {
     }
 }
 
-/// The set as it is, without the promise.
+/// Returns the inner `BTreeSet` unchanged. Its type no longer guarantees an item.
 impl<T: Ord> From<NEBTreeSet<T>> for BTreeSet<T> {
     ghost from_gives = { λ s t. (t ≡ s) × (0 < btree_set_len t) };
 
@@ -94,8 +95,8 @@ impl<T: Ord + Debug> Debug for NEBTreeSet<T> {
     }
 }
 
-/// The set as `try_from_set` has it, or `Error::Empty`, exactly where `set` is empty. It takes no
-/// memory; in the Rust crate the items are collected anew.
+/// Converts a set as `try_from_set` does, and returns `Error::Empty` if and only if `set` is empty.
+/// It does not allocate; the Rust crate collects the items into a new set.
 impl<T: Ord + Drop> TryFrom<BTreeSet<T>> for NEBTreeSet<T> {
     ghost use Rattle.std.specs.Prelude.{Result};
 
@@ -111,7 +112,7 @@ impl<T: Ord + Drop> TryFrom<BTreeSet<T>> for NEBTreeSet<T> {
     }
 }
 
-/// By the inherent call `clone`.
+/// Calls the inherent method `clone`.
 impl<T: Ord + Clone> Clone for NEBTreeSet<T> {
     ghost is_clone = { IsCloneOfSet T.is_clone };
 
@@ -120,7 +121,7 @@ impl<T: Ord + Clone> Clone for NEBTreeSet<T> {
     }
 }
 
-/// One item, and then further ones by `insert`.
+/// Starts with one item, and adds each further item by `insert`.
 impl<T: Ord + Drop> Singleton for NEBTreeSet<T> {
     ghost use Rattle.std.specs.Prelude.{◌<◌, length};
 
@@ -138,7 +139,7 @@ impl<T: Ord + Drop> Singleton for NEBTreeSet<T> {
     }
 }
 
-/// By the inherent call `extend`.
+/// Calls the inherent method `extend`.
 impl<T: Ord + Drop> Extend<T> for NEBTreeSet<T> {
     ghost extend_gives = { λ s items t. IsSetOf T.eq (s.keys ++ items) t.keys
         × IsOrdered T.cmp t × (0 < btree_set_len t) };

@@ -1,5 +1,5 @@
-//! The walks over an [`NEBTreeSet`] and over a union, which know that there is an item, and how a
-//! set and they become std's.
+//! The non-empty iterators over an [`NEBTreeSet`] and over a union, and how a set and these
+//! iterators are turned into std's iterators.
 ghost use Rattle.std.specs.BTreeSet.{IsOrdered};
 ghost use Rattle.std.specs.Map.Iter.{deref};
 ghost use Rattle.ne_iter.specs.KeyWalks.{KeysWalk, KeysWalkOut};
@@ -94,8 +94,8 @@ impl<'a, T: Ord> IntoIterator for &'a NEBTreeSet<T> {
     }
 }
 
-/// A walk over the items of an [`NEBTreeSet`], ascending, at least one. A contract sees it as their
-/// list.
+/// A non-empty iterator over the items of an [`NEBTreeSet`], in ascending order. In contracts it is
+/// the list of the items.
 #[derive(Drop)]
 pub struct Iter<'a, T> {
     pub(super) inner: btree_set::Iter<'a, T>,
@@ -132,8 +132,8 @@ impl<'a, T> NonEmptyIterator for Iter<'a, T> {
     ghost not_empty = { λ xs it made. HasFirst-shown deref xs it made.0 made.1 };
 }
 
-/// The items of an [`NEBTreeSet`], ascending, at least one, by value. A contract sees it as the
-/// set.
+/// A non-empty iterator over the items of an [`NEBTreeSet`] by value, in ascending order. In
+/// contracts it is the set.
 #[derive(Drop)]
 pub struct IntoIter<T: Ord> {
     inner: NEBTreeSet<T>,
@@ -168,7 +168,8 @@ impl<T: Ord + Drop> NonEmptyIterator for IntoIter<T> {
     ghost not_empty = { λ s it made. HasFirst-shown (λ x. x) s.keys it made.0.0 made.0.1 };
 }
 
-/// The items of two sets, each once, ascending, at least one. A contract sees it as their list.
+/// A non-empty iterator over the items of two sets, each once, in ascending order. In contracts it
+/// is the list of the items.
 #[derive(Drop)]
 pub struct Union<'a, T: Ord> {
     pub(super) inner: btree_set::Union<'a, T>,

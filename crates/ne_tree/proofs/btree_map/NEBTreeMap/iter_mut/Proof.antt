@@ -1,5 +1,6 @@
--- `iter_mut` lends the map inside for the whole borrow. The map stays open over the call, and is
--- closed at what the walk's clause says of the map inside, which has as many keys.
+-- `iter_mut` lends the inner map for the whole borrow. The outer map stays open during the call. It
+-- is closed with what the clause of `walk` says about the inner map, which has the same number of
+-- keys.
 use mathlib.Core.Path.{◌≡◌, refl, sym, subst}
 use Prim.Native.Nat.{ℕ, ◌+◌}
 use mathlib.Core.List.{List, [], ◌∷◌}
@@ -127,7 +128,7 @@ iter_mut_spec 𝓤 𝓛 𝓜 𝓡 wired K V LK LV o₀ d₀ o₁ d₁ o₂ d₂ 
       tt,
     ) b o 0) $ split ! $
     rewrite ! 0 (λ (m : F.Denot). ‵ (part_at F full_share m b fo)) x.1.0 refl $
-    -- [the map inside; Back; the open borrow; obs; auth; left token; other tokens]
+    -- [the inner map; Back; the open borrow; obs; auth; left token; other tokens]
     name_new ! tt (F.coded.code d) (λ δ. move ! (2 ∷ 1 ∷ []) $ fjoin ! $
     fpack ! F.Denot (λ m. fsep ((mem F).own_at m b fo) (fauth δ (F.coded.code m))) d $
     move ! (3 ∷ []) $ ages ! (λ n. move ! (1 ∷ []) $ bor_new_deep ! tt n κ $
@@ -135,7 +136,7 @@ iter_mut_spec 𝓤 𝓛 𝓜 𝓡 wired K V LK LV o₀ d₀ o₁ d₁ o₂ d₂ 
     -- tokens]
     sets ! (addr ! (through ! refl (fld ! refl (stop !)))) refl (tt, tt) $
     move ! (3 ∷ 0 ∷ []) $ feq_i ! (List Val) (vptr b fo ∷ []) (vptr b fo ∷ []) refl $ fjoin3 ! $
-    -- [the reference to the map inside; what the lender keeps; aged; Back; obs; auth; left token;
+    -- [the reference to the inner map; what the lender keeps; aged; Back; obs; auth; left token;
     -- other tokens]
     let ka : MutBor F.Denot = record { ref_ptr = (b, fo); ghost_name = δ; now = d } in
     let z : G.Ghost = ((κs, (Share.left q, qs.1), bounds, (ka, tt), (vptr b fo ∷ [], tt)), tt) in
@@ -165,7 +166,7 @@ iter_mut_spec 𝓤 𝓛 𝓜 𝓡 wired K V LK LV o₀ d₀ o₁ d₁ o₂ d₂ 
     heard ! _ (λ ready. split ! $
     heard ! _ (λ rest. split ! $
     heard ! _ (λ ordered. split ! $ heard ! _ (λ fits. heard ! _ (λ run.
-    -- [what follows; the tokens; the walk; what the lender keeps; aged; Back; obs; auth]
+    -- [what follows; the tokens; the iterator; what the lender keeps; aged; Back; obs; auth]
     let put : F.Denot → F.Denot = λ w. with_values d 0 (values w) in
     let many : 0 < btree_map_len d = subst (λ (m : F.Denot). 0 < btree_map_len m) x.1.0 x.1.1 in
     let good : (w : F.Denot)
@@ -193,15 +194,15 @@ iter_mut_spec 𝓤 𝓛 𝓜 𝓡 wired K V LK LV o₀ d₀ o₁ d₁ o₂ d₂ 
     (f.K-Ord-whole K V o₀ d₀ o₁ d₁ o₂ d₂ o₃ d₃) a.0 it)))
     (closes_following 𝓛 (mem R) (mem F) (mem F) put put κ (Share.right q) b o b fo a.0.ghost_name δ
     (iter_mut_name it) Back back n (R.coded.code d) (R.coded.code d)) $ await ! tt $ split ! $
-    -- [the right token; what follows; the left tokens; the walk]
+    -- [the right token; what follows; the left tokens; the iterator]
     move ! (2 ∷ []) $ split ! $ move ! (0 ∷ 2 ∷ []) $ use2 𝓛 (‵ (flft κ q)) (𝓛.lfts.lft_join κ q) $
-    -- [the token; the other tokens; what follows; the walk]
+    -- [the token; the other tokens; what follows; the iterator]
     move ! (3 ∷ []) $ peeks ! It _ (shows 𝓛 It) it (v ∷ []) (λ is.
     lands_as ! refl refl
     (((iter_laws.the_row_laws (named_lft 3 0 tt κs) (param 0 K) (param 1 V) (param_laws 0 K LK)
     (param_laws 1 V LV)).lawful 𝓛).typed it (v ∷ []) is).0 $
     returns ! (look_at ! 0 refl) $ free_all ! refl $
-    -- [the walk; the token; the other tokens; what follows]
+    -- [the iterator; the token; the other tokens; what follows]
     use0 𝓛 (raw (fact 𝓤 (0 < btree_map_len d))) (fact_i 𝓤 _ (emp 𝓤) many) $
     use0 𝓛 (raw (fact 𝓤 (LendsValuesInOrder (iter_mut_rest {K = K.Denot} {X = V.Denot}))))
     (fact_i 𝓤 _ (emp 𝓤) run) $ join ! $
@@ -211,7 +212,7 @@ iter_mut_spec 𝓤 𝓛 𝓜 𝓡 wired K V LK LV o₀ d₀ o₁ d₁ o₂ d₂ 
     use0 𝓛 (raw (fact 𝓤 (IterMutCanStep it))) (fact_i 𝓤 _ (emp 𝓤) ready) $ join ! $
     use0 𝓛 (raw (fact 𝓤 (KeepsKeys d 0))) (fact_i 𝓤 _ (emp 𝓤) keeps) $ join ! $
     move ! (4 ∷ 0 ∷ []) $ join ! $
-    -- [the ensures; the walk; the token; the other tokens]
+    -- [the ensures; the iterator; the token; the other tokens]
     nothing ! $ nothing ! $ fjoin ! $ move ! (3 ∷ 4 ∷ []) $ join ! $
-    -- [the tokens; nothing; the ensures; the walk]
+    -- [the tokens; nothing; the ensures; the iterator]
     keep ! (0 ∷ 1 ∷ 3 ∷ 2 ∷ []) $ by ! (leaves 𝓛 En hs c y v it (tt, tt) (tt, tt)))))))))))))))))))
