@@ -1,4 +1,4 @@
--- What `==` of hashed maps and sets answers.
+-- What `==` of hashed maps and sets returns.
 use Rattle.std.proofs.Common.{◌≡◌, Bool, sym, ◌∙◌, IsTrue, ◌↔◌}
 use Rattle.std.specs.Cmp.{IsEquivalence}
 use Rattle.std.specs.HashMap.{HashMap, hash_map_eq}

@@ -1,4 +1,4 @@
--- What a map or a set that was empty holds once one pair or item is put in.
+-- What an empty map or set holds after one pair or item is inserted.
 use Rattle.std.proofs.Common.{◌≡◌, List, [], ◌∷◌, length, refl, ap, ◌∙◌, arith, None, Bool, Option}
 use Rattle.std.proofs.Common.{true}
 use Rattle.std.specs.Prelude.{not}

@@ -1,4 +1,4 @@
--- What a hashed map ends as once what it lent for writing is given back.
+-- What a hashed map is once the mutable references to its values have ended.
 use Rattle.std.specs.Prelude.{◌≡◌, Option}
 use Rattle.std.specs.Borrow.{Array, Fml, MutBor, RattleType, LendsSo, follows}
 use Rattle.std.specs.HashMap.{HashMap, WritesThrough}
@@ -10,24 +10,24 @@ use Rattle.std_collections.specs.declared.hash_map.iter.lent.IterMut.{IterMut as
 use Rattle.ne_hash.specs.declared.map.walks.IterMut.{IterMut}
 use Rattle.ne_hash.specs.contracts.map.NEMap.{the_row}
 
--- std's walk, which a non-empty one holds and becomes
+-- The std iterator that a non-empty iterator holds and is turned into.
 abbrev pub std_walk : {K V : Type 0} → IterMut K V → StdIterMut K V
 std_walk w = w.inner
 
 module _ (K V S H : RattleType) (key : HashMembers K.Denot)
     (build : builder.Ghosts S.Denot H.Denot) (hash : hasher.Ghosts H.Denot) where
-  -- the map's type, as the logic holds it
+  -- The type of the map in the logic.
   abbrev pub map_row : RattleType
   map_row = the_row K V S H (record { eq = key.eq }) (record { hash_input = key.hash_input }) build
       hash
 
-  -- the keys stay, and the values are those that the walk leaves
+  -- The map keeps its keys, and its values are those that the iterator leaves.
   abbrev pub LendsValues : MutBor (HashMap K.Denot V.Denot S.Denot) → StdIterMut K.Denot V.Denot
       → Fml
   LendsValues m it = follows map_row (Array V 0) m.ghost_name (iter_mut_name it)
       (with_values m.now)
 
-  -- the key k has what was last written through r; where r is not there the map stays as it is
+  -- The key k has the value that was last written through r. If r is `None`, the map is unchanged.
   abbrev pub LendsValue : MutBor (HashMap K.Denot V.Denot S.Denot) → K.Denot
       → Option (MutBor V.Denot) → Fml
   LendsValue m k r = LendsSo map_row V m r (λ n w. WritesThrough key.eq (key.eq k) m.now w n)

@@ -1,5 +1,5 @@
-//! The laws of hashed maps and sets. Each is the contract of a function that does nothing: a caller
-//! calls it, and then knows what it ensures.
+//! Laws of hashed maps and sets. Each law is the contract of a function that does nothing. A caller
+//! calls the function to use what it ensures.
 ghost use Rattle.std.specs.Prelude.{◌≡◌, ◌↔◌, List, Ok, Result};
 ghost use Rattle.std.specs.HashMap.{HashMap as Entries, get};
 ghost use Rattle.std.specs.HashSet.{HashSet as Keys, IsSameSet};
@@ -11,8 +11,8 @@ use ne_iter::{FromNonEmptyIterator, Singleton};
 use std::collections::{HashMap, HashSet};
 use std::hash::{BuildHasher, Hash};
 
-/// A map that was handed out as std's and comes back is the same map, its hasher included, and is
-/// never refused.
+/// A map that is converted into std's map and back is the same map with the same hasher, and the
+/// conversion back never fails.
 pub fn hashed_maps_come_back<K: Eq + Hash + Drop, V: Drop, S: BuildHasher + Drop>()
     ensures { (m inner : Entries K V S) (r : Result (Entries K V S) Error)
         → ⟦<HashMap<K, V, S> as From<NEMap<K, V, S>>>⟧.from_gives m inner
@@ -20,8 +20,8 @@ pub fn hashed_maps_come_back<K: Eq + Hash + Drop, V: Drop, S: BuildHasher + Drop
         → r ≡ Ok m }
 {}
 
-/// A set that was handed out as std's and comes back is the same set, its hasher included, and is
-/// never refused.
+/// A set that is converted into std's set and back is the same set with the same hasher, and the
+/// conversion back never fails.
 pub fn hashed_sets_come_back<T: Eq + Hash + Drop, S: BuildHasher + Drop>()
     ensures { (s inner : Keys T S) (r : Result (Keys T S) Error)
         → ⟦<HashSet<T, S> as From<NESet<T, S>>>⟧.from_gives s inner
@@ -29,8 +29,7 @@ pub fn hashed_sets_come_back<T: Eq + Hash + Drop, S: BuildHasher + Drop>()
         → r ≡ Ok s }
 {}
 
-/// Equality of maps, as `==` tells it, is symmetric and transitive, whatever that of their values
-/// is.
+/// Equality of maps by `==` is symmetric and transitive for all values that implement `PartialEq`.
 pub fn hashed_map_equality_is_symmetric_and_transitive<K: Eq + Hash, V: PartialEq, S: BuildHasher>()
     ensures symmetric { (m n : Entries K V S) → IsSameMap K.eq V.eq m n
         → IsSameMap K.eq V.eq n m }
@@ -38,12 +37,12 @@ pub fn hashed_map_equality_is_symmetric_and_transitive<K: Eq + Hash, V: PartialE
         → IsSameMap K.eq V.eq n o → IsSameMap K.eq V.eq m o }
 {}
 
-/// Where each value equals itself, so does each map.
+/// If each value equals itself, so does each map.
 pub fn hashed_map_equality_is_reflexive<K: Eq + Hash, V: Eq, S: BuildHasher>()
     ensures { (m : Entries K V S) → IsSameMap K.eq V.eq m m }
 {}
 
-/// Equality of sets, as `==` tells it, is reflexive, symmetric and transitive.
+/// Equality of sets by `==` is reflexive, symmetric and transitive.
 pub fn hashed_set_equality_is_an_equivalence<T: Eq + Hash, S: BuildHasher>()
     ensures reflexive { (s : Keys T S) → IsSameSet T.eq s s }
     ensures symmetric { (s t : Keys T S) → IsSameSet T.eq s t → IsSameSet T.eq t s }
@@ -51,8 +50,8 @@ pub fn hashed_set_equality_is_an_equivalence<T: Eq + Hash, S: BuildHasher>()
         → IsSameSet T.eq s u }
 {}
 
-/// What pairs make one by one, by `singleton` and then `extend_one`, is what they make where they
-/// are collected; and two maps that the same pairs make have the same value at each key.
+/// Pairs that are added one by one, by `singleton` and then `extend_one`, make what they make when
+/// they are collected. Two maps made from the same pairs have the same value at each key.
 pub fn hashed_maps_one_by_one_are_collected<K: Eq + Hash + Drop, V: Drop>()
     ensures same_word { (pairs : List (K × V)) (m : Entries K V _)
         → ⟦<NEMap<K, V> as Singleton>⟧.collected pairs m
@@ -63,8 +62,8 @@ pub fn hashed_maps_one_by_one_are_collected<K: Eq + Hash + Drop, V: Drop>()
         → (q : K) → get K.eq m q ≡ get K.eq n q }
 {}
 
-/// What items make one by one, by `singleton` and then `extend_one`, is what they make where they
-/// are collected; and two sets that the same items make are the same set.
+/// Items that are added one by one, by `singleton` and then `extend_one`, make what they make when
+/// they are collected. Two sets made from the same items are the same set.
 pub fn hashed_sets_one_by_one_are_collected<T: Eq + Hash + Drop>()
     ensures same_word { (items : List T) (s : Keys T _)
         → ⟦<NESet<T> as Singleton>⟧.collected items s

@@ -1,11 +1,13 @@
 //! Hashed maps and sets that hold at least one item.
 //!
-//! This is a part of the port of `nonempty-collections`: its modules and the items in them have the
-//! Rust crate's names. The maps and sets are std's `HashMap` and `HashSet`, with any hasher. Which
-//! order they walk in is left open; what has not changed since is walked in the same order again.
+//! This crate is a part of the port of `nonempty-collections`. Its modules and items have the names
+//! of the Rust crate. The maps and sets are std's `HashMap` and `HashSet`, with any hasher. The
+//! order of iteration is unspecified; a map or set that has not changed since iterates in the same
+//! order again.
 //!
-//! A contract sees an [`NEMap`] as std's own record of the map, and an [`NESet`] as std's of the
-//! set, so that std's words on them serve. That there is an item is the types' invariant.
+//! In contracts, an [`NEMap`] is std's record of a map and an [`NESet`] is std's record of a set,
+//! so std's definitions for them apply. The invariant of both types is that there is at least one
+//! item.
 #![tactic(auto)]
 
 pub mod laws;

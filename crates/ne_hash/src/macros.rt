@@ -1,11 +1,12 @@
 //! The macros [`nem!`](crate::nem) and [`nes!`](crate::nes).
 
-/// The map of the pairs that are written out, as `nem![alloc; 1 => 'a', 2 => 'b']`: each key with
-/// the value of its last pair.
+/// Creates a map from the pairs that are written out, as in `nem![alloc; 1 => 'a', 2 => 'b']`. Each
+/// key has the value of its last pair.
 ///
-/// It is a `Result`: `AllocError` where there is no memory for the pairs, which are then dropped.
-/// The expressions are evaluated from left to right, the allocator first, and none after a refusal.
-/// They hold no `return`, `break` or `?`. Without a pair the macro does not compile.
+/// Returns a `Result`: `AllocError` if an allocation fails; the pairs are then dropped. The
+/// expressions are evaluated from left to right, the allocator first, and none after a failed
+/// allocation. They must not contain `return`, `break` or `?`. Without a pair the macro does not
+/// compile.
 ///
 /// ```
 /// let names = nem![alloc; 1 => 'a', 2 => 'b']?;
@@ -33,12 +34,13 @@ macro_rules! nem {
     };
 }
 
-/// The set of the items that are written out, as `nes![alloc; 3, 1, 2]`: of several equal ones it
-/// holds the first.
+/// Creates a set from the items that are written out, as in `nes![alloc; 3, 1, 2]`. Of several
+/// equal items it holds the first.
 ///
-/// It is a `Result`: `AllocError` where there is no memory for the items, which are then dropped.
-/// The expressions are evaluated from left to right, the allocator first, and none after a refusal.
-/// They hold no `return`, `break` or `?`. Without an item the macro does not compile.
+/// Returns a `Result`: `AllocError` if an allocation fails; the items are then dropped. The
+/// expressions are evaluated from left to right, the allocator first, and none after a failed
+/// allocation. They must not contain `return`, `break` or `?`. Without an item the macro does not
+/// compile.
 ///
 /// ```
 /// let three = nes![alloc; 3, 1, 2]?;

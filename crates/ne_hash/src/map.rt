@@ -1,7 +1,7 @@
-//! Hashed maps that hold at least one key, their walks, and what they implement.
+//! Hashed maps that hold at least one key, their iterators, and the traits that they implement.
 //!
-//! An [`NEMap`] finds a key by its hash, and walks in an order that is left open. Keys count as the
-//! same by their `==`; a key that is there stays as it is where an equal one is inserted.
+//! An [`NEMap`] finds a key by its hash, and iterates in an unspecified order. Keys are compared by
+//! `==`. A key that is in the map stays as it is if an equal one is inserted.
 ghost use Rattle.std.specs.Prelude.{◌≡◌, ◌+◌, ◌<◌, ◌≤◌, ◌^◌, ◌++◌, [], ◌∷◌, false, List, None};
 ghost use Rattle.std.specs.Prelude.{if◌then◌else◌, is_some, IfOk, IfSome, IsOk, IsSome};
 ghost use Rattle.std.specs.Prelude.{MatchOption, OnErr, OnOk, Some};
@@ -36,9 +36,9 @@ use std::marker::Model;
 use std::num::NonZeroUsize;
 pub use walks::{IntoIter, Iter, IterMut, Keys, Values};
 
-/// A hashed map that holds at least one key, after std's [`HashMap`].
+/// A hashed map that holds at least one key. It wraps std's [`HashMap`].
 ///
-/// The default hasher has a fixed seed. Where strangers choose the keys, make the map by
+/// The default hasher has a fixed seed. If untrusted users can choose the keys, create the map by
 /// [`with_hasher`](NEMap::with_hasher) with std's `RandomState`, and fill it by `insert` or
 /// `extend`:
 ///
@@ -46,11 +46,12 @@ pub use walks::{IntoIter, Iter, IterMut, Keys, Values};
 /// let map = NEMap::with_hasher(alloc, RandomState::new(&rt)?, 1, 'a')?;
 /// ```
 ///
-/// A contract sees it as std's record of the map: `get K.eq m k` is the value of the key `k`,
-/// `m.entries` are the pairs in the order of a walk, `IsUnique K.eq m` says that no two keys are
-/// equal, and `hasher_of m` is the hasher.
+/// In contracts it is std's record of the map: `get K.eq m k` is the value of the key `k`,
+/// `m.entries` is the list of the pairs in the order of iteration, `IsUnique K.eq m` says that no
+/// two keys are equal, and `hasher_of m` is the hasher.
 ///
-/// Equality, hashing and clones of keys and values are taken to be lawful where a clause says so.
+/// Equality, hashing and clones of keys and values are assumed to be lawful only where a clause
+/// says so.
 #[derive(Drop)]
 pub struct NEMap<K: Eq + Hash, V, S: BuildHasher = BuildHasherDefault<FoldHasher>> {
     inner: HashMap<K, V, S>,
@@ -71,9 +72,9 @@ impl<K: Eq + Hash, V, S: BuildHasher> Model for NEMap<K, V, S> {
 }
 
 impl<K: Eq + Hash + Drop, V: Drop> NEMap<K, V> {
-    /// The map of one key, with the default hasher.
+    /// Creates a map that holds the key `k` with the value `v`, with the default hasher.
     ///
-    /// `AllocError` where there is no memory for it; the pair is then dropped.
+    /// Returns `AllocError` if the allocation fails; the pair is then dropped.
     pub fn new(alloc: Global, k: K, v: V) -> Result<Self, AllocError>
         ensures entries { IfOk result (λ m. m.entries ≡ (k, v) ∷ []) }
         ensures value { IfOk result (λ m. get K.eq m k ≡ Some v) }
@@ -83,10 +84,11 @@ impl<K: Eq + Hash + Drop, V: Drop> NEMap<K, V> {
         NEMap::with_hasher(alloc, BuildHasherDefault::new(), k, v)
     }
 
-    /// The same, with room for at least `capacity` keys, the first among them.
+    /// Creates a map that holds the key `k` with the value `v`, with the default hasher and room
+    /// for at least `capacity` keys, `k` included.
     ///
-    /// `AllocError` where there is no memory for that, or it is too much to ask for; the pair is
-    /// then dropped.
+    /// Returns `AllocError` if the allocation fails or if `capacity` is more than can be allocated;
+    /// the pair is then dropped.
     pub fn with_capacity(
         alloc: Global,
         capacity: NonZeroUsize,
@@ -104,7 +106,8 @@ impl<K: Eq + Hash + Drop, V: Drop> NEMap<K, V> {
 }
 
 impl<K: Eq + Hash, V, S: BuildHasher> NEMap<K, V, S> {
-    /// The map as it is, with its hasher, or `None`, exactly where it is empty. It takes no memory.
+    /// Returns the map as a non-empty map, or `None` if and only if it is empty. The entries and
+    /// the hasher stay as they are, and nothing is allocated.
     pub fn try_from_map(map: HashMap<K, V, S>) -> Option<Self>
     where
         K: Drop,
@@ -116,13 +119,13 @@ impl<K: Eq + Hash, V, S: BuildHasher> NEMap<K, V, S> {
         if map.is_empty() {
             None
         } else {
-            // `len` says that no two keys are equal.
+            // The contract of `len` says that no two keys are equal.
             let _len = map.len();
             Some(NEMap { inner: map })
         }
     }
 
-    /// How many keys the map has room for, at least as many as it holds.
+    /// Returns how many keys the map has room for, which is at least `len`.
     pub fn capacity(&self) -> NonZeroUsize
         ensures room { non_zero_usize_get result ≡ hash_map_len self.now + spare self.now }
         ensures at_least_len { hash_map_len self.now ≤ non_zero_usize_get result }
@@ -133,14 +136,14 @@ impl<K: Eq + Hash, V, S: BuildHasher> NEMap<K, V, S> {
         }
     }
 
-    /// The hasher that the map was made with.
+    /// Returns the hasher that the map was created with.
     pub fn hasher(&self) -> &S
         ensures { result.now ≡ hasher_of self.now }
     {
         self.inner.hasher()
     }
 
-    /// std's walk over the pairs. The order is left open.
+    /// Returns std's iterator over the pairs, in an unspecified order.
     pub fn iter(&self) -> hash_map::Iter<'_, K, V>
         ensures rest { result ≡ self.now.entries }
         ensures runs { ShowsInOrder (deref_pair {K = K} {X = V}) }
@@ -152,8 +155,8 @@ impl<K: Eq + Hash, V, S: BuildHasher> NEMap<K, V, S> {
         self.inner.iter()
     }
 
-    /// std's walk over the pairs, with the values for writing. The keys stay, and so does their
-    /// number. The order is left open.
+    /// Returns std's iterator over the pairs with mutable references to the values, in an
+    /// unspecified order. The keys and their number do not change.
     pub fn iter_mut(&mut self) -> hash_map::IterMut<'_, K, V>
         ensures* writes_back { sem 𝓛 (LendsValues K.row V.row S.row S.Hasher.row K.Hash
             S.BuildHasher S.Hasher.Hasher self.entry result) }
@@ -168,7 +171,7 @@ impl<K: Eq + Hash, V, S: BuildHasher> NEMap<K, V, S> {
         self.inner.iter_mut()
     }
 
-    /// The walk over the pairs that knows that there is one. The order is left open.
+    /// Returns a non-empty iterator over the pairs, in an unspecified order.
     pub fn nonempty_iter(&self) -> Iter<'_, K, V>
         ensures entries { result ≡ self.now.entries }
         ensures shows { KeyWalkShows (deref_pair {K = K} {X = V}) result self.now.entries }
@@ -180,7 +183,8 @@ impl<K: Eq + Hash, V, S: BuildHasher> NEMap<K, V, S> {
         }
     }
 
-    /// The same, with the values for writing. The keys stay, and so does their number.
+    /// Returns a non-empty iterator over the pairs with mutable references to the values, in an
+    /// unspecified order. The keys and their number do not change.
     pub fn nonempty_iter_mut(&mut self) -> IterMut<'_, K, V>
         ensures* writes_back { sem 𝓛 (LendsValues K.row V.row S.row S.Hasher.row K.Hash
             S.BuildHasher S.Hasher.Hasher self.entry (std_walk result)) }
@@ -197,7 +201,8 @@ impl<K: Eq + Hash, V, S: BuildHasher> NEMap<K, V, S> {
         }
     }
 
-    /// The keys, at least one. The order is left open; it is that of the pairs.
+    /// Returns a non-empty iterator over the keys. The order is unspecified, but it is that of the
+    /// pairs.
     pub fn keys(&self) -> Keys<'_, K, V>
         ensures keys { result ≡ keys self.now }
         ensures shows { KeyWalkShows (deref {X = K}) result (keys self.now) }
@@ -210,7 +215,7 @@ impl<K: Eq + Hash, V, S: BuildHasher> NEMap<K, V, S> {
         }
     }
 
-    /// How many keys there are, at least 1.
+    /// Returns the number of keys, which is at least 1.
     pub fn len(&self) -> NonZeroUsize
         ensures len { non_zero_usize_get result ≡ hash_map_len self.now }
         ensures unique { IsUnique K.eq self.now }
@@ -222,14 +227,15 @@ impl<K: Eq + Hash, V, S: BuildHasher> NEMap<K, V, S> {
         }
     }
 
-    /// Always `false`.
+    /// Returns `false`: the map always holds a key.
     pub fn is_empty(&self) -> bool
         ensures { result ≡ false }
     {
         false
     }
 
-    /// The values, at least one. The order is left open; it is that of the pairs.
+    /// Returns a non-empty iterator over the values. The order is unspecified, but it is that of
+    /// the pairs.
     pub fn values(&self) -> Values<'_, K, V>
         ensures values { result ≡ values self.now }
         ensures shows { KeyWalkShows (deref {X = V}) result (values self.now) }
@@ -241,14 +247,14 @@ impl<K: Eq + Hash, V, S: BuildHasher> NEMap<K, V, S> {
         }
     }
 
-    /// Whether there is an equal key.
+    /// Returns whether the map holds a key equal to `k`.
     pub fn contains_key(&self, k: &K) -> bool
         ensures { result ≡ is_some (get K.eq self.now k.now) }
     {
         self.inner.contains_key(k)
     }
 
-    /// The value of the equal key, if there is one.
+    /// Returns the value of the key equal to `k`, or `None` if there is no such key.
     pub fn get(&self, k: &K) -> Option<&V>
         ensures value { option_copied result ≡ get K.eq self.now k.now }
         ensures member { IfSome result (λ v. IsAmong (values self.now) v.now) }
@@ -256,7 +262,8 @@ impl<K: Eq + Hash, V, S: BuildHasher> NEMap<K, V, S> {
         self.inner.get(k)
     }
 
-    /// The equal key and its value, if there is one: the key as it is in the map.
+    /// Returns the key equal to `k`, as it is in the map, and its value, or `None` if there is no
+    /// such key.
     pub fn get_key_value(&self, k: &K) -> Option<(&K, &V)>
         ensures key { option_map (λ p. p.0.now) result ≡ get_key K.eq self.now k.now }
         ensures value { option_map (λ p. p.1.now) result ≡ get K.eq self.now k.now }
@@ -264,8 +271,8 @@ impl<K: Eq + Hash, V, S: BuildHasher> NEMap<K, V, S> {
         self.inner.get_key_value(k)
     }
 
-    /// The value of the equal key for writing, if there is one. The keys stay, and so do the other
-    /// values.
+    /// Returns a mutable reference to the value of the key equal to `k`, or `None` if there is no
+    /// such key. The keys and the other values do not change.
     pub fn get_mut(&mut self, k: &K) -> Option<&mut V>
         ensures* writes_back { sem 𝓛 (LendsValue K.row V.row S.row S.Hasher.row K.Hash
             S.BuildHasher S.Hasher.Hasher self.entry k.now result) }
@@ -276,11 +283,12 @@ impl<K: Eq + Hash, V, S: BuildHasher> NEMap<K, V, S> {
         self.inner.get_mut(k)
     }
 
-    /// Puts a value at a key. Where an equal key is there, it stays, takes the value, and its old
-    /// one comes back; the key that was handed in is dropped.
+    /// Inserts a key and its value, and returns the old value of an equal key, or `None` if the key
+    /// is new. An equal key that is in the map stays there and takes the new value, and `k` is
+    /// dropped.
     ///
-    /// `AllocError` where the map has to grow, so only for a new key, and there is no memory for
-    /// it; the entries are then as they were, and the pair is dropped.
+    /// Returns `AllocError` if the map has to grow and the allocation fails. This can happen only
+    /// for a new key; the entries are then unchanged and the pair is dropped.
     pub fn insert(&mut self, k: K, v: V) -> Result<Option<V>, AllocError>
     where
         K: Drop,
@@ -300,11 +308,11 @@ impl<K: Eq + Hash, V, S: BuildHasher> NEMap<K, V, S> {
         Ok(self.inner.insert(k, v)?)
     }
 
-    /// Gives back room that the map does not need. The entries stay, though the order of a walk may
+    /// Releases room that the map does not need. The entries stay, but the order of iteration may
     /// change.
     ///
-    /// Where there is no memory for the smaller room, the map keeps what it has, so this never
-    /// answers `AllocError`.
+    /// If the allocation of the smaller room fails, the map keeps the room that it has, so this
+    /// never returns `AllocError`.
     pub fn shrink_to_fit(&mut self) -> Result<(), AllocError>
         ensures done { IsOk result }
         ensures entries { IsReordered K.eq self.old self.new }
@@ -316,10 +324,11 @@ impl<K: Eq + Hash, V, S: BuildHasher> NEMap<K, V, S> {
         Ok(())
     }
 
-    /// The map of one key, with this hasher and room for at least `capacity` keys.
+    /// Creates a map that holds the key `k` with the value `v`, with the hasher `hasher` and room
+    /// for at least `capacity` keys, `k` included.
     ///
-    /// `AllocError` where there is no memory for that, or it is too much to ask for; the hasher and
-    /// the pair are then dropped.
+    /// Returns `AllocError` if the allocation fails or if `capacity` is more than can be allocated;
+    /// the hasher and the pair are then dropped.
     pub fn with_capacity_and_hasher(
         alloc: Global,
         capacity: NonZeroUsize,
@@ -342,9 +351,9 @@ impl<K: Eq + Hash, V, S: BuildHasher> NEMap<K, V, S> {
         of_one_key(inner, k, v)
     }
 
-    /// The map of one key, with this hasher.
+    /// Creates a map that holds the key `k` with the value `v`, with the hasher `hasher`.
     ///
-    /// `AllocError` where there is no memory for it; the hasher and the pair are then dropped.
+    /// Returns `AllocError` if the allocation fails; the hasher and the pair are then dropped.
     pub fn with_hasher(alloc: Global, hasher: S, k: K, v: V) -> Result<Self, AllocError>
     where
         K: Drop,
@@ -359,11 +368,11 @@ impl<K: Eq + Hash, V, S: BuildHasher> NEMap<K, V, S> {
         of_one_key(HashMap::with_hasher(alloc, hasher), k, v)
     }
 
-    /// Inserts the pairs, in order: a key has the value of its last pair, and a key that is there
-    /// stays as it is.
+    /// Inserts the pairs, in order. Each key has the value of its last pair. A key that is already
+    /// in the map stays as it is.
     ///
-    /// `AllocError` where the map has to grow and there is no memory for it; the pairs before are
-    /// then in, and the one at which it was refused is dropped.
+    /// Returns `AllocError` if the map has to grow and the allocation fails. The pairs before the
+    /// one that failed are then in the map, and that one is dropped.
     pub fn extend<I: IntoIterator<Item = (K, V)>>(&mut self, iter: I) -> Result<(), AllocError>
     where
         K: Drop,
@@ -379,16 +388,18 @@ impl<K: Eq + Hash, V, S: BuildHasher> NEMap<K, V, S> {
         ensures unique { IsUnique K.eq self.new }
         ensures nonempty { 0 < hash_map_len self.new }
     {
-        // `len` says that no two keys are equal, also where no pair comes.
+        // The contract of `len` says that no two keys are equal, even if there are no pairs to
+        // insert.
         let _len = self.inner.len();
         self.inner.extend(iter)
     }
 
-    /// A map of clones, entry by entry: the same entries, where clones equal their originals.
+    /// Returns a map of clones, entry by entry. If clones equal their originals, it has the same
+    /// entries.
     ///
-    /// `AllocError` where there is no memory for it, or where a clone is refused; and, as std's map
-    /// has no law that a clone equals its original, where the clone of a key does not equal it or
-    /// the clone of the hasher gives it another hash.
+    /// Returns `AllocError` if an allocation or a clone fails. No law says that a clone equals its
+    /// original; so this also returns `AllocError` if the clone of a key does not equal the key, or
+    /// if the clone of the hasher gives it another hash.
     pub fn clone(&self) -> Result<Self, AllocError>
     where
         K: Clone,
@@ -399,13 +410,13 @@ impl<K: Eq + Hash, V, S: BuildHasher> NEMap<K, V, S> {
         ensures nonempty { IfOk result (λ m. 0 < hash_map_len m) }
     {
         let inner = self.inner.clone()?;
-        // `len` says that no two keys are equal.
+        // The contract of `len` says that no two keys are equal.
         let _len = inner.len();
         Ok(NEMap { inner })
     }
 }
 
-// The map with the one key that is put in.
+// Inserts one pair into an empty map.
 fn of_one_key<K: Eq + Hash + Drop, V: Drop, S: BuildHasher + Drop>(
     map: HashMap<K, V, S>,
     k: K,

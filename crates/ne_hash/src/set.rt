@@ -1,7 +1,7 @@
-//! Hashed sets that hold at least one item, their walks, and what they implement.
+//! Hashed sets that hold at least one item, their iterators, and the traits that they implement.
 //!
-//! An [`NESet`] finds an item by its hash, and walks in an order that is left open. Items count as
-//! the same by their `==`; of several equal ones the set holds one.
+//! An [`NESet`] finds an item by its hash, and iterates in an unspecified order. Items are compared
+//! by `==`. Of several equal items the set holds one.
 ghost use Rattle.std.specs.Prelude.{◌≡◌, ◌+◌, ◌<◌, ◌≤◌, ◌^◌, ◌↔◌, ◌++◌, [], ◌∷◌, true, false, not};
 ghost use Rattle.std.specs.Prelude.{if◌then◌else◌, is_some, length, IfOk, IsOk, IsTrue};
 ghost use Rattle.std.specs.Prelude.{MatchOption, OnErr, OnOk};
@@ -33,9 +33,9 @@ use std::marker::Model;
 use std::num::NonZeroUsize;
 pub use walks::{IntoIter, Iter, Union};
 
-/// A hashed set that holds at least one item, after std's [`HashSet`].
+/// A hashed set that holds at least one item. It wraps std's [`HashSet`].
 ///
-/// The default hasher has a fixed seed. Where strangers choose the items, make the set by
+/// The default hasher has a fixed seed. If untrusted users can choose the items, create the set by
 /// [`with_hasher`](NESet::with_hasher) with std's `RandomState`, and fill it by `insert` or
 /// `extend`:
 ///
@@ -43,9 +43,9 @@ pub use walks::{IntoIter, Iter, Union};
 /// let set = NESet::with_hasher(alloc, RandomState::new(&rt)?, 1)?;
 /// ```
 ///
-/// A contract sees it as std's record of the set: `contains T.eq s x` tells whether an item equal
-/// to `x` is there, `s.keys` are the items in the order of a walk, `IsUnique T.eq s` says that no
-/// two are equal, and `hasher_of s` is the hasher.
+/// In contracts it is std's record of the set: `contains T.eq s x` says whether an item equal to
+/// `x` is in the set, `s.keys` is the list of the items in the order of iteration, `IsUnique T.eq
+/// s` says that no two items are equal, and `hasher_of s` is the hasher.
 #[derive(Drop)]
 pub struct NESet<T: Eq + Hash, S: BuildHasher = BuildHasherDefault<FoldHasher>> {
     inner: HashSet<T, S>,
@@ -66,7 +66,7 @@ impl<T: Eq + Hash, S: BuildHasher> Model for NESet<T, S> {
 }
 
 impl<T: Eq + Hash, S: BuildHasher> NESet<T, S> {
-    /// How many items the set has room for, at least as many as it holds.
+    /// Returns how many items the set has room for, which is at least `len`.
     pub fn capacity(&self) -> NonZeroUsize
         ensures room { non_zero_usize_get result ≡ hash_set_len self.now + spare self.now }
         ensures at_least_len { hash_set_len self.now ≤ non_zero_usize_get result }
@@ -77,14 +77,14 @@ impl<T: Eq + Hash, S: BuildHasher> NESet<T, S> {
         }
     }
 
-    /// The hasher that the set was made with.
+    /// Returns the hasher that the set was created with.
     pub fn hasher(&self) -> &S
         ensures { result.now ≡ hasher_of self.now }
     {
         self.inner.hasher()
     }
 
-    /// std's walk over the items. The order is left open.
+    /// Returns std's iterator over the items, in an unspecified order.
     pub fn iter(&self) -> hash_set::Iter<'_, T>
         ensures rest { result ≡ self.now.keys }
         ensures runs { ShowsInOrder (deref {X = T}) }
@@ -95,7 +95,7 @@ impl<T: Eq + Hash, S: BuildHasher> NESet<T, S> {
         self.inner.iter()
     }
 
-    /// The walk over the items that knows that there is one. The order is left open.
+    /// Returns a non-empty iterator over the items, in an unspecified order.
     pub fn nonempty_iter(&self) -> Iter<'_, T>
         ensures keys { result ≡ self.now.keys }
         ensures shows { KeyWalkShows (deref {X = T}) result self.now.keys }
@@ -107,7 +107,7 @@ impl<T: Eq + Hash, S: BuildHasher> NESet<T, S> {
         }
     }
 
-    /// How many items there are, at least 1.
+    /// Returns the number of items, which is at least 1.
     pub fn len(&self) -> NonZeroUsize
         ensures len { non_zero_usize_get result ≡ hash_set_len self.now }
         ensures unique { IsUnique T.eq self.now }
@@ -119,7 +119,7 @@ impl<T: Eq + Hash, S: BuildHasher> NESet<T, S> {
         }
     }
 
-    /// Always `false`.
+    /// Returns `false`: the set always holds an item.
     pub fn is_empty(&self) -> bool
         ensures { result ≡ false }
     {
@@ -128,9 +128,9 @@ impl<T: Eq + Hash, S: BuildHasher> NESet<T, S> {
 }
 
 impl<T: Eq + Hash + Drop> NESet<T> {
-    /// The set of one item, with the default hasher.
+    /// Creates a set that holds the item `value`, with the default hasher.
     ///
-    /// `AllocError` where there is no memory for it; the item is then dropped.
+    /// Returns `AllocError` if the allocation fails; the item is then dropped.
     pub fn new(alloc: Global, value: T) -> Result<Self, AllocError>
         ensures keys { IfOk result (λ s. s.keys ≡ value ∷ []) }
         ensures found { IfOk result (λ s. contains T.eq s value ≡ true) }
@@ -140,10 +140,11 @@ impl<T: Eq + Hash + Drop> NESet<T> {
         NESet::with_hasher(alloc, BuildHasherDefault::new(), value)
     }
 
-    /// The same, with room for at least `capacity` items, the first among them.
+    /// Creates a set that holds the item `value`, with the default hasher and room for at least
+    /// `capacity` items, `value` included.
     ///
-    /// `AllocError` where there is no memory for that, or it is too much to ask for; the item is
-    /// then dropped.
+    /// Returns `AllocError` if the allocation fails or if `capacity` is more than can be allocated;
+    /// the item is then dropped.
     pub fn with_capacity(
         alloc: Global,
         capacity: NonZeroUsize,
@@ -160,7 +161,8 @@ impl<T: Eq + Hash + Drop> NESet<T> {
 }
 
 impl<T: Eq + Hash, S: BuildHasher> NESet<T, S> {
-    /// The set as it is, with its hasher, or `None`, exactly where it is empty. It takes no memory.
+    /// Returns the set as a non-empty set, or `None` if and only if it is empty. The items and the
+    /// hasher stay as they are, and nothing is allocated.
     pub fn try_from_set(set: HashSet<T, S>) -> Option<Self>
     where
         T: Drop,
@@ -171,20 +173,21 @@ impl<T: Eq + Hash, S: BuildHasher> NESet<T, S> {
         if set.is_empty() {
             None
         } else {
-            // `len` says that no two items are equal.
+            // The contract of `len` says that no two items are equal.
             let _len = set.len();
             Some(NESet { inner: set })
         }
     }
 
-    /// Whether there is an equal item.
+    /// Returns whether the set holds an item equal to `value`.
     pub fn contains(&self, value: &T) -> bool
         ensures { result ≡ contains T.eq self.now value.now }
     {
         self.inner.contains(value)
     }
 
-    /// The items that are not in `other`. There may be none, so this is std's iterator.
+    /// Returns an iterator over the items that are not in `other`, in an unspecified order. There
+    /// may be none, so this is std's iterator.
     pub fn difference<'a>(&'a self, other: &'a NESet<T, S>) -> hash_set::Difference<'a, T, S>
         ensures members { IsDifference T.eq self.now other.now result }
         ensures unique { IsDistinct T.eq result }
@@ -195,7 +198,7 @@ impl<T: Eq + Hash, S: BuildHasher> NESet<T, S> {
         self.inner.difference(&other.inner)
     }
 
-    /// The equal item, as it is in the set, if there is one.
+    /// Returns the item equal to `value`, as it is in the set, or `None` if there is no such item.
     pub fn get(&self, value: &T) -> Option<&T>
         ensures item { option_copied result ≡ get T.eq self.now value.now }
         ensures found { is_some result ≡ contains T.eq self.now value.now }
@@ -203,11 +206,11 @@ impl<T: Eq + Hash, S: BuildHasher> NESet<T, S> {
         self.inner.get(value)
     }
 
-    /// Puts an item in, and answers whether it is new. Where an equal one is there, that one stays,
-    /// and the one that was handed in is dropped.
+    /// Inserts an item, and returns whether it is new. An equal item that is in the set stays
+    /// there, and `value` is dropped.
     ///
-    /// `AllocError` where the set has to grow, so only for a new item, and there is no memory for
-    /// it; the items are then as they were, and the new one is dropped.
+    /// Returns `AllocError` if the set has to grow and the allocation fails. This can happen only
+    /// for a new item; the items are then unchanged and the new one is dropped.
     pub fn insert(&mut self, value: T) -> Result<bool, AllocError>
     where
         T: Drop,
@@ -226,8 +229,8 @@ impl<T: Eq + Hash, S: BuildHasher> NESet<T, S> {
         Ok(self.inner.insert(value)?)
     }
 
-    /// The items that are in `other` too. There may be none, so this is std's iterator. Which of
-    /// two equal items comes is left open.
+    /// Returns an iterator over the items that are also in `other`, in an unspecified order. There
+    /// may be none, so this is std's iterator. Which of two equal items it returns is unspecified.
     pub fn intersection<'a>(&'a self, other: &'a NESet<T, S>) -> hash_set::Intersection<'a, T, S>
         ensures members { IsIntersection T.eq self.now other.now result }
         ensures unique { IsDistinct T.eq result }
@@ -238,31 +241,32 @@ impl<T: Eq + Hash, S: BuildHasher> NESet<T, S> {
         self.inner.intersection(&other.inner)
     }
 
-    /// Whether no item is in both sets.
+    /// Returns whether no item is in both sets.
     pub fn is_disjoint(&self, other: &NESet<T, S>) -> bool
         ensures { IsTrue result ↔ IsDisjoint T.eq self.now other.now }
     {
         self.inner.is_disjoint(&other.inner)
     }
 
-    /// Whether all items are in `other`.
+    /// Returns whether every item of this set is in `other`.
     pub fn is_subset(&self, other: &NESet<T, S>) -> bool
         ensures { IsTrue result ↔ IsSubset T.eq self.now other.now }
     {
         self.inner.is_subset(&other.inner)
     }
 
-    /// Whether all items of `other` are in this set.
+    /// Returns whether every item of `other` is in this set.
     pub fn is_superset(&self, other: &NESet<T, S>) -> bool
         ensures { IsTrue result ↔ IsSubset T.eq other.now self.now }
     {
         self.inner.is_superset(&other.inner)
     }
 
-    /// Puts an item in, in the place of an equal one, which comes back.
+    /// Inserts an item in place of an equal one, and returns the replaced item, or `None` if the
+    /// item is new.
     ///
-    /// `AllocError` where the set has to grow, so only for a new item, and there is no memory for
-    /// it; the items are then as they were, and the new one is dropped.
+    /// Returns `AllocError` if the set has to grow and the allocation fails. This can happen only
+    /// for a new item; the items are then unchanged and the new one is dropped.
     pub fn replace(&mut self, value: T) -> Result<Option<T>, AllocError>
     where
         T: Drop,
@@ -280,11 +284,11 @@ impl<T: Eq + Hash, S: BuildHasher> NESet<T, S> {
         Ok(self.inner.replace(value)?)
     }
 
-    /// Makes room for at least `additional` further items. The items stay, though the order of a
-    /// walk may change.
+    /// Makes room for at least `additional` more items. The items stay, but the order of iteration
+    /// may change.
     ///
-    /// `AllocError` where there is no memory for that, or it is too much to ask for; the items are
-    /// then as they were, in the same order.
+    /// Returns `AllocError` if the allocation fails or if `additional` is more than can be
+    /// allocated; the items are then unchanged, in the same order.
     pub fn reserve(&mut self, additional: usize) -> Result<(), AllocError>
         ensures keys { IsReordered T.eq self.old self.new }
         ensures room { OnOk result (additional ≤ spare self.new) }
@@ -296,11 +300,11 @@ impl<T: Eq + Hash, S: BuildHasher> NESet<T, S> {
         self.inner.reserve(additional)
     }
 
-    /// Gives back room that the set does not need. The items stay, though the order of a walk may
+    /// Releases room that the set does not need. The items stay, but the order of iteration may
     /// change.
     ///
-    /// Where there is no memory for the smaller room, the set keeps what it has, so this never
-    /// answers `AllocError`.
+    /// If the allocation of the smaller room fails, the set keeps the room that it has, so this
+    /// never returns `AllocError`.
     pub fn shrink_to_fit(&mut self) -> Result<(), AllocError>
         ensures done { IsOk result }
         ensures keys { IsReordered T.eq self.old self.new }
@@ -312,8 +316,8 @@ impl<T: Eq + Hash, S: BuildHasher> NESet<T, S> {
         Ok(())
     }
 
-    /// The items of both sets, each once: at least one. The order is left open, and so is which of
-    /// two equal items comes.
+    /// Returns a non-empty iterator over the items of both sets, each once. The order is
+    /// unspecified, and so is which of two equal items it returns.
     pub fn union<'a>(&'a self, other: &'a NESet<T, S>) -> Union<'a, T, S>
         ensures members { IsUnion T.eq self.now other.now result }
         ensures unique { IsDistinct T.eq result }
@@ -326,10 +330,11 @@ impl<T: Eq + Hash, S: BuildHasher> NESet<T, S> {
         }
     }
 
-    /// The set of one item, with this hasher and room for at least `capacity` items.
+    /// Creates a set that holds the item `value`, with the hasher `hasher` and room for at least
+    /// `capacity` items, `value` included.
     ///
-    /// `AllocError` where there is no memory for that, or it is too much to ask for; the hasher and
-    /// the item are then dropped.
+    /// Returns `AllocError` if the allocation fails or if `capacity` is more than can be allocated;
+    /// the hasher and the item are then dropped.
     pub fn with_capacity_and_hasher(
         alloc: Global,
         capacity: NonZeroUsize,
@@ -350,9 +355,9 @@ impl<T: Eq + Hash, S: BuildHasher> NESet<T, S> {
         of_one_item(inner, value)
     }
 
-    /// The set of one item, with this hasher.
+    /// Creates a set that holds the item `value`, with the hasher `hasher`.
     ///
-    /// `AllocError` where there is no memory for it; the hasher and the item are then dropped.
+    /// Returns `AllocError` if the allocation fails; the hasher and the item are then dropped.
     pub fn with_hasher(alloc: Global, hasher: S, value: T) -> Result<Self, AllocError>
     where
         T: Drop,
@@ -366,10 +371,10 @@ impl<T: Eq + Hash, S: BuildHasher> NESet<T, S> {
         of_one_item(HashSet::with_hasher(alloc, hasher), value)
     }
 
-    /// Inserts the items, in order. One that is there stays as it is.
+    /// Inserts the items, in order. An item that is already in the set stays as it is.
     ///
-    /// `AllocError` where the set has to grow and there is no memory for it; the items before are
-    /// then in, and the one at which it was refused is dropped.
+    /// Returns `AllocError` if the set has to grow and the allocation fails. The items before the
+    /// one that failed are then in the set, and that one is dropped.
     pub fn extend<I: IntoIterator<Item = T>>(&mut self, iter: I) -> Result<(), AllocError>
     where
         T: Drop,
@@ -384,16 +389,18 @@ impl<T: Eq + Hash, S: BuildHasher> NESet<T, S> {
         ensures unique { IsUnique T.eq self.new }
         ensures nonempty { 0 < hash_set_len self.new }
     {
-        // `len` says that no two items are equal, also where no item comes.
+        // The contract of `len` says that no two items are equal, even if there are no items to
+        // insert.
         let _len = self.inner.len();
         self.inner.extend(iter)
     }
 
-    /// A set of clones, item by item: the same items, where clones equal their originals.
+    /// Returns a set of clones, item by item. If clones equal their originals, it has the same
+    /// items.
     ///
-    /// `AllocError` where there is no memory for it, or where a clone is refused; and, as std's set
-    /// has no law that a clone equals its original, where the clone of an item does not equal it or
-    /// the clone of the hasher gives it another hash.
+    /// Returns `AllocError` if an allocation or a clone fails. No law says that a clone equals its
+    /// original; so this also returns `AllocError` if the clone of an item does not equal the item,
+    /// or if the clone of the hasher gives it another hash.
     pub fn clone(&self) -> Result<Self, AllocError>
     where
         T: Clone,
@@ -403,13 +410,13 @@ impl<T: Eq + Hash, S: BuildHasher> NESet<T, S> {
         ensures nonempty { IfOk result (λ s. 0 < hash_set_len s) }
     {
         let inner = self.inner.clone()?;
-        // `len` says that no two items are equal.
+        // The contract of `len` says that no two items are equal.
         let _len = inner.len();
         Ok(NESet { inner })
     }
 }
 
-// The set with the one item that is put in.
+// Inserts one item into an empty set.
 fn of_one_item<T: Eq + Hash + Drop, S: BuildHasher + Drop>(
     set: HashSet<T, S>,
     value: T,

@@ -1,4 +1,4 @@
-//! What an [`NEMap`] implements: conversions, clones, equality as a map, collecting, printing.
+//! The traits of an [`NEMap`]: conversions, clones, equality as a map, collecting, printing.
 ghost use Rattle.std.specs.Prelude.{◌≡◌, ◌<◌, ◌↔◌, ◌++◌, IsTrue, MatchResult};
 ghost use Rattle.std.specs.HashMap.{hash_map_eq, hash_map_len, IsEmpty, IsUnique};
 ghost use Rattle.ne_iter.specs.Collected.{IsMapOf};
@@ -13,21 +13,22 @@ use std::fmt;
 use std::fmt::Debug;
 use std::hash::{BuildHasher, Hash};
 
-/// To read what only a `HashMap` has. It cannot be written through.
+/// Returns the inner `HashMap`, for the methods that only a `HashMap` has. The map cannot be
+/// changed through it.
 impl<K: Eq + Hash, V, S: BuildHasher> AsRef<HashMap<K, V, S>> for NEMap<K, V, S> {
     fn as_ref(&self) -> &HashMap<K, V, S>
         ensures same { result.now ≡ self.now }
         ensures unique { IsUnique K.eq self.now }
         ensures nonempty { 0 < hash_map_len self.now }
     {
-        // `len` says that no two keys are equal.
+        // The contract of `len` says that no two keys are equal.
         let _len = self.inner.len();
         &self.inner
     }
 }
 
-/// Equality of maps: each key is in both or in neither, and then with equal values. The order of
-/// the walks does not count.
+/// Compares maps: they are equal if each key is in both or in neither, and has equal values if it
+/// is in both. The order of iteration does not matter.
 impl<K: Eq + Hash, V: PartialEq, S: BuildHasher> PartialEq for NEMap<K, V, S> {
     ghost use Rattle.std.specs.HashMap.Eq.{hash_map_eq_symm, hash_map_eq_trans};
 
@@ -56,7 +57,7 @@ impl<K: Eq + Hash, V: Eq, S: BuildHasher> Eq for NEMap<K, V, S> {
     }) (hash_map_eq_refl K.eq V.eq v.refl) };
 }
 
-/// The map as it is, with its hasher, without the promise.
+/// Returns the inner `HashMap` unchanged, with its hasher. Its type no longer guarantees a key.
 impl<K: Eq + Hash, V, S: BuildHasher> From<NEMap<K, V, S>> for HashMap<K, V, S> {
     ghost from_gives = { λ m n. (n ≡ m) × (0 < hash_map_len n) };
 
@@ -66,9 +67,9 @@ impl<K: Eq + Hash, V, S: BuildHasher> From<NEMap<K, V, S>> for HashMap<K, V, S> 
     }
 }
 
-/// The map as `try_from_map` has it, or `Error::Empty`, exactly where `map` is empty. It takes no
-/// memory and keeps the hasher; in the Rust crate the pairs are collected anew, with a default
-/// hasher.
+/// Converts a map as `try_from_map` does, and returns `Error::Empty` if and only if `map` is empty.
+/// It does not allocate and keeps the hasher; the Rust crate collects the pairs into a new map with
+/// a default hasher.
 impl<K: Eq + Hash + Drop, V: Drop, S: BuildHasher + Drop> TryFrom<HashMap<K, V, S>>
     for NEMap<K, V, S> {
     ghost use Rattle.std.specs.Prelude.{Result};
@@ -85,7 +86,7 @@ impl<K: Eq + Hash + Drop, V: Drop, S: BuildHasher + Drop> TryFrom<HashMap<K, V, 
     }
 }
 
-/// By the inherent call `clone`.
+/// Calls the inherent method `clone`.
 impl<K: Eq + Hash + Clone, V: Clone, S: BuildHasher + Clone> Clone for NEMap<K, V, S> {
     ghost is_clone = { IsCloneOfMap K.is_clone V.is_clone };
 
@@ -94,7 +95,7 @@ impl<K: Eq + Hash + Clone, V: Clone, S: BuildHasher + Clone> Clone for NEMap<K, 
     }
 }
 
-/// Each key once, with the value of the last pair that has it.
+/// Collects pairs into a map that holds each key once, with the value of its last pair.
 impl<K: Eq + Hash + Drop, V: Drop, S: BuildHasher + Default + Drop> FromNonEmptyIterator<(K, V)>
     for NEMap<K, V, S> {
     ghost use Rattle.std.specs.Prelude.{◌<◌, length};
@@ -117,7 +118,7 @@ impl<K: Eq + Hash + Debug, V: Debug, S: BuildHasher> Debug for NEMap<K, V, S> {
     }
 }
 
-/// One pair, and then further ones by `insert`.
+/// Starts with one pair, and adds each further pair by `insert`.
 impl<K: Eq + Hash + Drop, V: Drop> Singleton for NEMap<K, V> {
     ghost use Rattle.std.specs.Prelude.{◌<◌, length};
 
@@ -137,7 +138,7 @@ impl<K: Eq + Hash + Drop, V: Drop> Singleton for NEMap<K, V> {
     }
 }
 
-/// By the inherent call `extend`.
+/// Calls the inherent method `extend`.
 impl<K: Eq + Hash + Drop, V: Drop, S: BuildHasher> Extend<(K, V)> for NEMap<K, V, S> {
     ghost extend_gives = { λ m pairs n. IsMapOf K.eq (m.entries ++ pairs) n.entries
         × IsUnique K.eq n × (0 < hash_map_len n) };

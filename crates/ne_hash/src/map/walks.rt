@@ -1,5 +1,5 @@
-//! The walks over an [`NEMap`], which know that there is a pair, and how a map and they become
-//! std's.
+//! The non-empty iterators over an [`NEMap`], and how a map and these iterators are turned into
+//! std's iterators.
 ghost use Rattle.std.specs.Prelude.{◌≡◌, ◌<◌, ◌^◌, length};
 ghost use Rattle.std.specs.HashMap.{IsUnique, hash_map_len};
 ghost use Rattle.std.specs.HashMap.IterMut.{iter_mut_rest, IterMutCanStep};
@@ -128,8 +128,8 @@ impl<'a, K: Eq + Hash, V, S: BuildHasher> IntoIterator for &'a mut NEMap<K, V, S
     }
 }
 
-/// A walk over the pairs of an [`NEMap`], at least one. A contract sees it as their list, in an
-/// order that is left open.
+/// A non-empty iterator over the pairs of an [`NEMap`]. In contracts it is the list of the pairs,
+/// in an unspecified order.
 #[derive(Drop)]
 pub struct Iter<'a, K, V> {
     pub(super) inner: hash_map::Iter<'a, K, V>,
@@ -166,7 +166,8 @@ impl<'a, K, V> IntoIterator for Iter<'a, K, V> {
     }
 }
 
-/// The same, with the values for writing. A contract sees std's walk in it, by `std_walk`.
+/// A non-empty iterator over the pairs of an [`NEMap`], with mutable references to the values. In
+/// contracts, `std_walk` is the std iterator that it holds.
 #[derive(Drop)]
 pub struct IterMut<'a, K, V> {
     pub(super) inner: hash_map::IterMut<'a, K, V>,
@@ -194,8 +195,8 @@ impl<'a, K, V> IntoIterator for IterMut<'a, K, V> {
     }
 }
 
-/// The pairs of an [`NEMap`], at least one, by value. A contract sees it as their list, in an order
-/// that is left open.
+/// A non-empty iterator over the pairs of an [`NEMap`] by value. In contracts it is the list of the
+/// pairs, in an unspecified order.
 #[derive(Drop)]
 pub struct IntoIter<K, V> {
     inner: hash_map::IntoIter<K, V>,
@@ -232,8 +233,8 @@ impl<K: Drop, V: Drop> IntoIterator for IntoIter<K, V> {
     }
 }
 
-/// The keys of an [`NEMap`], at least one. A contract sees it as their list, in an order that is
-/// left open.
+/// A non-empty iterator over the keys of an [`NEMap`]. In contracts it is the list of the keys, in
+/// an unspecified order.
 #[derive(Drop)]
 pub struct Keys<'a, K, V> {
     pub(super) inner: hash_map::Keys<'a, K, V>,
@@ -270,8 +271,8 @@ impl<'a, K, V> IntoIterator for Keys<'a, K, V> {
     }
 }
 
-/// The values of an [`NEMap`], at least one. A contract sees it as their list, in the order of the
-/// keys.
+/// A non-empty iterator over the values of an [`NEMap`]. In contracts it is the list of the values,
+/// in the order of their keys.
 #[derive(Drop)]
 pub struct Values<'a, K, V> {
     pub(super) inner: hash_map::Values<'a, K, V>,

@@ -1,4 +1,4 @@
-//! What an [`NESet`] implements: conversions, clones, equality as a set, collecting, printing.
+//! The traits of an [`NESet`]: conversions, clones, equality as a set, collecting, printing.
 ghost use Rattle.std.specs.Prelude.{◌≡◌, ◌<◌, ◌↔◌, ◌++◌, IsTrue, MatchResult};
 ghost use Rattle.std.specs.HashSet.{hash_set_eq, hash_set_len, IsEmpty, IsSameSet, IsUnique};
 ghost use Rattle.ne_iter.specs.Collected.{IsSetOf};
@@ -12,20 +12,22 @@ use std::fmt;
 use std::fmt::Debug;
 use std::hash::{BuildHasher, Hash};
 
-/// To read what only a `HashSet` has. It cannot be written through.
+/// Returns the inner `HashSet`, for the methods that only a `HashSet` has. The set cannot be
+/// changed through it.
 impl<T: Eq + Hash, S: BuildHasher> AsRef<HashSet<T, S>> for NESet<T, S> {
     fn as_ref(&self) -> &HashSet<T, S>
         ensures same { result.now ≡ self.now }
         ensures unique { IsUnique T.eq self.now }
         ensures nonempty { 0 < hash_set_len self.now }
     {
-        // `len` says that no two items are equal.
+        // The contract of `len` says that no two items are equal.
         let _len = self.inner.len();
         &self.inner
     }
 }
 
-/// Equality of sets: each item of one is in the other. The order of the walks does not count.
+/// Compares sets: they are equal if each item of one is in the other. The order of iteration does
+/// not matter.
 impl<T: Eq + Hash, S: BuildHasher> PartialEq for NESet<T, S> {
     ghost use Rattle.std.specs.Cmp.{partial_equiv_from_equiv};
     ghost use Rattle.std.specs.HashSet.Eq.{hash_set_eq_equiv};
@@ -48,7 +50,7 @@ impl<T: Eq + Hash, S: BuildHasher> Eq for NESet<T, S> {
     ghost laws = { hash_set_eq_equiv T.Eq.laws };
 }
 
-/// Each item once.
+/// Collects items into a set that holds each of them once.
 impl<T: Eq + Hash + Drop, S: BuildHasher + Default + Drop> FromNonEmptyIterator<T> for NESet<T, S> {
     ghost use Rattle.std.specs.Prelude.{◌<◌, length};
 
@@ -63,7 +65,7 @@ impl<T: Eq + Hash + Drop, S: BuildHasher + Default + Drop> FromNonEmptyIterator<
     }
 }
 
-/// The set as it is, with its hasher, without the promise.
+/// Returns the inner `HashSet` unchanged, with its hasher. Its type no longer guarantees an item.
 impl<T: Eq + Hash, S: BuildHasher> From<NESet<T, S>> for HashSet<T, S> {
     ghost from_gives = { λ s t. (t ≡ s) × (0 < hash_set_len t) };
 
@@ -80,9 +82,9 @@ impl<T: Eq + Hash + Debug, S: BuildHasher> Debug for NESet<T, S> {
     }
 }
 
-/// The set as `try_from_set` has it, or `Error::Empty`, exactly where `set` is empty. It takes no
-/// memory and keeps the hasher; in the Rust crate the items are collected anew, with a default
-/// hasher.
+/// Converts a set as `try_from_set` does, and returns `Error::Empty` if and only if `set` is empty.
+/// It does not allocate and keeps the hasher; the Rust crate collects the items into a new set with
+/// a default hasher.
 impl<T: Eq + Hash + Drop, S: BuildHasher + Drop> TryFrom<HashSet<T, S>> for NESet<T, S> {
     ghost use Rattle.std.specs.Prelude.{Result};
 
@@ -98,7 +100,7 @@ impl<T: Eq + Hash + Drop, S: BuildHasher + Drop> TryFrom<HashSet<T, S>> for NESe
     }
 }
 
-/// By the inherent call `clone`.
+/// Calls the inherent method `clone`.
 impl<T: Eq + Hash + Clone, S: BuildHasher + Clone> Clone for NESet<T, S> {
     ghost is_clone = { IsCloneOfSet T.is_clone };
 
@@ -107,7 +109,7 @@ impl<T: Eq + Hash + Clone, S: BuildHasher + Clone> Clone for NESet<T, S> {
     }
 }
 
-/// One item, and then further ones by `insert`.
+/// Starts with one item, and adds each further item by `insert`.
 impl<T: Eq + Hash + Drop> Singleton for NESet<T> {
     ghost use Rattle.std.specs.Prelude.{◌<◌, length};
 
@@ -125,7 +127,7 @@ impl<T: Eq + Hash + Drop> Singleton for NESet<T> {
     }
 }
 
-/// By the inherent call `extend`.
+/// Calls the inherent method `extend`.
 impl<T: Eq + Hash + Drop, S: BuildHasher> Extend<T> for NESet<T, S> {
     ghost extend_gives = { λ s items t. IsSetOf T.eq (s.keys ++ items) t.keys
         × IsUnique T.eq t × (0 < hash_set_len t) };

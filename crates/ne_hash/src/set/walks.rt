@@ -1,5 +1,5 @@
-//! The walks over an [`NESet`] and over a union, which know that there is an item, and how a set
-//! and they become std's.
+//! The non-empty iterators over an [`NESet`] and over a union, and how a set and these iterators
+//! are turned into std's iterators.
 ghost use Rattle.std.specs.HashSet.{IsUnique};
 ghost use Rattle.std.specs.Map.Iter.{deref};
 ghost use Rattle.ne_iter.specs.KeyWalks.{KeysWalk, KeysWalkOut};
@@ -100,8 +100,8 @@ impl<'a, T: Eq + Hash, S: BuildHasher> IntoIterator for &'a NESet<T, S> {
     }
 }
 
-/// A walk over the items of an [`NESet`], at least one. A contract sees it as their list, in an
-/// order that is left open.
+/// A non-empty iterator over the items of an [`NESet`]. In contracts it is the list of the items,
+/// in an unspecified order.
 #[derive(Drop)]
 pub struct Iter<'a, T> {
     pub(super) inner: hash_set::Iter<'a, T>,
@@ -138,8 +138,8 @@ impl<'a, T> NonEmptyIterator for Iter<'a, T> {
     ghost not_empty = { λ xs it made. HasFirst-shown deref xs it made.0 made.1 };
 }
 
-/// The items of an [`NESet`], at least one, by value. A contract sees it as their list, in an order
-/// that is left open.
+/// A non-empty iterator over the items of an [`NESet`] by value. In contracts it is the list of the
+/// items, in an unspecified order.
 #[derive(Drop)]
 pub struct IntoIter<T> {
     inner: hash_set::IntoIter<T>,
@@ -175,8 +175,8 @@ impl<T: Drop> NonEmptyIterator for IntoIter<T> {
     ghost not_empty = { λ xs it made. HasFirst-shown (λ x. x) xs it made.0 made.1 };
 }
 
-/// The items of two sets, each once, at least one. A contract sees it as their list, in an order
-/// that is left open.
+/// A non-empty iterator over the items of two sets, each once. In contracts it is the list of the
+/// items, in an unspecified order.
 #[derive(Drop)]
 pub struct Union<'a, T: Eq + Hash, S: BuildHasher> {
     pub(super) inner: hash_set::Union<'a, T, S>,
@@ -207,8 +207,8 @@ impl<'a, T: Eq + Hash, S: BuildHasher> IntoIterator for Union<'a, T, S> {
     }
 }
 
-/// `next` is written out, since the borrow checker does not see that the trait's own body serves
-/// here; its contract is the trait's.
+/// `next` has a body of its own because the borrow checker does not accept the trait's default body
+/// here. Its contract is the trait's.
 impl<'a, T: Eq + Hash, S: BuildHasher> NonEmptyIterator for Union<'a, T, S> {
     ghost use Rattle.std.specs.Map.Iter.{deref};
     ghost use Rattle.ne_iter.specs.KeyWalkLaws.{HasFirst-shown};
