@@ -1,4 +1,4 @@
--- What pairs and items make in an index map or set, inserted in turn, one or many.
+-- What an index map or set holds after pairs or items are inserted, one or many.
 use mathlib.Core.List.{map-append}
 use Rattle.std.proofs.Common.{◌≡◌, ◌<◌, Bool, List, [], ◌∷◌, ◌++◌, length, refl, sym, ap, subst}
 use Rattle.std.proofs.Common.{◌∙◌, arith, is_some, length-append}
@@ -23,18 +23,18 @@ use Rattle.ne_index.specs.Puts.{put_item}
 use Rattle.ne_index.proofs.KeyLists.{first_seen-inserts, key_list-extended, key_list-made}
 use Rattle.ne_index.proofs.KeyLists.{key_list-put}
 
--- keys that are put in behind some leave some
+-- A list is not empty if its front is not empty.
 longer : {K : Type 0} (ks more ls : List K) → ls ≡ ks ++ more → 0 < length ks → 0 < length ls
 longer ks more ls is some = omega (arith, some, ap length is, length-append ks more)
 
--- a list of keys has a first one
+-- The key list of a non-empty list is not empty.
 some_key : {K : Type 0} (eq : K → K → Bool) (xs : List K) → 0 < length xs
     → 0 < length (key_list eq xs)
 some_key eq [] some = absurd (omega (arith, some))
 some_key eq (x ∷ xs) some = omega arith
 
 module _ {K V : Type 0} {eq : K → K → Bool} (laws : IsEquivalence eq) where
-  -- the keys of a map of pairs are those of the pairs
+  -- The keys of a map of pairs are the keys of the pairs.
   same_keys : (pairs es : List (K × V)) → IsMapOf eq pairs es
       → (q : K) → is_member eq (keys_of es) q ≡ is_member eq (keys_of pairs) q
   same_keys pairs es h q = sym (is_some-lookup (eq q) es)
@@ -43,7 +43,7 @@ module _ {K V : Type 0} {eq : K → K → Bool} (laws : IsEquivalence eq) where
       ∙ is_some-update_all laws q (λ _. None) pairs
 
 module _ {K V S : Type 0} {eq : K → K → Bool} (laws : IsEquivalence eq) where
-  -- `extend` makes the map of the entries followed by the pairs
+  -- `extend` makes the map of the entries followed by the pairs.
   module _ (m n : IndexMap K V S) (pairs : List (K × V)) (made : Extends eq m pairs n) where
     keys_made : keys_of n.entries ≡ set.insert_all eq (keys_of m.entries) (keys_of pairs)
     keys_made = ap keys_of made.0 ∙ keys_insert_all eq m.entries pairs
@@ -62,7 +62,7 @@ module _ {K V S : Type 0} {eq : K → K → Bool} (laws : IsEquivalence eq) wher
         (keys_of m.entries) (λ q. refl)) (subst (λ l. 0 < l) (sym (length-keys_of m.entries)) some)
         in subst (λ l. 0 < l) (length-keys_of n.entries) keys
 
-  -- what collecting makes of pairs of which there is one
+  -- What collecting makes of the pairs, if there is at least one.
   pub key_list_map-made : (pairs : List (K × V)) (n : IndexMap K V S) → 0 < length pairs
       → (n.entries ≡ insert_all eq [] pairs) × IsFromIterResult eq pairs n
       → IsKeyListMapOf eq pairs n.entries × (0 < index_map_len n)
@@ -82,7 +82,7 @@ module _ {K V S : Type 0} {eq : K → K → Bool} (laws : IsEquivalence eq) wher
         subst (λ l. 0 < l) (length-keys_of n.entries) keys,
       )
 
-  -- one pair more
+  -- The map after one more pair.
   pub key_list_map-put : (pairs : List (K × V)) (m n : IndexMap K V S) (p : K × V) → IsUnique eq n
       → keys_of n.entries ≡ put_item eq (keys_of m.entries) p.0 → Updates eq m n p.0 (Some p.1)
       → IsKeyListMapOf eq pairs m.entries → IsKeyListMapOf eq (pairs ++ p ∷ []) n.entries
@@ -94,7 +94,7 @@ module _ {K V S : Type 0} {eq : K → K → Bool} (laws : IsEquivalence eq) wher
   )
 
 module _ {K S : Type 0} {eq : K → K → Bool} (laws : IsEquivalence eq) where
-  -- `extend` makes the set of the items followed by the new ones
+  -- `extend` makes the set of the items followed by the new ones.
   module _ (s t : IndexSet K S) (xs : List K) (made : set.Extends eq s xs t) where
     pub key_list_set-extends : set.IsUnique eq s → IsKeyListSetOf eq (s.keys ++ xs) t.keys
     key_list_set-extends d = (
@@ -106,7 +106,7 @@ module _ {K S : Type 0} {eq : K → K → Bool} (laws : IsEquivalence eq) where
     nonempty_set-extends some = longer s.keys _ t.keys
         (made.0 ∙ first_seen-inserts laws s.keys xs s.keys (λ q. refl)) some
 
-  -- what collecting makes of items of which there is one
+  -- What collecting makes of the items, if there is at least one.
   pub key_list_set-made : (xs : List K) (t : IndexSet K S) → 0 < length xs
       → (t.keys ≡ set.insert_all eq [] xs) × set.IsFromIterResult eq xs t
       → IsKeyListSetOf eq xs t.keys × (0 < index_set_len t)
@@ -116,7 +116,7 @@ module _ {K S : Type 0} {eq : K → K → Bool} (laws : IsEquivalence eq) where
         subst (λ l. 0 < length l) (sym listed) (some_key eq xs some),
       )
 
-  -- one item more
+  -- The set after one more item.
   pub key_list_set-put : (xs : List K) (s t : IndexSet K S) (x : K) → set.IsUnique eq t
       → t.keys ≡ put_item eq s.keys x → set.Updates eq s t x true
       → IsKeyListSetOf eq xs s.keys → IsKeyListSetOf eq (xs ++ x ∷ []) t.keys

@@ -1,4 +1,4 @@
--- Keys that are put in one by one stand as their key list.
+-- Keys that are inserted one by one are their key list.
 use Rattle.std.proofs.Common.{◌≡◌, Bool, true, false, cond, ◌||◌, List, [], ◌∷◌, ◌++◌, refl}
 use Rattle.std.proofs.Common.{sym, ap, subst, ◌∙◌, append_assoc, append-nil, if◌then◌else◌}
 use Rattle.std.proofs.lemmas.Map.Keys.{IsDistinct-push}
@@ -28,7 +28,7 @@ one_behind t (x ∷ xs) y = by (t x) (one_behind t xs y)
     by false h = h
 
 module _ {K : Type 0} {eq : K → K → Bool} (laws : IsEquivalence eq) where
-  -- a key that is there adds nothing
+  -- A key that is already there adds no member.
   again : (before : List K) (k q : K) → is_member eq before k ≡ true
       → (is_member eq before q || eq q k) ≡ is_member eq before q
   again before k q there = by (eq q k) refl
@@ -37,7 +37,7 @@ module _ {K : Type 0} {eq : K → K → Bool} (laws : IsEquivalence eq) where
       by true e = rw (list_any_congr laws q k before e ∙ there) refl
       by false e = or_false (is_member eq before q)
 
-  -- keys that are put in behind others: `before` are keys that have those alone among them
+  -- Keys that are inserted after the keys `ks`. The keys `before` have the same members as `ks`.
   pub first_seen-inserts : (ks xs before : List K)
       → ((q : K) → is_member eq before q ≡ is_member eq ks q)
       → insert_all eq ks xs ≡ ks ++ first_seen eq before xs
@@ -67,17 +67,17 @@ module _ {K : Type 0} {eq : K → K → Bool} (laws : IsEquivalence eq) where
           ∙ ap (λ l. l ++ first_seen eq (before ++ x ∷ []) xs) grows
           ∙ append_assoc ks (x ∷ []) (first_seen eq (before ++ x ∷ []) xs)
 
-  -- keys that differ, and others put in behind them, are the key list of all
+  -- Distinct keys, with others inserted after them, are the key list of all of them.
   pub key_list-extended : (ks xs : List K) → IsDistinct eq ks
       → insert_all eq ks xs ≡ key_list eq (ks ++ xs)
   key_list-extended ks xs d = first_seen-inserts ks xs ks (λ q. refl)
       ∙ sym (first_seen-distinct laws [] ks xs d)
 
-  -- keys that are put in alone
+  -- Keys that are inserted into an empty list are their key list.
   pub key_list-made : (xs : List K) → insert_all eq [] xs ≡ key_list eq xs
   key_list-made xs = first_seen-inserts [] xs [] (λ q. refl)
 
-  -- one key put in
+  -- The members after one key is inserted.
   put_members : (ks : List K) (x q : K)
       → is_member eq (insert_key eq ks x) q ≡ (is_member eq ks q || eq q x)
   put_members ks x q = by (is_member eq ks x) refl
@@ -114,13 +114,14 @@ module _ {K : Type 0} {eq : K → K → Bool} (laws : IsEquivalence eq) where
   unfolding IsDistinct
   none_distinct = tt
 
-  -- the key list of items is their set
+  -- The key list of items is their set.
   pub key_list-set : (xs : List K) → IsSetOf eq xs (key_list eq xs)
   key_list-set xs = subst (IsSetOf eq xs) (key_list-made xs)
       (all_distinct [] xs none_distinct, λ q. all_members [] xs q)
 
 module _ {K : Type 0} (eq : K → K → Bool) where
-  -- keys behind others
+  -- The keys that are first seen in two lists, one after the other: those of the first, then the
+  -- new ones of the second.
   first_seen-behind : (before ks more : List K)
       → first_seen eq before (ks ++ more)
       ≡ first_seen eq before ks ++ first_seen eq (before ++ ks) more
@@ -141,7 +142,7 @@ module _ {K : Type 0} (eq : K → K → Bool) where
       by true h = h
       by false h = ap (λ l. x ∷ l) h
 
-  -- the key list of a list begins with that of its front
+  -- The key list of a list begins with the key list of its front.
   pub key_list-front : (front more : List K)
       → key_list eq (front ++ more) ≡ key_list eq front ++ first_seen eq front more
   key_list-front front more = first_seen-behind [] front more
@@ -151,7 +152,7 @@ module _ {K : Type 0} (eq : K → K → Bool) where
   joins true ks k = sym (append-nil ks)
   joins false ks k = refl
 
-  -- the key list with one key more, of keys that have the same among them
+  -- The key list after one more key, if `ks` and `xs` have the same members.
   pub key_list-put : (xs ks : List K) (x : K)
       → ((q : K) → is_member eq ks q ≡ is_member eq xs q) → ks ≡ key_list eq xs
       → put_item eq ks x ≡ key_list eq (xs ++ x ∷ [])

@@ -1,4 +1,4 @@
--- One pair or item put in, as the crate `indexmap` does it.
+-- Inserting one pair or item, as the crate `indexmap` does it.
 use Rattle.std.proofs.Common.{◌≡◌, Bool, true, false, cond, not, ◌||◌, List, [], ◌∷◌}
 use Rattle.std.proofs.Common.{◌++◌, if◌then◌else◌, refl, sym, ap, subst, ◌∙◌}
 use Rattle.std.proofs.Common.{Option, None, Some, is_some, true≢false}
@@ -43,7 +43,7 @@ module _ {K : Type 0} (eq : K → K → Bool) where
       by false true h = ap (λ l. y ∷ l) h
       by false false h = ap (λ l. y ∷ l) h
 
-  -- where the old value that came back tells whether the key was there
+  -- The old value that is returned says whether the key was already there.
   module _ {V S : Type 0} (m : IndexMap K V S) (k : K) (v : V) (old : Option V)
       (es : List (K × V)) where
     pub new-last : old ≡ get eq m k → es ≡ insert_entry eq m.entries k v
@@ -68,7 +68,7 @@ module _ {K : Type 0} (eq : K → K → Bool) where
       by true h = refl
       by false h = h
 
-  -- where an item that is new tells so
+  -- If `added` says that the item is new, it is the last one.
   pub item-last : (xs : List K) (x : K) (added : Bool) (ys : List K)
       → added ≡ not (is_member eq xs x) → ys ≡ (if is_member eq xs x then xs else xs ++ x ∷ [])
       → OnTrue added (ys ≡ xs ++ x ∷ [])
@@ -80,7 +80,7 @@ module _ {K : Type 0} (eq : K → K → Bool) where
       by true true is made = absurd (true≢false is)
       by false true is made = made
 
-  -- and where none came back
+  -- If no old item is returned, the new item is the last one.
   pub replaced-last : (xs : List K) (x : K) (old : Option K) (ys : List K)
       → old ≡ find (eq x) xs → ys ≡ replace_key eq xs x → IfNone old (ys ≡ xs ++ x ∷ [])
   replaced-last xs x old ys is made = by old is

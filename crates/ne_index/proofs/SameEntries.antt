@@ -1,4 +1,4 @@
--- What the same pairs make is the same: entries with the same keys and the same values.
+-- Entries made from the same pairs are the same: they have the same keys and the same values.
 use Rattle.std.proofs.Common.{◌≡◌, ◌∙◌, Bool, true, false, cond, List, [], ◌∷◌, length, refl}
 use Rattle.std.proofs.Common.{sym, ap, ap₂, subst, arith, None, Some}
 use Rattle.std.proofs.lemmas.Map.Keys.{IsDistinct-head, IsDistinct-tail}
@@ -8,7 +8,7 @@ use Rattle.std.specs.Map.{keys_of, lookup}
 use Rattle.ne_iter.specs.KeyList.{IsKeyListMapOf}
 
 module _ {K V : Type 0} {eq : K → K → Bool} (laws : IsEquivalence eq) where
-  -- a key that none of the entries has
+  -- A key that no entry has is not found.
   apart : (k q : K) (es : List (K × V)) → eq q k ≡ true
       → AllByRecursion (λ y. eq k y ≡ false) (keys_of es) → lookup (eq q) es ≡ None
   apart k q [] same h = refl
@@ -47,7 +47,7 @@ module _ {K V : Type 0} {eq : K → K → Bool} (laws : IsEquivalence eq) where
           sym (ap (λ b. cond b (Some f.1) (lookup (eq q) fs)) other_f) ∙ values q
           ∙ ap (λ b. cond b (Some e.1) (lookup (eq q) es)) other
 
-  -- two lists of entries that the same pairs make
+  -- Two lists of entries that the same pairs make are the same.
   pub one_key_list_map : (pairs es fs : List (K × V)) → IsKeyListMapOf eq pairs es
       → IsKeyListMapOf eq pairs fs → fs ≡ es
   one_key_list_map pairs es fs a b = same_entries es fs (b.0 ∙ sym a.0) a.1.0

@@ -1,4 +1,4 @@
--- A walk over a union shows the items that it has before it.
+-- An iterator over a union shows the items that it has left.
 use Rattle.std.proofs.Common.{subst, ◌≡◌, ◌∙◌, List, map}
 use Rattle.std.specs.Map.Iter.{TakesFirst, deref}
 use Rattle.ne_vec.specs.Fronts.{AreFirst, Shows}

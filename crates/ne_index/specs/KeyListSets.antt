@@ -1,4 +1,5 @@
--- When items are the set of the items of a list, in the order in which they come first in it.
+-- When a list of keys is the set of the items of another list, in the order in which they first
+-- appear there.
 use Rattle.std.specs.Prelude.{◌≡◌, Bool, List}
 use Rattle.ne_iter.specs.Collected.{IsSetOf}
 use Rattle.ne_iter.specs.KeyList.{key_list}

@@ -1,9 +1,9 @@
--- When two index maps are the same map, up to the equality of keys and of values, in any order.
+-- When two index maps are the same map, up to equality of keys and values, in any order.
 use Rattle.std.specs.Prelude.{◌≡◌, Bool, true}
 use Rattle.std.specs.Option.{option_eq}
 use Rattle.indexmap.specs.IndexMap.{IndexMap, get}
 
--- Each key is in both or in neither, and then with equal values.
+-- Each key is in both maps or in neither. If it is in both, its values are equal.
 abbrev pub IsSameMap : {K V S : Type 0} → (K → K → Bool) → (V → V → Bool) → IndexMap K V S
     → IndexMap K V S → Type 0
 IsSameMap {K} eq_key eq_value m n = (q : K)

@@ -1,8 +1,8 @@
-//! Index maps that hold at least one key, their walks, and what they implement.
+//! Index maps that hold at least one key, their iterators, and the traits that they implement.
 //!
-//! An [`NEIndexMap`] walks in the order in which its keys were put in, and each key has its place.
-//! Look-ups go by `Eq` and `Hash` of the keys, and a key that is there stays as it is, in its
-//! place, where an equal one is inserted.
+//! An [`NEIndexMap`] iterates in the order in which its keys were inserted, and each key has an
+//! index. Keys are looked up by `Eq` and `Hash`. A key that is in the map stays as it is, at its
+//! index, if an equal one is inserted.
 ghost use Rattle.std.specs.Prelude.{◌≡◌, ◌+◌, ◌-◌, ◌<◌, ◌≤◌, ◌^◌, ◌++◌, [], ◌∷◌, None, Some, false};
 ghost use Rattle.std.specs.Prelude.{if◌then◌else◌, is_some, slice_get, IfOk, IfSome, IsSome};
 ghost use Rattle.std.specs.Prelude.{IfNone, IsOk, MatchOption, OnErr, OnOk};
@@ -35,15 +35,17 @@ use std::marker::Model;
 use std::num::NonZeroUsize;
 pub use walks::{IntoIter, Iter, Keys, Values};
 
-/// An index map that holds at least one key, after the crate `indexmap`'s [`IndexMap`].
+/// An index map that holds at least one key. It wraps [`IndexMap`] of the crate `indexmap`.
 ///
-/// A contract sees it as the record of the map inside: `m.entries` are the pairs in the map's
-/// order, `get K.eq m k` is the value of the key `k`, `hasher_of m` is the builder of the hashers,
-/// and `IsUnique K.eq m` says that no two keys are equal.
+/// In contracts it is the record of the inner map: `m.entries` is the list of the pairs in the
+/// map's order, `get K.eq m k` is the value of the key `k`, `hasher_of m` is the hasher, and
+/// `IsUnique K.eq m` says that no two keys are equal.
 ///
-/// The default hasher has a fixed seed, where the Rust crate's is `RandomState`. Where strangers
-/// choose the keys, make the map by `with_hasher` with `RandomState`. Equality, hashes and clones
-/// of keys and values are taken to be lawful where a clause says so.
+/// The default hasher has a fixed seed; the Rust crate's default is `RandomState`. If untrusted
+/// users can choose the keys, create the map by `with_hasher` with `RandomState`.
+///
+/// Equality, hashing and clones of keys and values are assumed to be lawful only where a clause
+/// says so.
 #[derive(Drop)]
 pub struct NEIndexMap<K: Eq + Hash, V, S: BuildHasher = BuildHasherDefault<FoldHasher>> {
     inner: IndexMap<K, V, S>,
@@ -64,7 +66,7 @@ impl<K: Eq + Hash, V, S: BuildHasher> Model for NEIndexMap<K, V, S> {
 }
 
 impl<K: Eq + Hash, V, S: BuildHasher> NEIndexMap<K, V, S> {
-    /// How many keys the map can hold before it has to grow: at least as many as there are.
+    /// Returns how many keys the map has room for, which is at least `len`.
     pub fn capacity(&self) -> NonZeroUsize
         ensures room { non_zero_usize_get result ≡ index_map_len self.now + spare self.now }
         ensures at_least_len { index_map_len self.now ≤ non_zero_usize_get result }
@@ -72,14 +74,14 @@ impl<K: Eq + Hash, V, S: BuildHasher> NEIndexMap<K, V, S> {
         NonZeroUsize::new(self.inner.capacity()).unwrap()
     }
 
-    /// The builder of the map's hashers.
+    /// Returns the hasher that the map was created with.
     pub fn hasher(&self) -> &S
         ensures { result.now ≡ hasher_of self.now }
     {
         self.inner.hasher()
     }
 
-    /// The crate `indexmap`'s walk over the pairs, in the map's order.
+    /// Returns the crate `indexmap`'s iterator over the pairs, in the map's order.
     pub fn iter(&self) -> map::Iter<'_, K, V>
         ensures rest { result ≡ self.now.entries }
         ensures runs { ShowsInOrder (deref_pair {K = K} {X = V}) }
@@ -91,7 +93,7 @@ impl<K: Eq + Hash, V, S: BuildHasher> NEIndexMap<K, V, S> {
         self.inner.iter()
     }
 
-    /// The walk over the pairs, in the map's order, that knows that there is one.
+    /// Returns a non-empty iterator over the pairs, in the map's order.
     pub fn nonempty_iter(&self) -> Iter<'_, K, V>
         ensures entries { result ≡ self.now.entries }
         ensures shows { KeyWalkShows (deref_pair {K = K} {X = V}) result self.now.entries }
@@ -103,7 +105,7 @@ impl<K: Eq + Hash, V, S: BuildHasher> NEIndexMap<K, V, S> {
         }
     }
 
-    /// The keys, in the map's order, at least one.
+    /// Returns a non-empty iterator over the keys, in the map's order.
     pub fn keys(&self) -> Keys<'_, K, V>
         ensures keys { result ≡ keys self.now }
         ensures shows { KeyWalkShows (deref {X = K}) result (keys self.now) }
@@ -116,7 +118,7 @@ impl<K: Eq + Hash, V, S: BuildHasher> NEIndexMap<K, V, S> {
         }
     }
 
-    /// How many keys there are, at least 1.
+    /// Returns the number of keys, which is at least 1.
     pub fn len(&self) -> NonZeroUsize
         ensures len { non_zero_usize_get result ≡ index_map_len self.now }
         ensures unique { IsUnique K.eq self.now }
@@ -125,18 +127,18 @@ impl<K: Eq + Hash, V, S: BuildHasher> NEIndexMap<K, V, S> {
         NonZeroUsize::new(self.inner.len()).unwrap()
     }
 
-    /// `false`: there is a key.
+    /// Returns `false`: the map always holds a key.
     ///
-    /// It is there for code that is written for `IndexMap` too. In the Rust crate it is deprecated.
+    /// It exists for code that also works with `IndexMap`. It is deprecated in the Rust crate.
     pub fn is_empty(&self) -> bool
         ensures never { result ≡ false }
         ensures nonempty { 0 < index_map_len self.now }
     {
-        let _ = &self.inner; // the invariant is known where a field is used
+        let _ = &self.inner; // the invariant is known once a field is used
         false
     }
 
-    /// The values, in the order of their keys, at least one.
+    /// Returns a non-empty iterator over the values, in the order of their keys.
     pub fn values(&self) -> Values<'_, K, V>
         ensures values { result ≡ values self.now }
         ensures shows { KeyWalkShows (deref {X = V}) result (values self.now) }
@@ -147,14 +149,14 @@ impl<K: Eq + Hash, V, S: BuildHasher> NEIndexMap<K, V, S> {
         }
     }
 
-    /// The first pair.
+    /// Returns the first pair.
     pub fn first(&self) -> (&K, &V)
         ensures { slice_get self.now.entries 0 ≡ Some (deref_pair result) }
     {
         self.inner.first().unwrap()
     }
 
-    /// The last pair, which is the first one where there is no other.
+    /// Returns the last pair, which is also the first if there is no other.
     pub fn last(&self) -> (&K, &V)
         ensures { slice_get self.now.entries (index_map_len self.now - 1)
             ≡ Some (deref_pair result) }
@@ -164,9 +166,9 @@ impl<K: Eq + Hash, V, S: BuildHasher> NEIndexMap<K, V, S> {
 }
 
 impl<K: Eq + Hash, V> NEIndexMap<K, V> {
-    /// The map of one key.
+    /// Creates a map that holds the key `k` with the value `v`, with the default hasher.
     ///
-    /// `AllocError` where there is no memory for it; the pair is then dropped.
+    /// Returns `AllocError` if the allocation fails; the pair is then dropped.
     pub fn new(alloc: Global, k: K, v: V) -> Result<Self, AllocError>
     where
         K: Drop,
@@ -178,10 +180,11 @@ impl<K: Eq + Hash, V> NEIndexMap<K, V> {
         NEIndexMap::with_hasher(alloc, BuildHasherDefault::new(), k, v)
     }
 
-    /// The map of one key, with room for `capacity` of them.
+    /// Creates a map that holds the key `k` with the value `v`, with the default hasher and room
+    /// for at least `capacity` keys, `k` included.
     ///
-    /// `AllocError` where there is no memory for it, or where `capacity` is more than can be asked
-    /// for; the pair is then dropped.
+    /// Returns `AllocError` if the allocation fails or if `capacity` is more than can be allocated;
+    /// the pair is then dropped.
     pub fn with_capacity(
         alloc: Global,
         capacity: NonZeroUsize,
@@ -202,7 +205,8 @@ impl<K: Eq + Hash, V> NEIndexMap<K, V> {
 }
 
 impl<K: Eq + Hash, V, S: BuildHasher> NEIndexMap<K, V, S> {
-    /// The map as it is, with its hasher, or `None`, exactly where it is empty. It takes no memory.
+    /// Returns the map as a non-empty map, or `None` if and only if it is empty. The entries and
+    /// the hasher stay as they are, and nothing is allocated.
     pub fn try_from_map(map: IndexMap<K, V, S>) -> Option<Self>
     where
         K: Drop,
@@ -214,20 +218,20 @@ impl<K: Eq + Hash, V, S: BuildHasher> NEIndexMap<K, V, S> {
         if map.is_empty() {
             None
         } else {
-            // `len` says that the keys are unique.
+            // The contract of `len` says that no two keys are equal.
             let _len = map.len();
             Some(NEIndexMap { inner: map })
         }
     }
 
-    /// Whether there is an equal key.
+    /// Returns whether the map holds a key equal to `k`.
     pub fn contains_key(&self, k: &K) -> bool
         ensures { result ≡ is_some (get K.eq self.now k.now) }
     {
         self.inner.contains_key(k)
     }
 
-    /// The value of the equal key, if there is one.
+    /// Returns the value of the key equal to `k`, or `None` if there is no such key.
     pub fn get(&self, k: &K) -> Option<&V>
         ensures value { option_copied result ≡ get K.eq self.now k.now }
         ensures member { IfSome result (λ v. IsAmong (values self.now) v.now) }
@@ -235,7 +239,8 @@ impl<K: Eq + Hash, V, S: BuildHasher> NEIndexMap<K, V, S> {
         self.inner.get(k)
     }
 
-    /// The equal key and its value, if there is one: the key as it is in the map.
+    /// Returns the key equal to `k`, as it is in the map, and its value, or `None` if there is no
+    /// such key.
     pub fn get_key_value(&self, k: &K) -> Option<(&K, &V)>
         ensures key { option_map (λ p. p.0.now) result ≡ get_key K.eq self.now k.now }
         ensures value { option_map (λ p. p.1.now) result ≡ get K.eq self.now k.now }
@@ -243,8 +248,8 @@ impl<K: Eq + Hash, V, S: BuildHasher> NEIndexMap<K, V, S> {
         self.inner.get_key_value(k)
     }
 
-    /// The value of the equal key for writing, if there is one. The keys stay in their places, and
-    /// the other values stay.
+    /// Returns a mutable reference to the value of the key equal to `k`, or `None` if there is no
+    /// such key. The keys, their indices and the other values do not change.
     pub fn get_mut(&mut self, k: &K) -> Option<&mut V>
         ensures* writes_back { sem 𝓛 (LendsValue K.row V.row S.row S.Hasher.row K.Hash
             S.BuildHasher S.Hasher.Hasher self.entry k.now result) }
@@ -255,7 +260,7 @@ impl<K: Eq + Hash, V, S: BuildHasher> NEIndexMap<K, V, S> {
         self.inner.get_mut(k)
     }
 
-    /// The place of the equal key, if there is one.
+    /// Returns the index of the key equal to `k`, or `None` if there is no such key.
     pub fn get_index_of(&self, k: &K) -> Option<usize>
         ensures place { result ≡ index_of K.eq self.now k.now }
         ensures found { is_some result ≡ is_some (get K.eq self.now k.now) }
@@ -267,12 +272,12 @@ impl<K: Eq + Hash, V, S: BuildHasher> NEIndexMap<K, V, S> {
         self.inner.get_index_of(k)
     }
 
-    /// Puts a value at a key. Where an equal key is there, it stays in its place and takes the
-    /// value, and its old one comes back; the key that was handed in is dropped. A new key stands
-    /// last.
+    /// Inserts a key and its value, and returns the old value of an equal key, or `None` if the key
+    /// is new. An equal key that is in the map stays there, at its index, and takes the new value,
+    /// and `k` is dropped. A new key is added at the end.
     ///
-    /// `AllocError` where the map has to grow, so only for a new key, and there is no memory for
-    /// it; the entries are then as they were, and the pair is dropped.
+    /// Returns `AllocError` if the map has to grow and the allocation fails. This can happen only
+    /// for a new key; the entries are then unchanged and the pair is dropped.
     pub fn insert(&mut self, k: K, v: V) -> Result<Option<V>, AllocError>
     where
         K: Drop,
@@ -295,9 +300,9 @@ impl<K: Eq + Hash, V, S: BuildHasher> NEIndexMap<K, V, S> {
         Ok(self.inner.insert(k, v)?)
     }
 
-    /// Gives back as much memory as it can. The map stays as it is.
+    /// Releases as much memory as it can. The entries, their order and the hasher do not change.
     ///
-    /// It is always `Ok`: a refusal leaves the room as it was.
+    /// It always returns `Ok`: if an allocation fails, the room stays as it was.
     pub fn shrink_to_fit(&mut self) -> Result<(), AllocError>
         ensures unchanged { IsUnchanged self.old self.new }
         ensures hasher { hasher_of self.new ≡ hasher_of self.old }
@@ -305,16 +310,17 @@ impl<K: Eq + Hash, V, S: BuildHasher> NEIndexMap<K, V, S> {
         ensures nonempty { 0 < index_map_len self.new }
         ensures succeeds { IsOk result }
     {
-        // `len` says that the keys are unique.
+        // The contract of `len` says that no two keys are equal.
         let _len = self.inner.len();
         self.inner.shrink_to_fit();
         Ok(())
     }
 
-    /// The map of one key, with room for `capacity` of them and the hashers of `hasher`.
+    /// Creates a map that holds the key `k` with the value `v`, with the hasher `hasher` and room
+    /// for at least `capacity` keys, `k` included.
     ///
-    /// `AllocError` where there is no memory for it, or where `capacity` is more than can be asked
-    /// for; the pair and `hasher` are then dropped.
+    /// Returns `AllocError` if the allocation fails or if `capacity` is more than can be allocated;
+    /// the hasher and the pair are then dropped.
     pub fn with_capacity_and_hasher(
         alloc: Global,
         capacity: NonZeroUsize,
@@ -338,9 +344,9 @@ impl<K: Eq + Hash, V, S: BuildHasher> NEIndexMap<K, V, S> {
         Ok(NEIndexMap { inner })
     }
 
-    /// The map of one key, with the hashers of `hasher`.
+    /// Creates a map that holds the key `k` with the value `v`, with the hasher `hasher`.
     ///
-    /// `AllocError` where there is no memory for it; the pair and `hasher` are then dropped.
+    /// Returns `AllocError` if the allocation fails; the hasher and the pair are then dropped.
     pub fn with_hasher(
         alloc: Global,
         hasher: S,
@@ -361,9 +367,9 @@ impl<K: Eq + Hash, V, S: BuildHasher> NEIndexMap<K, V, S> {
         Ok(NEIndexMap { inner })
     }
 
-    /// Exchanges the pairs at two places. All others stay where they are.
+    /// Swaps the pairs at the indices `a` and `b`. All other pairs stay where they are.
     ///
-    /// Both places have to be below `len`; in the Rust crate others panic.
+    /// Both indices must be less than `len`; the Rust crate panics on others.
     pub fn swap_indices(&mut self, a: usize, b: usize)
         requires a { a < index_map_len self.old }
         requires b { b < index_map_len self.old }
@@ -376,12 +382,12 @@ impl<K: Eq + Hash, V, S: BuildHasher> NEIndexMap<K, V, S> {
         self.inner.swap_indices(a, b);
     }
 
-    /// Inserts the pairs, in order: a key has the value of its last pair. A key that is there stays
-    /// as it is, in its place, and the new ones stand behind, in the order in which they come
-    /// first.
+    /// Inserts the pairs, in order. Each key has the value of its last pair. A key that is already
+    /// in the map stays as it is, at its index. New keys are added at the end, in the order in
+    /// which they first appear.
     ///
-    /// `AllocError` where the map has to grow and there is no memory for it; the pairs before are
-    /// then in, and the one at which it was refused is dropped.
+    /// Returns `AllocError` if the map has to grow and the allocation fails. The pairs before the
+    /// one that failed are then in the map, and that one is dropped.
     pub fn extend<I: IntoIterator<Item = (K, V)>>(&mut self, iter: I) -> Result<(), AllocError>
     where
         K: Drop,
@@ -399,16 +405,18 @@ impl<K: Eq + Hash, V, S: BuildHasher> NEIndexMap<K, V, S> {
         ensures unique { IsUnique K.eq self.new }
         ensures nonempty { 0 < index_map_len self.new }
     {
-        // `len` says that the keys are unique, also where no pair comes.
+        // The contract of `len` says that no two keys are equal, even if there are no pairs to
+        // insert.
         let _len = self.inner.len();
         self.inner.extend(iter)
     }
 
-    /// A map of clones, entry by entry: the same entries, where clones equal their originals.
+    /// Returns a map of clones, entry by entry. If clones equal their originals, it has the same
+    /// entries.
     ///
-    /// `AllocError` where there is no memory for it, or where a clone is refused; and, as `Clone`
-    /// has no law that a clone equals its original, where the clone of a key does not equal it or
-    /// hashes otherwise.
+    /// Returns `AllocError` if an allocation or a clone fails. No law says that a clone equals its
+    /// original; so this also returns `AllocError` if the clone of a key does not equal the key or
+    /// has another hash.
     pub fn clone(&self) -> Result<Self, AllocError>
     where
         K: Clone,
@@ -419,7 +427,7 @@ impl<K: Eq + Hash, V, S: BuildHasher> NEIndexMap<K, V, S> {
         ensures nonempty { IfOk result (λ m. 0 < index_map_len m) }
     {
         let inner = self.inner.clone()?;
-        // `len` says that the keys are unique.
+        // The contract of `len` says that no two keys are equal.
         let _len = inner.len();
         Ok(NEIndexMap { inner })
     }

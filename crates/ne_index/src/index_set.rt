@@ -1,7 +1,7 @@
-//! Index sets that hold at least one item, their walks, and what they implement.
+//! Index sets that hold at least one item, their iterators, and the traits that they implement.
 //!
-//! An [`NEIndexSet`] walks in the order in which its items were put in. Items count as the same by
-//! their `Eq` and `Hash`; of several equal ones the set holds one.
+//! An [`NEIndexSet`] iterates in the order in which its items were inserted. Items are looked up by
+//! `Eq` and `Hash`. Of several equal items the set holds one.
 ghost use Rattle.std.specs.Prelude.{◌≡◌, ◌+◌, ◌<◌, ◌≤◌, ◌^◌, ◌↔◌, ◌++◌, [], ◌∷◌, true, false, not};
 ghost use Rattle.std.specs.Prelude.{if◌then◌else◌, is_some, length, IfNone, IfOk, IsOk, IsTrue};
 ghost use Rattle.std.specs.Prelude.{MatchOption, OnErr, OnOk};
@@ -34,14 +34,14 @@ use std::marker::Model;
 use std::num::NonZeroUsize;
 pub use walks::{IntoIter, Iter, Union};
 
-/// An index set that holds at least one item, after the crate `indexmap`'s [`IndexSet`].
+/// An index set that holds at least one item. It wraps [`IndexSet`] of the crate `indexmap`.
 ///
-/// A contract sees it as the record of the set inside: `s.keys` are the items in the set's order,
-/// `contains T.eq s x` tells whether an item equal to `x` is there, `hasher_of s` is the builder of
-/// the hashers, and `IsUnique T.eq s` says that no two items are equal.
+/// In contracts it is the record of the inner set: `s.keys` is the list of the items in the set's
+/// order, `contains T.eq s x` says whether an item equal to `x` is in the set, `hasher_of s` is the
+/// hasher, and `IsUnique T.eq s` says that no two items are equal.
 ///
-/// The default hasher has a fixed seed, where the Rust crate's is `RandomState`. Where strangers
-/// choose the items, make the set by `with_hasher` with `RandomState`.
+/// The default hasher has a fixed seed; the Rust crate's default is `RandomState`. If untrusted
+/// users can choose the items, create the set by `with_hasher` with `RandomState`.
 #[derive(Drop)]
 pub struct NEIndexSet<T: Eq + Hash, S: BuildHasher = BuildHasherDefault<FoldHasher>> {
     inner: IndexSet<T, S>,
@@ -62,7 +62,7 @@ impl<T: Eq + Hash, S: BuildHasher> Model for NEIndexSet<T, S> {
 }
 
 impl<T: Eq + Hash, S: BuildHasher> NEIndexSet<T, S> {
-    /// How many items the set can hold before it has to grow: at least as many as there are.
+    /// Returns how many items the set has room for, which is at least `len`.
     pub fn capacity(&self) -> NonZeroUsize
         ensures room { non_zero_usize_get result ≡ index_set_len self.now + spare self.now }
         ensures at_least_len { index_set_len self.now ≤ non_zero_usize_get result }
@@ -70,14 +70,14 @@ impl<T: Eq + Hash, S: BuildHasher> NEIndexSet<T, S> {
         NonZeroUsize::new(self.inner.capacity()).unwrap()
     }
 
-    /// The builder of the set's hashers.
+    /// Returns the hasher that the set was created with.
     pub fn hasher(&self) -> &S
         ensures { result.now ≡ hasher_of self.now }
     {
         self.inner.hasher()
     }
 
-    /// The crate `indexmap`'s walk over the items, in the set's order.
+    /// Returns the crate `indexmap`'s iterator over the items, in the set's order.
     pub fn iter(&self) -> set::Iter<'_, T>
         ensures rest { result ≡ self.now.keys }
         ensures runs { ShowsInOrder (deref {X = T}) }
@@ -88,7 +88,7 @@ impl<T: Eq + Hash, S: BuildHasher> NEIndexSet<T, S> {
         self.inner.iter()
     }
 
-    /// The walk over the items, in the set's order, that knows that there is one.
+    /// Returns a non-empty iterator over the items, in the set's order.
     pub fn nonempty_iter(&self) -> Iter<'_, T>
         ensures keys { result ≡ self.now.keys }
         ensures shows { KeyWalkShows (deref {X = T}) result self.now.keys }
@@ -100,7 +100,7 @@ impl<T: Eq + Hash, S: BuildHasher> NEIndexSet<T, S> {
         }
     }
 
-    /// How many items there are, at least 1.
+    /// Returns the number of items, which is at least 1.
     pub fn len(&self) -> NonZeroUsize
         ensures len { non_zero_usize_get result ≡ index_set_len self.now }
         ensures unique { IsUnique T.eq self.now }
@@ -109,22 +109,22 @@ impl<T: Eq + Hash, S: BuildHasher> NEIndexSet<T, S> {
         NonZeroUsize::new(self.inner.len()).unwrap()
     }
 
-    /// `false`: there is an item.
+    /// Returns `false`: the set always holds an item.
     ///
-    /// It is there for code that is written for `IndexSet` too. In the Rust crate it is deprecated.
+    /// It exists for code that also works with `IndexSet`. It is deprecated in the Rust crate.
     pub fn is_empty(&self) -> bool
         ensures never { result ≡ false }
         ensures nonempty { 0 < index_set_len self.now }
     {
-        let _ = &self.inner; // the invariant is known where a field is used
+        let _ = &self.inner; // the invariant is known once a field is used
         false
     }
 }
 
 impl<T: Eq + Hash> NEIndexSet<T> {
-    /// The set of one item.
+    /// Creates a set that holds the item `value`, with the default hasher.
     ///
-    /// `AllocError` where there is no memory for it; the item is then dropped.
+    /// Returns `AllocError` if the allocation fails; the item is then dropped.
     pub fn new(alloc: Global, value: T) -> Result<Self, AllocError>
     where
         T: Drop,
@@ -135,10 +135,11 @@ impl<T: Eq + Hash> NEIndexSet<T> {
         NEIndexSet::with_hasher(alloc, BuildHasherDefault::new(), value)
     }
 
-    /// The set of one item, with room for `capacity` of them.
+    /// Creates a set that holds the item `value`, with the default hasher and room for at least
+    /// `capacity` items, `value` included.
     ///
-    /// `AllocError` where there is no memory for it, or where `capacity` is more than can be asked
-    /// for; the item is then dropped.
+    /// Returns `AllocError` if the allocation fails or if `capacity` is more than can be allocated;
+    /// the item is then dropped.
     pub fn with_capacity(
         alloc: Global,
         capacity: NonZeroUsize,
@@ -157,7 +158,8 @@ impl<T: Eq + Hash> NEIndexSet<T> {
 }
 
 impl<T: Eq + Hash, S: BuildHasher> NEIndexSet<T, S> {
-    /// The set as it is, with its hasher, or `None`, exactly where it is empty. It takes no memory.
+    /// Returns the set as a non-empty set, or `None` if and only if it is empty. The items and the
+    /// hasher stay as they are, and nothing is allocated.
     pub fn try_from_set(set: IndexSet<T, S>) -> Option<Self>
     where
         T: Drop,
@@ -168,21 +170,21 @@ impl<T: Eq + Hash, S: BuildHasher> NEIndexSet<T, S> {
         if set.is_empty() {
             None
         } else {
-            // `len` says that the items are unique.
+            // The contract of `len` says that no two items are equal.
             let _len = set.len();
             Some(NEIndexSet { inner: set })
         }
     }
 
-    /// Whether there is an equal item.
+    /// Returns whether the set holds an item equal to `value`.
     pub fn contains(&self, value: &T) -> bool
         ensures { result ≡ contains T.eq self.now value.now }
     {
         self.inner.contains(value)
     }
 
-    /// The items that are not in `other`, in this set's order. There may be none, so this is the
-    /// crate `indexmap`'s iterator.
+    /// Returns an iterator over the items that are not in `other`, in this set's order. There may
+    /// be none, so this is the crate `indexmap`'s iterator.
     pub fn difference<'a>(&'a self, other: &'a NEIndexSet<T, S>) -> set::Difference<'a, T, S>
         ensures items { result ≡ difference T.eq self.now other.now }
         ensures members { IsDifference T.eq self.now other.now result }
@@ -193,7 +195,7 @@ impl<T: Eq + Hash, S: BuildHasher> NEIndexSet<T, S> {
         self.inner.difference(&other.inner)
     }
 
-    /// The equal item, as it is in the set, if there is one.
+    /// Returns the item equal to `value`, as it is in the set, or `None` if there is no such item.
     pub fn get(&self, value: &T) -> Option<&T>
         ensures item { option_copied result ≡ get T.eq self.now value.now }
         ensures found { is_some result ≡ contains T.eq self.now value.now }
@@ -201,11 +203,11 @@ impl<T: Eq + Hash, S: BuildHasher> NEIndexSet<T, S> {
         self.inner.get(value)
     }
 
-    /// Puts an item in, and answers whether it is new. Where an equal one is there, that one stays
-    /// in its place, and the one that was handed in is dropped. A new one stands last.
+    /// Inserts an item, and returns whether it is new. An equal item that is in the set stays
+    /// there, at its index, and `value` is dropped. A new item is added at the end.
     ///
-    /// `AllocError` where the set has to grow, so only for a new item, and there is no memory for
-    /// it; the items are then as they were, and the new one is dropped.
+    /// Returns `AllocError` if the set has to grow and the allocation fails. This can happen only
+    /// for a new item; the items are then unchanged and the new one is dropped.
     pub fn insert(&mut self, value: T) -> Result<bool, AllocError>
     where
         T: Drop,
@@ -226,8 +228,8 @@ impl<T: Eq + Hash, S: BuildHasher> NEIndexSet<T, S> {
         Ok(self.inner.insert(value)?)
     }
 
-    /// The items that are in `other` too, in this set's order. There may be none, so this is the
-    /// crate `indexmap`'s iterator.
+    /// Returns an iterator over the items that are also in `other`, in this set's order. There may
+    /// be none, so this is the crate `indexmap`'s iterator.
     pub fn intersection<'a>(&'a self, other: &'a NEIndexSet<T, S>) -> set::Intersection<'a, T, S>
         ensures items { result ≡ intersection T.eq self.now other.now }
         ensures members { IsIntersection T.eq self.now other.now result }
@@ -238,31 +240,32 @@ impl<T: Eq + Hash, S: BuildHasher> NEIndexSet<T, S> {
         self.inner.intersection(&other.inner)
     }
 
-    /// Whether no item is in both sets.
+    /// Returns whether no item is in both sets.
     pub fn is_disjoint(&self, other: &NEIndexSet<T, S>) -> bool
         ensures { IsTrue result ↔ IsDisjoint T.eq self.now other.now }
     {
         self.inner.is_disjoint(&other.inner)
     }
 
-    /// Whether all items are in `other`.
+    /// Returns whether every item of this set is in `other`.
     pub fn is_subset(&self, other: &NEIndexSet<T, S>) -> bool
         ensures { IsTrue result ↔ IsSubset T.eq self.now other.now }
     {
         self.inner.is_subset(&other.inner)
     }
 
-    /// Whether all items of `other` are in this set.
+    /// Returns whether every item of `other` is in this set.
     pub fn is_superset(&self, other: &NEIndexSet<T, S>) -> bool
         ensures { IsTrue result ↔ IsSubset T.eq other.now self.now }
     {
         self.inner.is_superset(&other.inner)
     }
 
-    /// Puts an item in, in the place of an equal one, which comes back. A new one stands last.
+    /// Inserts an item in place of an equal one, and returns the replaced item, or `None` if the
+    /// item is new. A new item is added at the end.
     ///
-    /// `AllocError` where the set has to grow, so only for a new item, and there is no memory for
-    /// it; the items are then as they were, and the new one is dropped.
+    /// Returns `AllocError` if the set has to grow and the allocation fails. This can happen only
+    /// for a new item; the items are then unchanged and the new one is dropped.
     pub fn replace(&mut self, value: T) -> Result<Option<T>, AllocError>
     where
         T: Drop,
@@ -282,10 +285,11 @@ impl<T: Eq + Hash, S: BuildHasher> NEIndexSet<T, S> {
         Ok(self.inner.replace(value)?)
     }
 
-    /// Makes room for `additional` more items. The set stays as it is.
+    /// Makes room for at least `additional` more items. The items, their order and the hasher do
+    /// not change.
     ///
-    /// `AllocError` where there is no memory for them, or where they are more than can be asked
-    /// for.
+    /// Returns `AllocError` if the allocation fails or if `additional` is more than can be
+    /// allocated.
     pub fn reserve(&mut self, additional: usize) -> Result<(), AllocError>
         ensures room { OnOk result (additional ≤ spare self.new) }
         ensures unchanged { IsUnchanged self.old self.new }
@@ -296,9 +300,9 @@ impl<T: Eq + Hash, S: BuildHasher> NEIndexSet<T, S> {
         self.inner.reserve(additional)
     }
 
-    /// Gives back as much memory as it can. The set stays as it is.
+    /// Releases as much memory as it can. The items, their order and the hasher do not change.
     ///
-    /// It is always `Ok`: a refusal leaves the room as it was.
+    /// It always returns `Ok`: if an allocation fails, the room stays as it was.
     pub fn shrink_to_fit(&mut self) -> Result<(), AllocError>
         ensures unchanged { IsUnchanged self.old self.new }
         ensures hasher { hasher_of self.new ≡ hasher_of self.old }
@@ -306,14 +310,14 @@ impl<T: Eq + Hash, S: BuildHasher> NEIndexSet<T, S> {
         ensures nonempty { 0 < index_set_len self.new }
         ensures succeeds { IsOk result }
     {
-        // `len` says that the items are unique.
+        // The contract of `len` says that no two items are equal.
         let _len = self.inner.len();
         self.inner.shrink_to_fit();
         Ok(())
     }
 
-    /// The items of this set, in its order, and then those of `other` that it lacks, in the order
-    /// of `other`: at least one.
+    /// Returns a non-empty iterator over the items of this set, in its order, and then over those
+    /// of `other` that this set lacks, in the order of `other`.
     pub fn union<'a>(&'a self, other: &'a NEIndexSet<T, S>) -> Union<'a, T, S>
         ensures items { result ≡ union T.eq self.now other.now }
         ensures members { IsUnion T.eq self.now other.now result }
@@ -326,10 +330,11 @@ impl<T: Eq + Hash, S: BuildHasher> NEIndexSet<T, S> {
         }
     }
 
-    /// The set of one item, with room for `capacity` of them and the hashers of `hasher`.
+    /// Creates a set that holds the item `value`, with the hasher `hasher` and room for at least
+    /// `capacity` items, `value` included.
     ///
-    /// `AllocError` where there is no memory for it, or where `capacity` is more than can be asked
-    /// for; the item and `hasher` are then dropped.
+    /// Returns `AllocError` if the allocation fails or if `capacity` is more than can be allocated;
+    /// the hasher and the item are then dropped.
     pub fn with_capacity_and_hasher(
         alloc: Global,
         capacity: NonZeroUsize,
@@ -351,9 +356,9 @@ impl<T: Eq + Hash, S: BuildHasher> NEIndexSet<T, S> {
         Ok(NEIndexSet { inner })
     }
 
-    /// The set of one item, with the hashers of `hasher`.
+    /// Creates a set that holds the item `value`, with the hasher `hasher`.
     ///
-    /// `AllocError` where there is no memory for it; the item and `hasher` are then dropped.
+    /// Returns `AllocError` if the allocation fails; the hasher and the item are then dropped.
     pub fn with_hasher(alloc: Global, hasher: S, value: T) -> Result<NEIndexSet<T, S>, AllocError>
     where
         T: Drop,
@@ -368,11 +373,11 @@ impl<T: Eq + Hash, S: BuildHasher> NEIndexSet<T, S> {
         Ok(NEIndexSet { inner })
     }
 
-    /// Inserts the items, in order. One that is there stays as it is, in its place, and the new
-    /// ones stand behind, in the order in which they come first.
+    /// Inserts the items, in order. An item that is already in the set stays as it is, at its
+    /// index. New items are added at the end, in the order in which they first appear.
     ///
-    /// `AllocError` where the set has to grow and there is no memory for it; the items before are
-    /// then in, and the one at which it was refused is dropped.
+    /// Returns `AllocError` if the set has to grow and the allocation fails. The items before the
+    /// one that failed are then in the set, and that one is dropped.
     pub fn extend<I: IntoIterator<Item = T>>(&mut self, iter: I) -> Result<(), AllocError>
     where
         T: Drop,
@@ -389,16 +394,18 @@ impl<T: Eq + Hash, S: BuildHasher> NEIndexSet<T, S> {
         ensures unique { IsUnique T.eq self.new }
         ensures nonempty { 0 < index_set_len self.new }
     {
-        // `len` says that the items are unique, also where no item comes.
+        // The contract of `len` says that no two items are equal, even if there are no items to
+        // insert.
         let _len = self.inner.len();
         self.inner.extend(iter)
     }
 
-    /// A set of clones, item by item: the same items, where clones equal their originals.
+    /// Returns a set of clones, item by item. If clones equal their originals, it has the same
+    /// items.
     ///
-    /// `AllocError` where there is no memory for it, or where a clone is refused; and, as `Clone`
-    /// has no law that a clone equals its original, where the clone of an item does not equal it or
-    /// hashes otherwise.
+    /// Returns `AllocError` if an allocation or a clone fails. No law says that a clone equals its
+    /// original; so this also returns `AllocError` if the clone of an item does not equal the item
+    /// or has another hash.
     pub fn clone(&self) -> Result<Self, AllocError>
     where
         T: Clone,
@@ -408,7 +415,7 @@ impl<T: Eq + Hash, S: BuildHasher> NEIndexSet<T, S> {
         ensures nonempty { IfOk result (λ s. 0 < index_set_len s) }
     {
         let inner = self.inner.clone()?;
-        // `len` says that the items are unique.
+        // The contract of `len` says that no two items are equal.
         let _len = inner.len();
         Ok(NEIndexSet { inner })
     }

@@ -1,5 +1,5 @@
-//! The laws of index maps and sets. Each is the contract of a function that does nothing: a caller
-//! calls it, and then knows what it ensures.
+//! Laws of index maps and sets. Each law is the contract of a function that does nothing. A caller
+//! calls the function to use what it ensures.
 ghost use Rattle.std.specs.Prelude.{◌≡◌, ◌↔◌, ◌++◌, List, Ok, Result};
 ghost use Rattle.indexmap.specs.IndexMap.{IndexMap as Entries};
 ghost use Rattle.indexmap.specs.IndexSet.{IndexSet as Keys, IsSameSet};
@@ -13,8 +13,8 @@ use indexmap::IndexSet;
 use ne_iter::{FromNonEmptyIterator, Singleton};
 use std::hash::{BuildHasher, Hash};
 
-/// A set that was handed out as the crate `indexmap`'s and comes back is the same set, with the
-/// same hasher, and is never refused.
+/// A set that is converted into the crate `indexmap`'s set and back is the same set with the same
+/// hasher, and the conversion back never fails.
 pub fn index_sets_come_back<T: Eq + Hash + Drop, S: BuildHasher + Drop>()
     ensures { (s inner : Keys T S) (r : Result (Keys T S) Error)
         → ⟦<IndexSet<T, S> as From<NEIndexSet<T, S>>>⟧.from_gives s inner
@@ -22,21 +22,21 @@ pub fn index_sets_come_back<T: Eq + Hash + Drop, S: BuildHasher + Drop>()
         → r ≡ Ok s }
 {}
 
-/// Equality of index maps, as `==` tells it, is symmetric and transitive, whatever that of their
-/// values is. It leaves their order aside.
+/// Equality of index maps by `==` is symmetric and transitive for all values that implement
+/// `PartialEq`. It ignores the order of the entries.
 pub fn index_map_equality_is_symmetric_and_transitive<K: Eq + Hash, V: PartialEq, S: BuildHasher>()
     ensures symmetric { (m n : Entries K V S) → IsSameMap K.eq V.eq m n → IsSameMap K.eq V.eq n m }
     ensures transitive { (m n o : Entries K V S) → IsSameMap K.eq V.eq m n
         → IsSameMap K.eq V.eq n o → IsSameMap K.eq V.eq m o }
 {}
 
-/// Where each value equals itself, so does each index map.
+/// If each value equals itself, so does each index map.
 pub fn index_map_equality_is_reflexive<K: Eq + Hash, V: Eq, S: BuildHasher>()
     ensures { (m : Entries K V S) → IsSameMap K.eq V.eq m m }
 {}
 
-/// Equality of index sets, as `==` tells it, is reflexive, symmetric and transitive. It leaves
-/// their order aside.
+/// Equality of index sets by `==` is reflexive, symmetric and transitive. It ignores the order of
+/// the items.
 pub fn index_set_equality_is_an_equivalence<T: Eq + Hash, S: BuildHasher>()
     ensures reflexive { (s : Keys T S) → IsSameSet T.eq s s }
     ensures symmetric { (s t : Keys T S) → IsSameSet T.eq s t → IsSameSet T.eq t s }
@@ -44,8 +44,8 @@ pub fn index_set_equality_is_an_equivalence<T: Eq + Hash, S: BuildHasher>()
         → IsSameSet T.eq s u }
 {}
 
-/// What pairs make one by one, by `singleton` and then `extend_one`, is what they make where they
-/// are collected; and two maps that the same pairs make have the same entries, in the same order.
+/// Pairs that are added one by one, by `singleton` and then `extend_one`, make what they make when
+/// they are collected. Two maps made from the same pairs have the same entries, in the same order.
 pub fn index_maps_one_by_one_are_collected<K: Eq + Hash + Drop, V: Drop>()
     ensures same_word { (pairs : List (K × V)) (m : _)
         → ⟦<NEIndexMap<K, V> as Singleton>⟧.collected pairs m
@@ -57,8 +57,8 @@ pub fn index_maps_one_by_one_are_collected<K: Eq + Hash + Drop, V: Drop>()
         → n.entries ≡ m.entries }
 {}
 
-/// What items make one by one, by `singleton` and then `extend_one`, is what they make where they
-/// are collected; and two sets that the same items make have the same items, in the same order.
+/// Items that are added one by one, by `singleton` and then `extend_one`, make what they make when
+/// they are collected. Two sets made from the same items have the same items, in the same order.
 pub fn index_sets_one_by_one_are_collected<T: Eq + Hash + Drop>()
     ensures same_word { (items : List T) (s : _)
         → ⟦<NEIndexSet<T> as Singleton>⟧.collected items s
@@ -69,8 +69,8 @@ pub fn index_sets_one_by_one_are_collected<T: Eq + Hash + Drop>()
         → t.keys ≡ s.keys }
 {}
 
-/// A key list has each key of the list once and no other, and begins with the key list of each
-/// front of the list.
+/// A key list holds each key of its list once and no other. The key list of a list begins with the
+/// key list of each front of the list.
 pub fn key_lists_are_sets_in_order<K: Eq>()
     ensures once { (xs : List K) → IsSetOf K.eq xs (key_list K.eq xs) }
     ensures in_order { (front more : List K) → key_list K.eq (front ++ more)

@@ -1,12 +1,13 @@
-//! Index maps and sets that hold at least one item: they keep it in the order of insertion.
+//! Index maps and sets that hold at least one item, and keep their items in the order of insertion.
 //!
-//! This is a part of the port of `nonempty-collections`: its modules and the items in them have the
-//! Rust crate's names. The maps and sets are `IndexMap` and `IndexSet` of the crate `indexmap`. A
-//! new key stands last, and each has its place, from 0 on.
+//! This crate is a part of the port of `nonempty-collections`. Its modules and items have the names
+//! of the Rust crate. The maps and sets are `IndexMap` and `IndexSet` of the crate `indexmap`. A
+//! new key is added at the end, and each key has an index, from 0.
 //!
-//! A contract sees an [`NEIndexMap`] as the record of the map inside, whose `entries` stand in the
-//! map's order, and an [`NEIndexSet`] as that of the set, with its `keys`, so that std's words on
-//! hashed maps and sets serve. That there is an item is the types' invariant.
+//! In contracts, an [`NEIndexMap`] is the record of the inner map, whose `entries` are in the map's
+//! order, and an [`NEIndexSet`] is the record of the inner set, with its `keys`, so std's
+//! definitions for hashed maps and sets apply. The invariant of both types is that there is at
+//! least one item.
 #![tactic(auto)]
 
 pub mod index_map;

@@ -1,13 +1,14 @@
 //! The macros [`ne_indexmap!`](crate::ne_indexmap), [`neim!`](crate::neim) and
 //! [`neis!`](crate::neis).
 
-/// The map of the pairs that are written out, as `ne_indexmap![alloc; "a" => 1, "b" => 2]`: the
-/// keys in the order in which they come first, each with the value of its last pair.
+/// Creates a map from the pairs that are written out, as in `ne_indexmap![alloc; "a" => 1, "b" =>
+/// 2]`. The keys are in the order in which they first appear, each with the value of its last pair.
 ///
-/// It is a `Result`: `AllocError` where there is no memory for the pairs, which are then dropped.
-/// The expressions are evaluated from left to right, the allocator first, and none after a refusal.
-/// They hold no `return`, `break` or `?`. Without a pair the macro does not compile. The Rust
-/// crate's reserves room for all pairs; this one makes room as they come.
+/// Returns a `Result`: `AllocError` if an allocation fails; the pairs are then dropped. The
+/// expressions are evaluated from left to right, the allocator first, and none after a failed
+/// allocation. They must not contain `return`, `break` or `?`. Without a pair the macro does not
+/// compile. The Rust crate's macro reserves room for all pairs; this one makes room for each pair
+/// as it is inserted.
 ///
 /// ```
 /// let scores = ne_indexmap![alloc; "a" => 1, "b" => 2]?;
@@ -35,7 +36,7 @@ macro_rules! ne_indexmap {
     };
 }
 
-/// The same as [`ne_indexmap!`](crate::ne_indexmap), by a shorter name.
+/// Creates a map exactly as [`ne_indexmap!`](crate::ne_indexmap) does, under a shorter name.
 ///
 /// ```
 /// let scores = neim![alloc; "a" => 1, "b" => 2, "a" => 3]?;
@@ -47,12 +48,13 @@ macro_rules! neim {
     };
 }
 
-/// The set of the items that are written out, as `neis![alloc; 3, 1, 2]`, in their order: of
-/// several equal ones it holds the first.
+/// Creates a set from the items that are written out, as in `neis![alloc; 3, 1, 2]`, in their
+/// order. Of several equal items it holds the first.
 ///
-/// It is a `Result`: `AllocError` where there is no memory for the items, which are then dropped.
-/// The expressions are evaluated from left to right, the allocator first, and none after a refusal.
-/// They hold no `return`, `break` or `?`. Without an item the macro does not compile.
+/// Returns a `Result`: `AllocError` if an allocation fails; the items are then dropped. The
+/// expressions are evaluated from left to right, the allocator first, and none after a failed
+/// allocation. They must not contain `return`, `break` or `?`. Without an item the macro does not
+/// compile.
 ///
 /// ```
 /// let three = neis![alloc; 3, 1, 2]?;

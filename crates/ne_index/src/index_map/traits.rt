@@ -1,5 +1,5 @@
-//! What an [`NEIndexMap`] implements: conversions, clones, equality as a map, places, collecting,
-//! printing.
+//! The traits of an [`NEIndexMap`]: conversions, clones, equality as a map, access by index,
+//! collecting, printing.
 ghost use Rattle.std.specs.Prelude.{◌≡◌, ◌<◌, ◌↔◌, ◌++◌, IfOk, IsTrue, List, Some, slice_get, true};
 ghost use Rattle.std.specs.Cmp;
 ghost use Rattle.std.specs.Cmp.{partial_equiv_from_equiv};
@@ -27,20 +27,22 @@ impl<K: Eq + Hash + Debug, V: Debug, S: BuildHasher> Debug for NEIndexMap<K, V, 
     }
 }
 
-/// To read what only an `IndexMap` has. It cannot be written through.
+/// Returns the inner `IndexMap`, for the methods that only an `IndexMap` has. The map cannot be
+/// changed through it.
 impl<K: Eq + Hash, V, S: BuildHasher> AsRef<IndexMap<K, V, S>> for NEIndexMap<K, V, S> {
     fn as_ref(&self) -> &IndexMap<K, V, S>
         ensures same { result.now ≡ self.now }
         ensures unique { IsUnique K.eq self.now }
         ensures nonempty { 0 < index_map_len self.now }
     {
-        // `len` says that the keys are unique.
+        // The contract of `len` says that no two keys are equal.
         let _len = self.inner.len();
         &self.inner
     }
 }
 
-/// Equality of maps, in any order: each key is in both or in neither, and then with equal values.
+/// Compares maps: they are equal if each key is in both or in neither, and has equal values if it
+/// is in both. The order of the entries does not matter.
 impl<K: Eq + Hash, V: PartialEq, S: BuildHasher> PartialEq for NEIndexMap<K, V, S> {
     ghost eq = { index_map_eq K.eq V.eq };
 
@@ -64,7 +66,7 @@ impl<K: Eq + Hash, V: Eq, S: BuildHasher> Eq for NEIndexMap<K, V, S> {
     }) (hash_map_eq_refl K.eq V.eq v.refl) };
 }
 
-/// The map as it is, with its hasher, without the promise.
+/// Returns the inner `IndexMap` unchanged, with its hasher. Its type no longer guarantees a key.
 impl<K: Eq + Hash, V, S: BuildHasher> From<NEIndexMap<K, V, S>> for IndexMap<K, V, S> {
     ghost from_gives = { λ m n. (n ≡ m) × (0 < index_map_len n) };
 
@@ -74,7 +76,7 @@ impl<K: Eq + Hash, V, S: BuildHasher> From<NEIndexMap<K, V, S>> for IndexMap<K, 
     }
 }
 
-/// By the inherent call `clone`.
+/// Calls the inherent method `clone`.
 impl<K: Eq + Hash + Clone, V: Clone, S: BuildHasher + Clone> Clone for NEIndexMap<K, V, S> {
     ghost is_clone = { IsCloneOfMap K.is_clone V.is_clone };
 
@@ -83,8 +85,8 @@ impl<K: Eq + Hash + Clone, V: Clone, S: BuildHasher + Clone> Clone for NEIndexMa
     }
 }
 
-/// Each key once, in the order in which they come first, with the value of the last pair that has
-/// it.
+/// Collects pairs into a map that holds each key once, with the value of its last pair. The keys
+/// are in the order in which they first appear.
 impl<K: Eq + Hash + Drop, V: Drop, S: BuildHasher + Default + Drop> FromNonEmptyIterator<(K, V)>
     for NEIndexMap<K, V, S> {
     ghost use Rattle.std.specs.Prelude.{◌<◌, length};
@@ -100,7 +102,7 @@ impl<K: Eq + Hash + Drop, V: Drop, S: BuildHasher + Default + Drop> FromNonEmpty
     }
 }
 
-// The same, without the promise.
+// Collects pairs into an `IndexMap`, whose type does not guarantee a key.
 fn collected<
     K: Eq + Hash + Drop,
     V: Drop,
@@ -116,7 +118,8 @@ fn collected<
     iter.into_nonempty_iter().into_iter().collect(alloc)
 }
 
-/// The value at a place, from 0 on, which has to be below `len`; in the Rust crate another panics.
+/// Returns the value at an index, from 0. The index must be less than `len`; the Rust crate panics
+/// on others.
 impl<K: Eq + Hash, V> Index<usize> for NEIndexMap<K, V> {
     type Output = V;
 
@@ -132,7 +135,7 @@ impl<K: Eq + Hash, V> Index<usize> for NEIndexMap<K, V> {
     }
 }
 
-/// One pair, and then further ones by `insert`.
+/// Starts with one pair, and adds each further pair by `insert`.
 impl<K: Eq + Hash + Drop, V: Drop> Singleton for NEIndexMap<K, V> {
     ghost use Rattle.std.specs.Prelude.{◌<◌, length};
 
@@ -152,7 +155,7 @@ impl<K: Eq + Hash + Drop, V: Drop> Singleton for NEIndexMap<K, V> {
     }
 }
 
-/// By the inherent call `extend`.
+/// Calls the inherent method `extend`.
 impl<K: Eq + Hash + Drop, V: Drop, S: BuildHasher> Extend<(K, V)> for NEIndexMap<K, V, S> {
     ghost extend_gives = { λ m pairs n. IsKeyListMapOf K.eq (m.entries ++ pairs) n.entries
         × (hasher_of n ≡ hasher_of m) × (0 < index_map_len n) };

@@ -1,5 +1,5 @@
-//! The walks over an [`NEIndexMap`], which know that there is a pair, and how a map and they become
-//! those of the crate `indexmap`.
+//! The non-empty iterators over an [`NEIndexMap`], and how a map and these iterators are turned
+//! into iterators of the crate `indexmap`.
 ghost use Rattle.std.specs.Prelude.{◌≡◌, ⊤};
 ghost use Rattle.std.specs.Map.Iter.{deref, deref_pair};
 ghost use Rattle.indexmap.specs.IndexMap.{IsUnique};
@@ -107,8 +107,8 @@ impl<'a, K: Eq + Hash, V, S: BuildHasher> IntoIterator for &'a NEIndexMap<K, V, 
     }
 }
 
-/// A walk over the pairs of an [`NEIndexMap`], in the map's order, at least one. A contract
-/// sees it as their list.
+/// A non-empty iterator over the pairs of an [`NEIndexMap`], in the map's order. In contracts it is
+/// the list of the pairs.
 #[derive(Drop)]
 pub struct Iter<'a, K, V> {
     pub(super) inner: map::Iter<'a, K, V>,
@@ -145,7 +145,7 @@ impl<'a, K, V> IntoIterator for Iter<'a, K, V> {
     }
 }
 
-/// The same walk once more; it takes no memory, and is never refused.
+/// Returns a copy of the iterator. It does not allocate and never fails.
 impl<'a, K, V> Clone for Iter<'a, K, V> {
     ghost is_clone = { λ w x. x ≡ w };
 
@@ -158,8 +158,8 @@ impl<'a, K, V> Clone for Iter<'a, K, V> {
     }
 }
 
-/// The pairs of an [`NEIndexMap`], in the map's order, at least one, by value. A contract sees it
-/// as their list.
+/// A non-empty iterator over the pairs of an [`NEIndexMap`] by value, in the map's order. In
+/// contracts it is the list of the pairs.
 #[derive(Drop)]
 pub struct IntoIter<K, V> {
     inner: map::IntoIter<K, V>,
@@ -196,8 +196,8 @@ impl<K: Drop, V: Drop> IntoIterator for IntoIter<K, V> {
     }
 }
 
-/// The keys of an [`NEIndexMap`], in the map's order, at least one. A contract sees it as their
-/// list.
+/// A non-empty iterator over the keys of an [`NEIndexMap`], in the map's order. In contracts it is
+/// the list of the keys.
 #[derive(Drop)]
 pub struct Keys<'a, K, V> {
     pub(super) inner: map::Keys<'a, K, V>,
@@ -234,7 +234,7 @@ impl<'a, K, V> IntoIterator for Keys<'a, K, V> {
     }
 }
 
-/// The same walk once more; it takes no memory, and is never refused.
+/// Returns a copy of the iterator. It does not allocate and never fails.
 impl<'a, K, V> Clone for Keys<'a, K, V> {
     ghost is_clone = { λ w x. x ≡ w };
 
@@ -247,8 +247,8 @@ impl<'a, K, V> Clone for Keys<'a, K, V> {
     }
 }
 
-/// The values of an [`NEIndexMap`], in the order of their keys, at least one. A contract sees it as
-/// their list.
+/// A non-empty iterator over the values of an [`NEIndexMap`], in the order of their keys. In
+/// contracts it is the list of the values.
 #[derive(Drop)]
 pub struct Values<'a, K, V> {
     pub(super) inner: map::Values<'a, K, V>,
@@ -285,7 +285,7 @@ impl<'a, K, V> IntoIterator for Values<'a, K, V> {
     }
 }
 
-/// The same walk once more; it takes no memory, and is never refused.
+/// Returns a copy of the iterator. It does not allocate and never fails.
 impl<'a, K, V> Clone for Values<'a, K, V> {
     ghost is_clone = { λ w x. x ≡ w };
 

@@ -1,4 +1,4 @@
-//! What an [`NEIndexSet`] implements: conversions, clones, equality as a set, collecting, printing.
+//! The traits of an [`NEIndexSet`]: conversions, clones, equality as a set, collecting, printing.
 ghost use Rattle.std.specs.Prelude.{◌≡◌, ◌<◌, ◌↔◌, ◌++◌, IfOk, IsTrue, List, MatchResult, true};
 ghost use Rattle.std.specs.HashSet.Eq.{hash_set_eq_equiv};
 ghost use Rattle.std.specs.Cmp.{partial_equiv_from_equiv};
@@ -17,20 +17,22 @@ use std::fmt;
 use std::fmt::Debug;
 use std::hash::{BuildHasher, Hash};
 
-/// To read what only an `IndexSet` has. It cannot be written through.
+/// Returns the inner `IndexSet`, for the methods that only an `IndexSet` has. The set cannot be
+/// changed through it.
 impl<T: Eq + Hash, S: BuildHasher> AsRef<IndexSet<T, S>> for NEIndexSet<T, S> {
     fn as_ref(&self) -> &IndexSet<T, S>
         ensures same { result.now ≡ self.now }
         ensures unique { IsUnique T.eq self.now }
         ensures nonempty { 0 < index_set_len self.now }
     {
-        // `len` says that the items are unique.
+        // The contract of `len` says that no two items are equal.
         let _len = self.inner.len();
         &self.inner
     }
 }
 
-/// Equality of sets, in any order: each item of one is in the other.
+/// Compares sets: they are equal if each item of one is in the other. The order of the items does
+/// not matter.
 impl<T: Eq + Hash, S: BuildHasher> PartialEq for NEIndexSet<T, S> {
     ghost eq = { index_set_eq T.eq };
 
@@ -48,7 +50,7 @@ impl<T: Eq + Hash, S: BuildHasher> Eq for NEIndexSet<T, S> {
     ghost laws = { hash_set_eq_equiv T.Eq.laws };
 }
 
-/// Each item once, in the order in which they come first.
+/// Collects items into a set that holds each of them once, in the order in which they first appear.
 impl<T: Eq + Hash + Drop, S: BuildHasher + Default + Drop> FromNonEmptyIterator<T>
     for NEIndexSet<T, S> {
     ghost use Rattle.std.specs.Prelude.{◌<◌, length};
@@ -64,7 +66,7 @@ impl<T: Eq + Hash + Drop, S: BuildHasher + Default + Drop> FromNonEmptyIterator<
     }
 }
 
-// The same, without the promise.
+// Collects items into an `IndexSet`, whose type does not guarantee an item.
 fn collected<
     T: Eq + Hash + Drop,
     S: BuildHasher + Default + Drop,
@@ -79,7 +81,7 @@ fn collected<
     iter.into_nonempty_iter().into_iter().collect(alloc)
 }
 
-/// The set as it is, with its hasher, without the promise.
+/// Returns the inner `IndexSet` unchanged, with its hasher. Its type no longer guarantees an item.
 impl<T: Eq + Hash, S: BuildHasher> From<NEIndexSet<T, S>> for IndexSet<T, S> {
     ghost from_gives = { λ s t. (t ≡ s) × (0 < index_set_len t) };
 
@@ -96,8 +98,9 @@ impl<T: Eq + Hash + Debug, S: BuildHasher> Debug for NEIndexSet<T, S> {
     }
 }
 
-/// The set as `try_from_set` has it, or `Error::Empty`, exactly where `set` is empty. It takes no
-/// memory; in the Rust crate the items are collected anew, with a new hasher.
+/// Converts a set as `try_from_set` does, and returns `Error::Empty` if and only if `set` is empty.
+/// It does not allocate and keeps the hasher; the Rust crate collects the items into a new set with
+/// a new hasher.
 impl<T: Eq + Hash + Drop, S: BuildHasher + Drop> TryFrom<IndexSet<T, S>> for NEIndexSet<T, S> {
     ghost use Rattle.std.specs.Prelude.{Result};
 
@@ -113,7 +116,7 @@ impl<T: Eq + Hash + Drop, S: BuildHasher + Drop> TryFrom<IndexSet<T, S>> for NEI
     }
 }
 
-/// By the inherent call `clone`.
+/// Calls the inherent method `clone`.
 impl<T: Eq + Hash + Clone, S: BuildHasher + Clone> Clone for NEIndexSet<T, S> {
     ghost is_clone = { IsCloneOfSet T.is_clone };
 
@@ -122,7 +125,7 @@ impl<T: Eq + Hash + Clone, S: BuildHasher + Clone> Clone for NEIndexSet<T, S> {
     }
 }
 
-/// One item, and then further ones by `insert`.
+/// Starts with one item, and adds each further item by `insert`.
 impl<T: Eq + Hash + Drop> Singleton for NEIndexSet<T> {
     ghost use Rattle.std.specs.Prelude.{◌<◌, length};
 
@@ -140,7 +143,7 @@ impl<T: Eq + Hash + Drop> Singleton for NEIndexSet<T> {
     }
 }
 
-/// By the inherent call `extend`.
+/// Calls the inherent method `extend`.
 impl<T: Eq + Hash + Drop, S: BuildHasher> Extend<T> for NEIndexSet<T, S> {
     ghost extend_gives = { λ s items t. IsKeyListSetOf T.eq (s.keys ++ items) t.keys
         × (hasher_of t ≡ hasher_of s) × (0 < index_set_len t) };

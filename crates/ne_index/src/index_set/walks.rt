@@ -1,5 +1,5 @@
-//! The walks over an [`NEIndexSet`] and over a union, which know that there is an item, and how a
-//! set and they become those of the crate `indexmap`.
+//! The non-empty iterators over an [`NEIndexSet`] and over a union, and how a set and these
+//! iterators are turned into iterators of the crate `indexmap`.
 ghost use Rattle.std.specs.Prelude.{◌≡◌};
 ghost use Rattle.std.specs.Map.Iter.{deref};
 ghost use Rattle.indexmap.specs.IndexSet.{IsUnique};
@@ -102,8 +102,8 @@ impl<'a, T: Eq + Hash, S: BuildHasher> IntoIterator for &'a NEIndexSet<T, S> {
     }
 }
 
-/// A walk over the items of an [`NEIndexSet`], in the set's order, at least one. A contract sees it
-/// as their list.
+/// A non-empty iterator over the items of an [`NEIndexSet`], in the set's order. In contracts it is
+/// the list of the items.
 #[derive(Drop)]
 pub struct Iter<'a, T> {
     pub(super) inner: set::Iter<'a, T>,
@@ -140,8 +140,8 @@ impl<'a, T> NonEmptyIterator for Iter<'a, T> {
     ghost not_empty = { λ xs it made. HasFirst-shown deref xs it made.0 made.1 };
 }
 
-/// The items of an [`NEIndexSet`], in the set's order, at least one, by value. A contract sees it
-/// as their list.
+/// A non-empty iterator over the items of an [`NEIndexSet`] by value, in the set's order. In
+/// contracts it is the list of the items.
 #[derive(Drop)]
 pub struct IntoIter<T> {
     inner: set::IntoIter<T>,
@@ -177,8 +177,9 @@ impl<T: Drop> NonEmptyIterator for IntoIter<T> {
     ghost not_empty = { λ xs it made. HasFirst-shown (λ x. x) xs it made.0 made.1 };
 }
 
-/// The items of two sets, each once: the first set's, in its order, and then the others of the
-/// second, in its order, at least one. A contract sees it as their list.
+/// A non-empty iterator over the items of two sets, each once: those of the first set, in its
+/// order, and then the others of the second, in its order. In contracts it is the list of the
+/// items.
 #[derive(Drop)]
 pub struct Union<'a, T: Eq + Hash, S: BuildHasher> {
     pub(super) inner: set::Union<'a, T, S>,
@@ -215,7 +216,7 @@ impl<'a, T: Eq + Hash, S: BuildHasher> NonEmptyIterator for Union<'a, T, S> {
 
     ghost not_empty = { λ xs it made. HasFirst-shown deref xs it made.0 made.1 };
 
-    // The trait's own body is not taken here: the type borrows the second set too.
+    // The trait's default body is not accepted here, because the type also borrows the second set.
     fn next(self) -> (&'a T, set::Union<'a, T, S>) {
         let Union { inner } = self;
         let mut rest = inner;
