@@ -1,4 +1,4 @@
--- Where the pairs of a product stand.
+-- The indices of the pairs of a product.
 use Rattle.std.proofs.Common.{arith, ap, subst, sym, ◌∙◌}
 use Rattle.std.proofs.Math.ListN.{get_or}
 use Rattle.std.proofs.Math.Nat.{mul-le-mul_right}

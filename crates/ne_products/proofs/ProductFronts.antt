@@ -1,4 +1,4 @@
--- The pairs that came of a product, where no clone is refused and each equals its original.
+-- The pairs that a product gives if no clone fails and each clone equals its original.
 use Rattle.std.proofs.Common.{arith, ap, sym, subst, append_assoc, inl, inr, ◌∙◌, ◌⊎◌}
 use Rattle.std.proofs.lemmas.Grind.{flat_map-append}
 use Rattle.std.proofs.lemmas.List.Elements.{Contains-append_left, Contains-append_right}
@@ -19,7 +19,7 @@ all_values [] = refl
 all_values (v ∷ vs) = ap (result_map_both (λ xs. v ∷ xs) (λ e. e)) (all_values vs)
 
 module _ {A : Type 0} (clones : A → A → Type 0) (infallible : A → Type 0) where
-  -- clones of x are not refused, and equal it
+  -- Clones of x never fail, and equal x.
   abbrev IsExact : A → Type 0
   IsExact x = infallible x × ((y : A) → clones x y → y ≡ x)
 
@@ -44,7 +44,7 @@ none_refused sure never (inr side) = never side
 
 module _ {A B E : Type 0} (clones : A → A → Type 0) (infallible : A → Type 0) (refused : Type 0)
     (never : refused → ⊥) where
-  -- what came is a front of the pairs, and all of it is in `Ok`
+  -- The results so far are a front of the pairs, and each of them is in `Ok`.
   in_ok : (ps : List (A × B)) (zs : List (Result (A × B) E)) → AreExact clones infallible ps
       → ClonedPairs clones infallible refused ps zs
       → (more : List (Result (A × B) E)) × (map Ok ps ≡ zs ++ more)

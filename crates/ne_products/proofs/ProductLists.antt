@@ -25,7 +25,7 @@ module _ {U S A : Type 0} (becomes : U → S → Type 0) (steps : S → Option A
       let there = (same w whole ys).0 read in
       lists_read there.0 xs (lists there.0 there.1) whole ys there.2
 
--- the list of a product, by its clause `gives`
+-- The list that a product gives, by its clause `gives`.
 pub product_list : {U W V X S R T J A B E : Type 0} {becomes : U → S → Type 0}
     {steps : S → Option A → S → Type 0} {meets : W → R → Type 0}
     {other : R → Option B → R → Type 0} {made : V → T → Type 0}

@@ -18,12 +18,12 @@ over_finite : (b : Bool) (c : Count) → b ≡ true → IsFinite (count_unless b
 over_finite true c e = tt
 over_finite false c e = let f = e in search rules
 
--- k more rows and what is left of one are fewer than n rows
+-- k + 1 full rows and a part of one have fewer pairs than n rows.
 fewer : (k n w r q : ℕ) → k + 1 < n → r < w → (k + 1) * w + r + 1 < n * w + q + 1
 fewer k n w r q less small = let rowed = mul-le-mul_right w less in omega (arith, rowed, small)
 
 module _ {I J A : Type 0} (lefts : I → Count) (rights : J → Count) where
-  -- what is left, where it is not over
+  -- What is left if the iterator is not over.
   abbrev live_left : ProductIter I J A → Count
   live_left s = count_map (λ n. (n + option_len (row_of s)) * row_size rights (restart_of s)
       + size (rights (right_of s)) + 1) (lefts (left_of s))
@@ -44,7 +44,7 @@ module _ {I J A : Type 0} (lefts : I → Count) (rights : J → Count) where
     finite : IsFinite (pairs_left lefts rights s) → IsFinite (lefts (left_of s))
     finite f = subst IsFinite (live_count (is_over s) (live_left s) live) f
 
-    -- w is the item of the row, and l the left side then
+    -- w is the item of the row, and l is the left side at that point.
     abbrev Row : A → I → Type 0
     Row w l = ((row_of s ≡ Some w) × (l ≡ left_of s))
         ⊎ ((row_of s ≡ None) × MakesProgress can_left lefts (left_of s) (Some w) l)

@@ -1,4 +1,4 @@
--- What a run of a product's iterator says of the run of its left side.
+-- What a run of a product's iterator says about the run of its left side.
 use Rattle.std.proofs.Common.{rules, arith, subst, sym, ap, inl, inr, refl, ◌∙◌}
 use Rattle.std.proofs.lemmas.Bool.{MatchBool-at_true, MatchBool-at_false}
 use Rattle.std.proofs.lemmas.Option.{MatchOption-at_none, MatchOption-at_some, none-some}
@@ -43,11 +43,11 @@ module _ {I J A B : Type 0} (E refused : Type 0) (lefts : I → Option A → I �
   abbrev Cloned : List (A × B) → List (Result (A × B) E) → Type 0
   Cloned = ClonedPairs clones infallible refused
 
-  -- the right side gives bs and no other
+  -- The right side gives bs and nothing else.
   abbrev Gives : J → List B → Type 0
   Gives = AlwaysYields rights (λ b. b)
 
-  -- each further row gives bs
+  -- Each further row gives bs.
   abbrev IsReady : List B → Option J → Type 0
   IsReady bs o = MatchOption o refused (λ c. ((certain c → ⊥) → refused)
       × ((d : J) → copies c d → Gives d bs))
@@ -55,7 +55,7 @@ module _ {I J A B : Type 0} (E refused : Type 0) (lefts : I → Option A → I �
   abbrev Ready : List B → State → Type 0
   Ready bs s = IsReady bs (restart_of s)
 
-  -- zs came where the left side stood at l and the pairs qs were left of the row
+  -- The results zs follow if the left side is at l and the pairs qs are left of the row.
   abbrev Came : List B → I → List (A × B) → List (Result (A × B) E) → Type 0
   Came bs l qs zs = (xs : List A) × DrainsIf lefts ((whole && list_all is_ok zs) ≡ true) l xs
       × Cloned (qs ++ cartesian_product xs bs) zs
@@ -68,12 +68,12 @@ module _ {I J A B : Type 0} (E refused : Type 0) (lefts : I → Option A → I �
   silent W s (z ∷ zs) over (t, (j, st, rest), fin) =
       absurd (none-some z (sym (MatchBool-at_true _ _ over st).0))
 
-  -- an `Err` comes where the left side stood at l and the pairs qs were left of the row
+  -- An `Err` follows if the left side is at l and the pairs qs are left of the row.
   abbrev Stops : List B → I → List (A × B) → E → Type 0
   Stops bs l qs e = (xs : List A) × (u : I) × Yields lefts l xs u
       × Cloned (qs ++ cartesian_product xs bs) (Err e ∷ [])
 
-  -- a clone of the right side is refused
+  -- A clone of the right side fails.
   in_place : (ps : List (A × B)) (e : E) → refused → Cloned ps (Err e ∷ [])
   in_place [] e bad = (refl, bad)
   in_place (p ∷ ps) e bad = (refl, inr bad)
@@ -88,7 +88,7 @@ module _ {I J A B : Type 0} (E refused : Type 0) (lefts : I → Option A → I �
       → RowEnds lefts rights clones infallible copies certain s l (λ c. certain c → ⊥) → refused
   row_refused bs s l ready ends = (MatchOption-at_some _ _ ends.2 ends.5 ready).0 ends.6
 
-  -- a clone is refused
+  -- A clone fails.
   stops : (bs : List B) (s j : State) (l : I) (qs : List (A × B)) (e : E)
       (zs : List (Result (A × B) E)) → is_over s ≡ false → (Refuses s → Stops bs l qs e)
       → Next s (Some (Err e)) j → DrainsIf Next (whole ≡ true) j zs → Came bs l qs (Err e ∷ zs)
@@ -104,7 +104,7 @@ module _ {I J A B : Type 0} (E refused : Type 0) (lefts : I → Option A → I �
         λ w. absurd (never w),
       )
 
-  -- the end, where nothing more comes
+  -- The end, after which nothing comes.
   at_end : (s t : State) → is_over s ≡ false → s ≡ t
       → (whole ≡ true → (u : State) × Next t None u) → (whole && true) ≡ true → Ends s
   at_end s t live e fin w =
@@ -116,7 +116,7 @@ module _ {I J A B : Type 0} (E refused : Type 0) (lefts : I → Option A → I �
   ready_on bs s t same ready =
       subst (IsReady bs) (sym same) ready
 
-  -- the right side has no item, though its first call is not `None`: nothing comes
+  -- The right side has no item, although its first call does not return `None`: nothing comes.
   none_came : (s : State) (zs : List (Result (A × B) E)) → is_over s ≡ false → row_of s ≡ None
       → Ready [] s → Gives (right_of s) [] → HasFirst rights (right_of s)
       → DrainsIf Next (whole ≡ true) s zs → Came [] (left_of s) [] zs
@@ -159,7 +159,7 @@ module _ {I J A B : Type 0} (E refused : Type 0) (lefts : I → Option A → I �
     begun l u x zs st came =
         (x ∷ came.0, (came.1.0, (u, st, came.1.1), came.1.2), came.2, came.3)
 
-    -- the item of a row that is held, or the first one
+    -- The item of a row: the one that is held, or the first one.
     of_held : (s : State) (x w : A) (l : I) → row_of s ≡ Some x → Of s w l
         → (w ≡ x) × (l ≡ left_of s)
     of_held s x w l at (inl h) = (same_item (sym h.0 ∙ at), h.1)
@@ -175,7 +175,7 @@ module _ {I J A B : Type 0} (E refused : Type 0) (lefts : I → Option A → I �
         → Gives d (y ∷ ys)
     restarted s l d ready ends = (MatchOption-at_some _ _ ends.2 ends.5 ready).1 d ends.6
 
-    -- the end, within a row
+    -- The end, within a row.
     ends_row : (s : State) (x : A) (bs : List B) → row_of s ≡ Some x → Ready (y ∷ ys) s
         → Gives (right_of s) bs → Ends s → ((u : I) × lefts (left_of s) None u) × (bs ≡ [])
     ends_row s x bs at ready right (inl e) = absurd (none-some x (sym e.1 ∙ at))
@@ -185,7 +185,7 @@ module _ {I J A B : Type 0} (E refused : Type 0) (lefts : I → Option A → I �
     ends_row s x bs at ready right (inr (inr e)) =
         absurd ((restarted s e.0 e.1 ready e.5).0 e.4 e.7)
 
-    -- the end, before the first row
+    -- The end, before the first row.
     ends_fresh : (s : State) → row_of s ≡ None → Ready (y ∷ ys) s
         → Gives (right_of s) (y ∷ ys) → Ends s → (u : I) × lefts (left_of s) None u
     ends_fresh s at ready right (inl e) = (e.0, e.2)
@@ -193,7 +193,7 @@ module _ {I J A B : Type 0} (E refused : Type 0) (lefts : I → Option A → I �
     ends_fresh s at ready right (inr (inr e)) =
         absurd ((restarted s e.0 e.1 ready e.5).0 e.4 e.7)
 
-    -- an `Err` within a row
+    -- An `Err` within a row.
     stops_row : (s : State) (x : A) (bs : List B) (e : E) → row_of s ≡ Some x
         → Ready (y ∷ ys) s → Gives (right_of s) bs → Refuses s
         → Stops (y ∷ ys) (left_of s) (map (λ b. (x, b)) bs) e
@@ -217,7 +217,7 @@ module _ {I J A B : Type 0} (E refused : Type 0) (lefts : I → Option A → I �
     stops_row s x bs e at ready right (inr (inr g)) =
         side_refused (y ∷ ys) (left_of s) _ e (row_refused (y ∷ ys) s g.0 ready g.3)
 
-    -- an `Err` before the first row
+    -- An `Err` before the first row.
     stops_fresh : (s : State) (e : E) → row_of s ≡ None → Ready (y ∷ ys) s
         → Gives (right_of s) (y ∷ ys) → Refuses s → Stops (y ∷ ys) (left_of s) [] e
     stops_fresh s e at ready right (inl none) =
@@ -229,7 +229,7 @@ module _ {I J A B : Type 0} (E refused : Type 0) (lefts : I → Option A → I �
     stops_fresh s e at ready right (inr (inr g)) =
         side_refused (y ∷ ys) (left_of s) [] e (row_refused (y ∷ ys) s g.0 ready g.3)
 
-    -- a pair within a row, and one that begins a row
+    -- A pair within a row, and a pair that begins a row.
     within : (s j : State) (x w : A) (bs : List B) (p : A × B) (zs : List (Result (A × B) E))
         → Gives (right_of s) bs → rights (right_of s) (Some p.1) (right_of j)
         → (w ≡ x) × (left_of j ≡ left_of s) → clones w p.0 → row_of j ≡ Some w
@@ -294,7 +294,7 @@ module _ {I J A B : Type 0} (E refused : Type 0) (lefts : I → Option A → I �
         behind s j x bs p zs at ready right (MatchBool-at_false _ _ live st)
         (λ w cs on now on_ready gives. in_row j w cs zs on now on_ready gives (t, rest, fin))
 
-    -- from before the first pair
+    -- The results from before the first pair on.
     some_came : (s : State) (zs : List (Result (A × B) E)) → is_over s ≡ false → row_of s ≡ None
         → Ready (y ∷ ys) s → Gives (right_of s) (y ∷ ys) → DrainsIf Next (whole ≡ true) s zs
         → Came (y ∷ ys) (left_of s) [] zs

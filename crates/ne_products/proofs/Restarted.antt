@@ -7,7 +7,8 @@ use Rattle.ne_vec.specs.Fronts.{AreFirst}
 use Rattle.ne_products.specs.Product.{Restarts}
 use Rattle.ne_products.specs.Restarts.{ClonesAgain}
 
--- an iterator whose items are the first of ys, and all of them at its end, gives them call by call
+-- If the items of an iterator are always the first of ys, and all of ys at its end, then it gives
+-- ys call by call.
 module _ {J B : Type 0} (steps : J → Option B → J → Type 0) where
   abbrev Fronts : List B → J → Type 0
   Fronts ys j = (whole : Bool) (zs : List B) → DrainsIf steps (whole ≡ true) j zs
@@ -38,7 +39,7 @@ module _ {J B : Type 0} (steps : J → Option B → J → Type 0) where
         ),
   )
 
--- what may be walked once a row
+-- What can be iterated over once for each row.
 module _ {U J : Type 0} (becomes : U → J → Type 0) (can : J → Type 0) (left : J → Count)
     (copies : J → J → Type 0) (u : U) (ends : IsFiniteIterable becomes can left u)
     (again : ClonesAgain becomes left copies u) where

@@ -1,4 +1,4 @@
--- What an insertion says of the items so far, and what they say of the source's list.
+-- What an insertion says about the items so far, and what they say about the source's list.
 use Rattle.std.proofs.Common.{rules, ap, append-nil, append_assoc, subst, sym, true≢false, ◌∙◌}
 use Rattle.std.proofs.lemmas.List.Folds.{list_any-append}
 use Rattle.std.proofs.lemmas.Map.Keys.{IsDistinct-head, IsDistinct-tail}
@@ -58,7 +58,7 @@ module _ {K : Type 0} {eq : K → K → Bool} (laws : IsEquivalence eq) where
   apart x [] ks k h = h.0
   apart x (c ∷ cs) ks k h = apart x cs ks k h.1
 
-  -- where keys differ, one is not among those before it
+  -- If keys are distinct, none of them is among those before it.
   absent : (before ks : List K) (k : K) → IsDistinct eq (before ++ k ∷ ks)
       → is_member eq before k ≡ false
   absent [] ks k d = refl

@@ -8,15 +8,15 @@ use Rattle.std.specs.Iterator.{Count, IsFinite, size, count_map, count_unless}
 use Rattle.ne_products.specs.declared.products.Product.{Product}
 use Rattle.ne_products.specs.declared.products.ProductIter.{ProductIter}
 
--- the two sources of a `Product`
+-- The two sources of a `Product`.
 abbrev pub product_first : {I J : Type 0} → Product I J → I
 product_first s = s.a
 
 abbrev pub product_second : {I J : Type 0} → Product I J → J
 product_second s = s.b
 
--- the two iterators of a `ProductIter`, the item of this row, what the rows after the first are
--- walked by, and whether nothing more comes
+-- The parts of a `ProductIter`: its two iterators, the item of this row, the iterator that is
+-- cloned for each row after the first, and whether nothing more comes.
 abbrev pub left_of : {I J X : Type 0} → ProductIter I J X → I
 left_of s = s.left
 
@@ -32,31 +32,33 @@ restart_of s = s.restart
 abbrev pub is_over : {I J X : Type 0} → ProductIter I J X → Bool
 is_over s = s.is_over
 
--- A clone of c may be called, and no more items come of it than of c.
+-- A clone of c can be called, and it gives no more items than c.
 abbrev pub Restarts : {J : Type 0} → (J → Type 0) → (J → Count) → (J → J → Type 0) → J → Type 0
 Restarts {J} can left clones c = IsFinite (left c)
     × ((d : J) → clones c d → can d × IsFinite (left d) × (size (left d) ≤ size (left c)))
 
--- A `ProductIter` may be called: both sides may, the right one ends, and so does each clone of it.
+-- A `ProductIter` can be called: both sides can be called, the right side ends, and so does each
+-- clone of it.
 abbrev pub CanPair : {I J X : Type 0} → (I → Type 0) → (J → Type 0) → (J → Count)
     → (J → J → Type 0) → ProductIter I J X → Type 0
 CanPair can_left can_right left clones s = is_over s ≡ false
     → can_left (left_of s) × can_right (right_of s) × IsFinite (left (right_of s))
     × MatchOption (restart_of s) ⊤ (Restarts can_right left clones)
 
--- how many items a row after the first has, at most
+-- How many items a row after the first has, at most.
 abbrev pub row_size : {J : Type 0} → (J → Count) → Option J → ℕ
 row_size left None = 0
 row_size left (Some c) = size (left c)
 
--- what is left of this row, a whole row for each item that the left side has left, and an `Err`
+-- What is left: the rest of this row, a whole row for each item that the left side has left, and an
+-- `Err`.
 abbrev pub pairs_left : {I J X : Type 0} → (I → Count) → (J → Count) → ProductIter I J X → Count
 pairs_left lefts rights s = count_unless (is_over s)
     (count_map (λ n. (n + option_len (row_of s)) * row_size rights (restart_of s)
     + size (rights (right_of s)) + 1) (lefts (left_of s)))
 
--- A `Product` becomes a `ProductIter` that stands before both sides. Its clone of the right side is
--- there, or was refused.
+-- A `Product` becomes a `ProductIter` that is at the start of both sides. The clone of the right
+-- side is there, or it failed.
 abbrev pub MakesProduct : {U V I J X : Type 0} → (U → I → Type 0) → (V → J → Type 0)
     → (J → J → Type 0) → (J → Type 0) → Product U V → ProductIter I J X → Type 0
 MakesProduct lefts rights clones infallible s it = lefts (product_first s) (left_of it)
@@ -67,30 +69,32 @@ MakesProduct lefts rights clones infallible s it = lefts (product_first s) (left
 module _ {I J A B : Type 0} (lefts : I → Option A → I → Type 0)
     (rights : J → Option B → J → Type 0) (clones : A → A → Type 0) (infallible : A → Type 0)
     (copies : J → J → Type 0) (certain : J → Type 0) where
-  -- x is the item of this row, and l the left side then: it was held, or is drawn.
+  -- x is the item of this row, and l is the left side then. Either x was already held, or it is
+  -- drawn now.
   abbrev pub RowItem : ProductIter I J A → A → I → Type 0
   RowItem s x l = ((row_of s ≡ Some x) × (l ≡ left_of s))
       ⊎ ((row_of s ≡ None) × lefts (left_of s) (Some x) l)
 
-  -- The right side has ended behind the last pair of this row, and P holds of it as it began.
+  -- The right side has ended after the last pair of this row, and P holds for the right side as it
+  -- was at the start.
   abbrev pub RowEnds : ProductIter I J A → I → (J → Type 0) → Type 0
   RowEnds s l P = (w : A) × (j : J) × (c : J) × RowItem s w l × rights (right_of s) None j
       × (restart_of s ≡ Some c) × P c
 
-  -- The next pair is that of x and y: x is the item of this row, and y the next item of the right
-  -- side; or x is the next item of the left side, and y the first item of a clone of the right side
-  -- as it began. The sides stand at l and r then.
+  -- The next pair is that of x and y, and the two sides are then l and r. Either x is the item of
+  -- this row and y is the next item of the right side; or x is the next item of the left side and y
+  -- is the first item of a clone of the right side as it was at the start.
   abbrev pub IsNextPair : ProductIter I J A → A → B → I → J → Type 0
   IsNextPair s x y l r = (RowItem s x l × rights (right_of s) (Some y) r)
       ⊎ ((k : I) × (d : J) × RowEnds s k (λ c. copies c d) × lefts k (Some x) l
       × rights d (Some y) r)
 
-  -- A pair: a clone of the first part of the next pair, and its second part.
+  -- A pair is given: a clone of the first part of the next pair, and its second part.
   abbrev pub GivesPair : ProductIter I J A → A × B → ProductIter I J A → Type 0
   GivesPair s p t = (x : A) × (row_of t ≡ Some x) × clones x p.0 × (is_over t ≡ false)
       × (restart_of t ≡ restart_of s) × IsNextPair s x p.1 (left_of t) (right_of t)
 
-  -- The end: the left side has ended, before a row or behind one; or the right side, which began
+  -- The end: the left side has ended, before a row or after one; or the right side, which began
   -- again, has no item.
   abbrev pub EndsPairs : ProductIter I J A → Type 0
   EndsPairs s = ((u : I) × (row_of s ≡ None) × lefts (left_of s) None u)
@@ -99,30 +103,30 @@ module _ {I J A B : Type 0} (lefts : I → Option A → I → Type 0)
       ⊎ ((l : I) × (d : J) × (x : A) × (u : I) × (k : J) × RowEnds s l (λ c. copies c d)
       × lefts l (Some x) u × rights d None k))
 
-  -- A clone was refused: the one of the right side that was made beforehand; or one of the first
-  -- part of the next pair; or one of the right side, as it began, for a further row.
+  -- A clone failed: the clone of the right side that was made beforehand; or a clone of the first
+  -- part of the next pair; or a clone of the right side, as it was at the start, for a further row.
   abbrev pub RefusesClone : ProductIter I J A → Type 0
   RefusesClone s = (restart_of s ≡ None)
       ⊎ (((x : A) × (y : B) × (l : I) × (r : J) × IsNextPair s x y l r × (infallible x → ⊥))
       ⊎ ((l : I) × (x : A) × (u : I) × RowEnds s l (λ c. certain c → ⊥) × lefts l (Some x) u))
 
-  -- One call. After the end, and after an `Err`, it answers `None` and draws nothing.
+  -- One call of `next`. After the end, and after an `Err`, it returns `None` and draws nothing.
   abbrev pub PairsNext : {E : Type 0} → ProductIter I J A → Option (Result (A × B) E)
       → ProductIter I J A → Type 0
   PairsNext s r t = MatchBool (is_over s) ((r ≡ None) × (t ≡ s))
       (MatchOption r (EndsPairs s × (is_over t ≡ true)) (λ z. MatchResult z (λ p. GivesPair s p t)
       (λ _. RefusesClone s × (is_over t ≡ true))))
 
--- A clone of the item x of the row is paired with y, and x is held for the pairs to come; or the
--- clone was refused.
+-- A clone of the item x of the row is paired with y, and x is kept for the pairs to come; or the
+-- clone failed.
 abbrev pub PairsItems : {I J A B E : Type 0} → (A → A → Type 0) → (A → Type 0) → ProductIter I J A
     → A → B → Result (A × B) E → ProductIter I J A → Type 0
 PairsItems clones infallible s x y r t = MatchResult r
     (λ p. clones x p.0 × (p.1 ≡ y) × (t ≡ record s { row = Some x; is_over = false }))
     (λ _. (infallible x → ⊥) × (t ≡ s))
 
--- What a further row begins with: a clone of what was cloned beforehand; or one of the two clones
--- was refused.
+-- What a further row begins with: a clone of the clone that was made beforehand. Or one of the two
+-- clones failed.
 abbrev pub TriesRestart : {J E : Type 0} → (J → J → Type 0) → (J → Type 0) → Option J → Result J E
     → Type 0
 TriesRestart {J} copies certain o r = MatchResult r (λ d. (c : J) × (o ≡ Some c) × copies c d)

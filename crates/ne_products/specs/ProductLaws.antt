@@ -1,4 +1,4 @@
--- Where neither side has been drawn from and both have an item, an item comes of their product.
+-- If neither side has been drawn from and both have an item, their product gives an item.
 use Rattle.std.proofs.Common.{inl, inr}
 use Rattle.std.proofs.lemmas.Bool.{MatchBool-at_false}
 use Rattle.std.specs.Prelude.{◌≡◌, false, Option, None}

@@ -1,4 +1,4 @@
--- What a source has to have, for a product to walk it once a row.
+-- What a source needs so that a product can iterate over it once for each row.
 use Rattle.std.specs.Prelude.{◌≡◌, ◌≤◌, Bool, Contains, List, Option, Result, Ok, map}
 use Rattle.std.specs.Iterator.{Count, size}
 use Rattle.std.specs.declared.alloc.AllocError.{AllocError}
@@ -8,23 +8,24 @@ use Rattle.ne_iter.specs.Gives.{GivesList}
 use Rattle.ne_iter.specs.SourceLists.{EachList}
 use Rattle.ne_products.specs.Pairs.{cartesian_product, IsProduct}
 
--- A clone of an iterator that the source u becomes is one that u may become too, with no more items
--- left: a cloned iterator gives what its original gives.
+-- A clone of an iterator that the source u becomes is also an iterator that u can become, and it
+-- has no more items left. So a cloned iterator gives what its original gives.
 abbrev pub ClonesAgain : {U J : Type 0} → (U → J → Type 0) → (J → Count) → (J → J → Type 0) → U
     → Type 0
 ClonesAgain {J = J} becomes left copies u = (j c : J) → becomes u j → copies j c
     → becomes u c × (size (left c) ≤ size (left j))
 
--- Clones of an iterator that the source u becomes are never refused.
+-- Clones of an iterator that the source u becomes never fail.
 abbrev pub NeverRefuses : {U J : Type 0} → (U → J → Type 0) → (J → Type 0) → U → Type 0
 NeverRefuses {J = J} becomes certain u = (j : J) → becomes u j → certain j
 
--- Clones of the items of xs are never refused, and equal their originals.
+-- Clones of the items of xs never fail, and equal their originals.
 abbrev pub HasExactClones : {A : Type 0} → (A → A → Type 0) → (A → Type 0) → List A → Type 0
 HasExactClones {A} clones infallible xs = (x : A) → Contains xs x
     → infallible x × ((y : A) → clones x y → y ≡ x)
 
--- `cartesian_product`, where the other side gives the list ys, and so do clones of its iterator
+-- What `cartesian_product` gives if the other side gives the list ys, and clones of its iterator
+-- give it too.
 abbrev pub ProductGives : {U W V A B E : Type 0} → (Bool → U → List A → Type 0)
     → (Bool → W → List B → Type 0) → Type 0 → (A → A → Type 0) → (A → Type 0) → Type 0
     → (Bool → V → List (Result (A × B) E) → Type 0) → U → W → V → Type 0
@@ -34,7 +35,7 @@ ProductGives {A = A} {B = B} {E = E} reads others again clones infallible refuse
     → (whole : Bool) (zs : List (Result (A × B) E)) → paired whole result zs
     → IsProduct reads clones infallible refused source ys whole zs
 
--- The product v of xs and ys is known to the check's search, if `exact` holds of xs.
+-- The check's search knows the product v of xs and ys, if `exact` holds for xs.
 abbrev pub PairsListed : {V T A B : Type 0} → (V → T → Type 0)
     → (T → Option (Result (A × B) AllocError) → T → Type 0) → (List A → Type 0) → V → List A
     → List B → Type 0
@@ -43,7 +44,8 @@ PairsListed {A = A} {B = B} made next exact v xs ys = exact xs
     ≡ Ok (cartesian_product xs ys))
     × Listed made next v (map Ok (cartesian_product xs ys))
 
--- The product of the lists that two sources give. The second may be one that no call speaks of.
+-- The product of the lists that two sources give. The second source may be one that no call
+-- mentions.
 abbrev pub PairsLists : {U W A B : Type 0} → (U → List A → Type 0) → (W → List B → Type 0)
     → (W → List B → Type 0) → (List A → List B → Type 0) → U → W → Type 0
 PairsLists {A = A} {B = B} lists others meets gives u w =

@@ -1,4 +1,4 @@
--- A source that is one of two sources with an item has one.
+-- A source that is one of two non-empty sources is not empty.
 use Rattle.std.specs.Prelude.{Option}
 use Rattle.either.specs.declared.Either.TheVariants as side
 use Rattle.either.specs.Iterator.{either_steps}

@@ -1,37 +1,37 @@
--- A value of one of two types, and a source that is one of two.
+-- A value of one of two types, and a source that is one of two sources.
 use Rattle.std.specs.Prelude.{◌≡◌, List}
 use Rattle.either.specs.declared.Either.{Either}
 use Rattle.either.specs.declared.Either.TheVariants as side
 use Rattle.ne_products.specs.declared.sides.NEEither.{NEEither}
 use Rattle.ne_products.specs.declared.sides.NEEither.TheVariants.{Left, Right}
 
--- What f makes of a `Left`, and g of a `Right`. Of a source that is one of two vectors,
--- `by_side (λ v. v) (λ w. w)` is the list of the one that is there.
+-- The result of f for a `Left`, and of g for a `Right`. For a source that is one of two vectors,
+-- `by_side (λ v. v) (λ w. w)` is the list of the vector that is there.
 abbrev pub by_side : {U V X : Type 0} → (U → X) → (V → X) → NEEither U V → X
 by_side f g (Left u) = f u
 by_side f g (Right v) = g v
 
--- Where f and g name the lists that the sides give, the one of the side of e is given.
+-- If f and g name the lists that the two sides give, then the list of the side of e is given.
 abbrev pub SideLists : {U V A : Type 0} → (U → List A → Type 0) → (V → List A → Type 0)
     → (List A → Type 0) → NEEither U V → Type 0
 SideLists {U} {V} {A} lefts rights gives e = (f : U → List A) (g : V → List A)
     → (by_side f g e ≡ by_side f g e)
     × (((u : U) → lefts u (f u)) → ((v : V) → rights v (g v)) → gives (by_side f g e))
 
--- P holds of a `Left`, and Q of a `Right`
+-- P holds for a `Left`, and Q for a `Right`.
 abbrev pub MatchSide : {U V : Type 0} → NEEither U V → (U → Type 0) → (V → Type 0) → Type 0
 MatchSide (Left u) P Q = P u
 MatchSide (Right v) P Q = Q v
 
 module _ {U V S T : Type 0} (left : U → S → Type 0) (right : V → T → Type 0) where
-  -- The side that is there becomes the side that is there.
+  -- The source that is there becomes the iterator of the same side.
   abbrev pub BecomesSide : NEEither U V → Either S T → Type 0
   BecomesSide (Left u) (side.Left s) = left u s
   BecomesSide (Right v) (side.Right t) = right v t
   BecomesSide (Left u) (side.Right t) = ⊥
   BecomesSide (Right v) (side.Left s) = ⊥
 
-  -- The same, of sources.
+  -- The value that is there makes the source of the same side.
   abbrev pub MakesSide : NEEither U V → NEEither S T → Type 0
   MakesSide (Left u) (Left s) = left u s
   MakesSide (Right v) (Right t) = right v t

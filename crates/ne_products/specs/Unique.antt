@@ -1,11 +1,11 @@
--- Whether the items of a source differ.
+-- Whether the items of a source are distinct.
 use Rattle.std.specs.Prelude.{◌≡◌, Bool, true, false, List, [], ◌∷◌, ◌++◌}
 use Rattle.std.specs.Bool.{MatchBool}
 use Rattle.std.specs.List.{IsDistinct}
 use Rattle.std.specs.Set.{is_member}
 
--- `all_unique`: no two of the items xs are equal. Then, at `true`, the source ended; at `false`,
--- the next item equals one of them.
+-- What `all_unique` returns. No two of the items xs are equal. If the result is `true`, the source
+-- ends after them; if it is `false`, its next item equals one of them.
 abbrev pub TellsUnique : {U A : Type 0} → (Bool → U → List A → Type 0) → (A → A → Bool) → U → Bool
     → Type 0
 TellsUnique {A = A} reads eq source result = (xs : List A) × IsDistinct eq xs

@@ -1,5 +1,5 @@
-//! The laws of products and of sources that are one of two. Each is the contract of a function that
-//! does nothing: a caller calls it, and then knows what it ensures.
+//! Laws of products and of sources that are one of two. Each law is the contract of a function that
+//! does nothing. A caller calls the function to use what it ensures.
 ghost use Rattle.std.specs.Prelude.{◌≡◌, ℕ, ◌+◌, ◌*◌, List, Ok, Some, length, map, slice_get};
 ghost use Rattle.ne_iter.specs.Gives.{GivesList};
 ghost use Rattle.ne_products.specs.Pairs.{cartesian_product, CanRefuse};
@@ -12,11 +12,11 @@ use crate::sides::NEEither;
 use ne_iter::iter::SourceWords;
 use ne_iter::{IntoNonEmptyIterator, NonEmptyIterator};
 
-/// `cartesian_product` gives each item of its source with each item of the other, a row of pairs
-/// for each item of its source, each pair in `Ok`.
+/// `cartesian_product` gives each item of its source with each item of the other, each pair in
+/// `Ok`, one row of pairs for each item of its source.
 ///
-/// That is so where clones of the source's items are never refused and equal their originals, and
-/// clones of the iterator that the other becomes are never refused and give what it gives.
+/// This holds if clones of the source's items never fail and equal their originals, and if clones
+/// of the iterator that the other becomes never fail and give what it gives.
 pub fn list_of_cartesian_product<S: NonEmptyIterator, U: IntoNonEmptyIterator>(
     source: &S,
     other: &U,
@@ -44,11 +44,11 @@ where
         (map Ok (cartesian_product xs ys)) }
 {}
 
-/// The pair of item i of the one list and item j of the other stands at place i * m + j of their
-/// product, if the other has m items; and the product has no other pairs.
+/// In the product of two lists, the pair of item i of the first and item j of the second is at
+/// index i * m + j, if the second has m items. The product has no other pairs.
 ///
-/// By it a caller that knows the product as a list knows where a pair stands: in a table of 12
-/// columns, the cell of row 2 and column 5 at place 29.
+/// With this law, a caller that knows the product as a list knows where each pair is. In a table of
+/// 12 columns, the cell of row 2 and column 5 is at index 29.
 pub fn products_have_their_places<A, B>()
     ensures places { (xs : List A) (ys : List B) (i j : ℕ) (x : A) (y : B)
         → slice_get xs i ≡ Some x → slice_get ys j ≡ Some y
@@ -57,8 +57,8 @@ pub fn products_have_their_places<A, B>()
         → length (cartesian_product xs ys) ≡ length xs * length ys }
 {}
 
-/// `cartesian_product` ends where both its sources do, if clones of the other side's iterator give
-/// what it gives.
+/// `cartesian_product` ends if both its sources end, and if clones of the other side's iterator
+/// give what it gives.
 pub fn cartesian_product_ends<S: NonEmptyIterator, U: NonEmptyIterator>()
 where
     S::Item: Clone + Drop,
@@ -71,7 +71,7 @@ where
         → ⟦<Product<S, U> as SourceWords>⟧.ends product }
 {}
 
-/// A source that is one of two ends where the side that is there does.
+/// A source that is one of two ends if the side that is there ends.
 pub fn either_ends<L: NonEmptyIterator, R: NonEmptyIterator<Item = L::Item>>()
     ensures left { (s : _) → ⟦<L as SourceWords>⟧.ends s
         → ⟦<NEEither<L, R> as SourceWords>⟧.ends (NEEither.Left s) }

@@ -1,10 +1,10 @@
-//! Sources that are one of two, and products of two sources.
+//! Products of two non-empty iterators, and values of one of two types.
 //!
-//! This is a part of the port of `nonempty-collections`, which the crate of that name shows as its
-//! modules `either` and `itertools`: [`NEEither`] is a value of one of two types, and
-//! [`NonEmptyItertools`] has what each source of at least one item can do besides the methods of
-//! [`NonEmptyIterator`](ne_iter::NonEmptyIterator). The code stands here, since a crate that stands
-//! on the library `either` may have no module of that name.
+//! This crate is a part of the port of `nonempty-collections`. The crate of that name shows it as
+//! its modules `either` and `itertools`: [`NEEither`] is a value of one of two types, and
+//! [`NonEmptyItertools`] has further methods of non-empty iterators, besides those of
+//! [`NonEmptyIterator`](ne_iter::NonEmptyIterator). The code is in a crate of its own, because a
+//! crate that depends on the library `either` may not have a module of that name.
 #![tactic(auto)]
 
 pub mod laws;

@@ -1,4 +1,4 @@
-//! Products of two sources, and whether the items of one differ.
+//! Products of two non-empty iterators, and whether the items of one are distinct.
 ghost use Rattle.std.specs.Prelude.{◌≡◌, ◌↔◌, IfOk, IsTrue};
 ghost use Rattle.std.specs.List.{IsDistinct};
 ghost use Rattle.ne_iter.specs.SourceLists.{BecomesList, EachList};
@@ -15,20 +15,21 @@ use std::alloc::{AllocError, Global};
 use std::collections::HashSet;
 use std::hash::Hash;
 
-/// Further methods of sources that give at least one item: every [`NonEmptyIterator`] has them.
+/// Further methods of non-empty iterators. Every [`NonEmptyIterator`] has them.
 pub trait NonEmptyItertools: NonEmptyIterator {
-    /// Each item of this source with each item of `other`, in `Ok`: a row of pairs for each item
-    /// here. The pair of item i here and item j there stands at place i * m + j, if m items come
-    /// there.
+    /// Returns a non-empty iterator over the pairs of each item of this iterator with each item of
+    /// `other`, each pair in `Ok`. There is one row of pairs for each item of this iterator. If
+    /// `other` has m items, the pair of item i here and item j there is at index i * m + j.
     ///
-    /// An item here is cloned for each of its pairs. The iterator of `other` is cloned once when
-    /// the product becomes an iterator, and that clone again for each row after the first; the
-    /// first row draws the iterator itself. So what `other` becomes has to have an iterator that
-    /// can be cloned: a vector goes in by reference. Where one of these clones was refused, an
-    /// `Err` comes in the place of a pair; `None` comes after it, and nothing more is drawn.
+    /// An item of this iterator is cloned for each of its pairs. The iterator of `other` is cloned
+    /// once when the product becomes an iterator, and that clone is cloned again for each row after
+    /// the first; the first row uses the iterator itself. So what `other` becomes must have an
+    /// iterator that can be cloned: a vector, for example, is passed by reference. If one of these
+    /// clones fails, an `Err` comes in place of a pair; after it comes `None`, and nothing more is
+    /// drawn.
     ///
-    /// It takes no memory of its own. In the Rust crate the items are plain, as clones cannot be
-    /// refused there, and the iterator is that of `itertools`.
+    /// It does not allocate by itself. In the Rust crate the items are plain pairs, because clones
+    /// cannot fail there, and the iterator is that of `itertools`.
     ///
     /// The product of `[0, 1]` and `['a', 'b']` is (0, 'a'), (0, 'b'), (1, 'a') and (1, 'b').
     final fn cartesian_product<J: IntoNonEmptyIterator>(
@@ -74,10 +75,11 @@ pub trait NonEmptyItertools: NonEmptyIterator {
         }
     }
 
-    /// Whether no two items are equal. It stops at the first item that equals one before it.
+    /// Returns whether no two items are equal. It stops at the first item that equals an earlier
+    /// one.
     ///
-    /// Returns `AllocError` if there is no memory for the items that were seen, which std's
-    /// [`HashSet`] holds; they are then dropped.
+    /// Returns `AllocError` if an allocation for the items seen so far fails. They are kept in
+    /// std's [`HashSet`], and are then dropped.
     final fn all_unique(self, alloc: Global) -> Result<bool, AllocError>
     where
         Self: Sized,
@@ -103,9 +105,10 @@ pub trait NonEmptyItertools: NonEmptyIterator {
 
 impl<T: NonEmptyIterator> NonEmptyItertools for T {}
 
-/// Each item of a source with each item of another: see [`NonEmptyItertools::cartesian_product`].
+/// The pairs of each item of one non-empty iterator with each item of another. See
+/// [`NonEmptyItertools::cartesian_product`].
 ///
-/// In the Rust crate it holds the iterators; here it holds what they are made of, and clones
+/// In the Rust crate it holds the iterators. Here it holds what they are made from, and clones
 /// neither the left side's iterator nor the right side's items.
 #[derive(Drop)]
 pub struct Product<I, J> {
@@ -159,22 +162,22 @@ where
         (J.not_empty (product_second s) (right_of it) made.1) };
 }
 
-/// The iterator of a [`Product`]: the pairs, each in `Ok`, or an `Err` where a clone was refused.
-/// After its end, and after an `Err`, it answers `None`, and draws nothing more.
+/// The iterator of a [`Product`]. It returns the pairs, each in `Ok`, or an `Err` if a clone
+/// failed. After the end, and after an `Err`, it returns `None` and draws nothing more.
 ///
-/// If the clone that was made beforehand was refused, the first call answers the `Err`. The Rust
-/// crate has the iterator of `itertools` here, whose clones cannot be refused.
+/// If the clone that was made beforehand failed, the first call returns the `Err`. The Rust crate
+/// uses the iterator of `itertools` here, whose clones cannot fail.
 #[derive(Drop)]
 pub struct ProductIter<I: Iterator, J>
 where
     I::Item: Drop,
 {
     left: I,
-    // The item that the pairs of this row begin with.
+    // The first item of each pair of this row.
     row: Option<I::Item>,
-    // The others of this row.
+    // The second items that are left for this row.
     right: J,
-    // Where each row after the first begins; `None` where that clone was refused.
+    // What each row after the first is cloned from; `None` if that clone failed.
     restart: Option<J>,
     is_over: bool,
 }
@@ -199,7 +202,7 @@ where
         if self.is_over {
             return None;
         }
-        // It goes on only where a pair comes.
+        // The iterator continues only if a pair comes.
         self.is_over = true;
         if self.restart.is_none() {
             return Some(Err(AllocError));
@@ -226,7 +229,8 @@ where
     I::Item: Clone + Drop,
     J::Item: Drop,
 {
-    // A pair of the row that begins with `row`, and what more comes.
+    // Returns the pair of a clone of `row` and `right`. The row continues only if the clone
+    // succeeds.
     fn pair(&mut self, row: I::Item, right: J::Item) -> Result<(I::Item, J::Item), AllocError>
         ensures { PairsItems I.Item.is_clone I.Item.is_infallible self.old row right result
             self.new }
@@ -237,7 +241,7 @@ where
         Ok((left, right))
     }
 
-    // The right side, as it stood before it was drawn from.
+    // Returns a clone of the right side as it was before anything was drawn from it.
     fn restart(&self) -> Result<J, AllocError>
         ensures { TriesRestart J.is_clone J.is_infallible (restart_of self.now) result }
     {

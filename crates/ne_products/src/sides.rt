@@ -1,4 +1,4 @@
-//! A value of one of two types, and a source that is one of two.
+//! A value of one of two types, and a source that is one of two sources.
 ghost use Rattle.std.specs.Prelude.{◌≡◌};
 ghost use Rattle.ne_vec.specs.Fronts.{mark};
 ghost use Rattle.ne_iter.specs.SourceLists.{BecomesList, EachList};
@@ -10,8 +10,8 @@ use ne_iter::{IntoNonEmptyIterator, NonEmptyIterator};
 
 /// One of two values.
 ///
-/// Where both sides are sources with items of one type it is a source: it gives the items of the
-/// side that is there.
+/// If both sides are non-empty iterators with items of one type, it is a non-empty iterator too,
+/// and gives the items of the side that is there.
 #[derive(Copy, Clone, PartialEq, Eq, PartialOrd, Ord, Hash, Debug, Drop)]
 pub enum NEEither<L, R> {
     /// A value of the first type.
@@ -21,9 +21,9 @@ pub enum NEEither<L, R> {
 }
 
 impl<L: IntoNonEmptyIterator, R: IntoNonEmptyIterator<Item = L::Item>> NEEither<L, R> {
-    /// The source of the side that is there. It takes no memory.
+    /// Returns the non-empty iterator of the side that is there. It does not allocate.
     ///
-    /// Of `Left([0])` it gives 0.
+    /// For `Left([0])` it gives 0.
     pub fn into_nonempty_iter(self) -> NEEither<L::IntoNEIter, R::IntoNEIter>
         ensures makes { MakesSide L.into_nonempty_iter_gives R.into_nonempty_iter_gives
             self result }

@@ -4,7 +4,7 @@ use Rattle.std.specs.HashSet.{contains}
 use Rattle.std.specs.Set.{is_member}
 use Rattle.ne_products.proofs.products.NonEmptyItertools.all_unique.Given as goal
 
--- the items so far differ, and the set has them and no other
+-- The items so far are distinct, and the set holds them and nothing else.
 abbrev pub invariant-loop-item : goal.invariant-loop-item
 invariant-loop-item g l = IsDistinct g.Self.Item.PartialEq.eq l.yielded
     × ((q : _) → contains g.Self.Item.PartialEq.eq l.seen q
