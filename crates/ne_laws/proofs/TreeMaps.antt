@@ -1,4 +1,4 @@
--- A tree map by the equality of its keys, which holds exactly where `cmp` is `Equal`.
+-- A tree map, read by the equality of its keys, which holds if and only if `cmp` is `Equal`.
 use Rattle.std.proofs.Common.{◌≡◌, ◌<◌, Bool, subst, sym}
 use mathlib.Core.Path.{fun_ext}
 use Rattle.std.specs.BTreeMap.{BTreeMap, IsOrdered, btree_map_len, keys}
@@ -9,7 +9,7 @@ use Rattle.ne_laws.specs.Maps.{IsMap}
 
 module _ {K : Type 0} (eq : K → K → Bool) (cmp : K → K → Ordering)
     (same : (x y : K) → eq x y ≡ eq_by_cmp cmp x y) where
-  -- what holds by the comparison holds by the equality
+  -- What holds for the comparison holds for the equality.
   pub by_eq : (P : (K → K → Bool) → Type 0) → P (eq_by_cmp cmp) → P eq
   by_eq P p = subst P (sym (fun_ext (λ x. fun_ext (λ y. same x y)))) p
 

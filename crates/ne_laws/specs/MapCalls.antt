@@ -1,4 +1,4 @@
--- What a list of calls on a map replies, and what it leaves.
+-- The replies to a list of calls on a map, and the map that the calls leave.
 use Rattle.std.specs.Prelude.{◌≡◌, Bool, List, [], ◌∷◌, ◌++◌, length, is_some}
 use Rattle.std.specs.Int.NonZero.{non_zero_usize_get}
 use Rattle.std.specs.Map.{lookup}
@@ -10,7 +10,7 @@ use Rattle.ne_laws.specs.declared.map_calls.MapReply.{MapReply}
 use Rattle.ne_laws.specs.declared.map_calls.MapReply.TheVariants as reply
 
 module _ {K V : Type 0} (eq : K → K → Bool) where
-  -- The call is answered by the reply, and takes the map es to the map fs.
+  -- The call on the map es has this reply, and leaves the map fs.
   abbrev pub Answers : List (K × V) → MapCall K V → MapReply V → List (K × V) → Type 0
   Answers es (Insert k v) r fs = (r ≡ reply.Old (lookup (eq k) es)) × Puts eq es k v fs
   Answers es (Write k v) r fs = (r ≡ reply.Old (lookup (eq k) es)) × Writes eq es k v fs
@@ -18,14 +18,14 @@ module _ {K V : Type 0} (eq : K → K → Bool) where
   Answers es Len r fs = (n : NonZeroUsize) × (r ≡ reply.Len n)
       × (non_zero_usize_get n ≡ length es) × (fs ≡ es)
 
-  -- The calls are answered by the replies in turn, each from the map that the one before left; es
-  -- has a key, and so has each map that a call leaves.
+  -- The calls have these replies, one after the other, each on the map that the call before it
+  -- left. The map es has a key, and so has each map that a call leaves.
   abbrev pub RunsTo : List (K × V) → List (MapCall K V) → List (MapReply V) → List (K × V) → Type 0
   RunsTo es [] rs fs = IsMap eq es × (rs ≡ []) × (fs ≡ es)
   RunsTo es (c ∷ cs) rs fs = IsMap eq es × ((r : MapReply V) × (rest : List (MapReply V))
       × (mid : List (K × V)) × (rs ≡ r ∷ rest) × Answers es c r mid × RunsTo mid cs rest fs)
 
-  -- Some first calls of cs were carried out, and no other.
+  -- The calls at the front of cs were made, and no others.
   abbrev pub RunsSome : List (K × V) → List (MapCall K V) → List (K × V) → Type 0
   RunsSome es cs fs = (done : List (MapCall K V)) × (later : List (MapCall K V))
       × (rs : List (MapReply V)) × (cs ≡ done ++ later) × RunsTo es done rs fs

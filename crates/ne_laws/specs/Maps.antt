@@ -5,16 +5,16 @@ use Rattle.std.specs.List.{IsDistinct}
 use Rattle.std.specs.Map.{keys_of, lookup}
 
 module _ {K V : Type 0} (eq : K → K → Bool) where
-  -- No two keys are equal, and there is a key.
+  -- No two keys are equal, and there is at least one key.
   abbrev pub IsMap : List (K × V) → Type 0
   IsMap es = IsDistinct eq (keys_of es) × (0 < length es)
 
-  -- fs has v at the key k, and at each other key what es has; it has one key more than es if k is
-  -- new, and as many if it is not.
+  -- fs has v at the key k, and at each other key it has the same as es. It has one key more than es
+  -- if k is new, and as many keys if k is not new.
   abbrev pub Puts : List (K × V) → K → V → List (K × V) → Type 0
   Puts es k v fs = ((q : K) → lookup (eq q) fs ≡ cond (eq k q) (Some v) (lookup (eq q) es))
       × (length fs ≡ length es + (if is_some (lookup (eq k) es) then 0 else 1))
 
-  -- The same if es has the key k; if it has not, nothing changes.
+  -- If es has the key k, fs is es with v at k. If it does not, nothing changes.
   abbrev pub Writes : List (K × V) → K → V → List (K × V) → Type 0
   Writes es k v fs = MatchOption (lookup (eq k) es) (fs ≡ es) (λ _. Puts es k v fs)

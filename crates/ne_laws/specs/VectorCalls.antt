@@ -1,4 +1,4 @@
--- What a list of calls on a vector replies, and what it leaves.
+-- The replies to a list of calls on a vector, and the vector that the calls leave.
 use Rattle.std.specs.Prelude.{◌≡◌, ◌<◌, ◌≤◌, ℕ, List, [], ◌∷◌, ◌++◌, length, take, reverse, insert}
 use Rattle.std.specs.Prelude.{remove, swap_remove, slice_get, None, Some}
 use Rattle.std.specs.Int.NonZero.{non_zero_usize_get}
@@ -10,21 +10,22 @@ use Rattle.ne_laws.specs.declared.vector_calls.VecReply.{VecReply}
 use Rattle.ne_laws.specs.declared.vector_calls.VecReply.TheVariants as reply
 
 module _ {T : Type 0} where
-  -- An item is taken out of v, and w is left: none if it is the only one, and else one that `taken`
-  -- holds of.
+  -- An item is taken from v, `taken` holds for it, and w is left. If v has only one item, none is
+  -- taken and w is v.
   abbrev pub Takes : List T → VecReply T → List T → (T → Type 0) → Type 0
   Takes v r w taken = (length v ≡ 1 → (r ≡ reply.Taken None) × (w ≡ v))
       × (1 < length v → (x : T) × (r ≡ reply.Taken (Some x)) × taken x)
 
-  -- The same of the item at place i. Where others are there, and the place is not, the call is
-  -- refused, and nothing changes.
+  -- The item at index i is taken from v, `taken` holds for it, and w is left. If v has only one
+  -- item, none is taken and w is v. If v has more items but none at index i, the call is refused
+  -- and w is v.
   abbrev pub TakesAt : List T → ℕ → VecReply T → List T → (T → Type 0) → Type 0
   TakesAt v i r w taken = (length v ≡ 1 → (r ≡ reply.Taken None) × (w ≡ v))
       × (1 < length v → i < length v
       → (x : T) × (r ≡ reply.Taken (Some x)) × (slice_get v i ≡ Some x) × taken x)
       × (1 < length v → length v ≤ i → (r ≡ reply.Refused) × (w ≡ v))
 
-  -- The call is answered by the reply, and takes the list v to the list w.
+  -- The call on the list v has this reply, and leaves the list w.
   abbrev pub Answers : List T → VecCall T → VecReply T → List T → Type 0
   Answers v (Push x) r w = (r ≡ reply.Done) × (w ≡ v ++ x ∷ [])
   Answers v Pop r w = Takes v r w (λ x. v ≡ w ++ x ∷ [])
@@ -37,14 +38,14 @@ module _ {T : Type 0} where
   Answers v Len r w = (n : NonZeroUsize) × (r ≡ reply.Len n)
       × (non_zero_usize_get n ≡ length v) × (w ≡ v)
 
-  -- The calls are answered by the replies in turn, each from the list that the one before left; v
-  -- has an item, and so has each list that a call leaves.
+  -- The calls have these replies, one after the other, each on the list that the call before it
+  -- left. The list v has an item, and so has each list that a call leaves.
   abbrev pub RunsTo : List T → List (VecCall T) → List (VecReply T) → List T → Type 0
   RunsTo v [] rs w = (0 < length v) × (rs ≡ []) × (w ≡ v)
   RunsTo v (c ∷ cs) rs w = (0 < length v) × ((r : VecReply T) × (rest : List (VecReply T))
       × (mid : List T) × (rs ≡ r ∷ rest) × Answers v c r mid × RunsTo mid cs rest w)
 
-  -- Some first calls of cs were carried out, and no other.
+  -- The calls at the front of cs were made, and no others.
   abbrev pub RunsSome : List T → List (VecCall T) → List T → Type 0
   RunsSome v cs w = (done : List (VecCall T)) × (later : List (VecCall T))
       × (rs : List (VecReply T)) × (cs ≡ done ++ later) × RunsTo v done rs w

@@ -1,8 +1,9 @@
-//! Calls that go over several calls of the library, and say what all of them did: [`reader`], a
-//! reader of runs that is stopped; [`vector_calls`], a list of calls on a vector; and
-//! [`map_calls`], a list of calls on a map, whichever of [`maps`] it is.
+//! Functions that make several calls of the library, with contracts that say what all of the calls
+//! did. [`reader`] reads the first runs of an iterator and then stops, [`vector_calls`] makes a
+//! list of calls on a vector, and [`map_calls`] makes a list of calls on a map, which can be any of
+//! [`maps`].
 //!
-//! It is ours: the Rust crate has nothing of the kind.
+//! The Rust crate has nothing like this crate.
 #![tactic(auto)]
 
 pub mod map_calls;

@@ -1,4 +1,4 @@
-//! A list of calls on a map, carried out one after another.
+//! A list of calls on a map, made one after another.
 ghost use Rattle.std.specs.Prelude.{◌≡◌, length, IfOk, OnErr};
 ghost use Rattle.ne_laws.specs.MapCalls.{Answers, RunsSome, RunsTo};
 ghost use Rattle.ne_laws.specs.Maps.{IsMap};
@@ -10,34 +10,34 @@ use std::num::NonZeroUsize;
 /// A call on a map.
 #[derive(Drop)]
 pub enum MapCall<K, V> {
-    /// Puts the value at the key: [`NonEmptyMap::put`].
+    /// Inserts the value at the key, by [`NonEmptyMap::put`].
     Insert(K, V),
-    /// Writes the value to the key if it is there: [`NonEmptyMap::set`].
+    /// Changes the value of the key if the key is there, by [`NonEmptyMap::set`].
     Write(K, V),
-    /// Whether the key is there: [`NonEmptyMap::has`].
+    /// Returns whether the key is there, by [`NonEmptyMap::has`].
     Has(K),
-    /// How many keys there are: [`NonEmptyMap::size`].
+    /// Returns the number of keys, by [`NonEmptyMap::size`].
     Len,
 }
 
-/// What a call on a map replies.
+/// The reply to a call on a map.
 #[derive(Debug, Drop)]
 pub enum MapReply<V> {
-    /// The old value of the key, `None` if it was not there: `Insert` and `Write`.
+    /// The reply to `Insert` and `Write`: the old value of the key, or `None` if it was not there.
     Old(Option<V>),
     /// Whether the key is there.
     Has(bool),
-    /// How many keys there are.
+    /// The number of keys.
     Len(NonZeroUsize),
 }
 
-/// Carries out the calls in turn, and returns a reply to each. The map has a key before and after
-/// each of them, whatever they are.
+/// Makes the calls in order, and returns a reply for each. The map has a key before and after each
+/// call, whatever the calls are.
 ///
-/// Returns `AllocError` if there is no memory for a key or for the replies. A first part of the
-/// calls was carried out then; the other calls and the replies are dropped.
+/// Returns `AllocError` if an allocation for a key or for the replies fails. Only the calls at the
+/// front were then made; the other calls and the replies are dropped.
 ///
-/// Of `{1: 'a'}`, the calls `Insert(2, 'b')`, `Write(1, 'c')` and `Write(3, 'z')` reply
+/// On `{1: 'a'}`, the calls `Insert(2, 'b')`, `Write(1, 'c')` and `Write(3, 'z')` have the replies
 /// `Old(None)`, `Old(Some('a'))` and `Old(None)`, and leave `{1: 'c', 2: 'b'}`.
 pub fn run_map<K: Eq + Drop, V: Drop, M: NonEmptyMap<K, V>>(
     alloc: Global,
@@ -51,7 +51,7 @@ pub fn run_map<K: Eq + Drop, V: Drop, M: NonEmptyMap<K, V>>(
     ensures one_each { IfOk result (λ replies. length replies.items ≡ length calls.items) }
     ensures map { IsMap K.eq (M.entries m.new) }
 {
-    // `size` says that there is a key.
+    // The contract of `size` says that there is a key.
     let _size = m.size();
     let mut replies = Vec::new(alloc);
     for call in calls {
@@ -61,7 +61,7 @@ pub fn run_map<K: Eq + Drop, V: Drop, M: NonEmptyMap<K, V>>(
     Ok(replies)
 }
 
-// Carries out one call.
+// Makes one call.
 fn answer<K: Eq + Drop, V: Drop, M: NonEmptyMap<K, V>>(
     m: &mut M,
     call: MapCall<K, V>,

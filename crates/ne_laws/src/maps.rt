@@ -1,5 +1,5 @@
-//! Maps that hold at least one key, whatever stands behind them: the library's three, and those of
-//! a user's own.
+//! Maps that hold at least one key, whatever their type is: the library's three map types, and a
+//! user's own.
 ghost use Rattle.std.specs.Prelude.{◌≡◌, List, length, is_some, IfOk, OnErr, OnOk};
 ghost use Rattle.std.specs.BTreeMap.{get, BTreeMap};
 ghost use Rattle.std.specs.Int.NonZero.{non_zero_usize_get};
@@ -12,44 +12,45 @@ use std::hash::{BuildHasher, Hash};
 use std::mem;
 use std::num::NonZeroUsize;
 
-/// A map that holds at least one key. Keys count as the same by their `==`.
+/// A map that holds at least one key. Keys are compared by `==`.
 ///
-/// A contract sees it as the list of its entries, in some order: `lookup (K.eq k) (M.entries m)` is
-/// the value of the key `k`, and `IsMap K.eq (M.entries m)` says that no two keys are equal, and
-/// that there is one.
+/// In contracts it is the list of its entries, in some order: `lookup (K.eq k) (M.entries m)` is
+/// the value of the key `k`, and `IsMap K.eq (M.entries m)` says that no two keys are equal and
+/// that there is at least one.
 pub trait NonEmptyMap<K: Eq, V> {
     /// The keys with their values, in some order.
     ghost entries: { Self → List (K × V) };
 
-    /// Puts a value at a key, and returns the old one, `None` if the key is new.
+    /// Inserts a key and its value, and returns the old value of an equal key, or `None` if the key
+    /// is new.
     ///
-    /// Returns `AllocError` if the map has to grow and there is no memory for it. It is then as it
-    /// was, and the pair is dropped.
+    /// Returns `AllocError` if the map has to grow and the allocation fails. The map is then
+    /// unchanged, and the pair is dropped.
     fn put(&mut self, k: K, v: V) -> Result<Option<V>, AllocError>
         ensures old { IfOk result (λ old. old ≡ lookup (K.eq k) (entries self.old)) }
         ensures puts { OnOk result (Puts K.eq (entries self.old) k v (entries self.new)) }
         ensures unchanged { OnErr result (entries self.new ≡ entries self.old) }
         ensures map { IsMap K.eq (entries self.new) };
 
-    /// Whether there is an equal key.
+    /// Returns whether the map holds a key equal to `k`.
     fn has(&self, k: &K) -> bool
         ensures { result ≡ is_some (lookup (K.eq k.now) (entries self.now)) };
 
-    /// Writes a value to a key that is there, and returns the old one. If the key is not there it
-    /// returns `None`, nothing changes, and the value is dropped. It takes no memory.
+    /// Changes the value of the key equal to `k`, and returns the old value. If there is no such
+    /// key, it returns `None`, nothing changes, and the new value is dropped. It does not allocate.
     fn set(&mut self, k: &K, v: V) -> Option<V>
         ensures old { result ≡ lookup (K.eq k.now) (entries self.old) }
         ensures writes { Writes K.eq (entries self.old) k.now v (entries self.new) }
         ensures map { IsMap K.eq (entries self.new) };
 
-    /// How many keys there are, at least 1.
+    /// Returns the number of keys, which is at least 1.
     fn size(&self) -> NonZeroUsize
         ensures size { non_zero_usize_get result ≡ length (entries self.now) }
         ensures map { IsMap K.eq (entries self.now) };
 }
 
-/// In a tree map a look-up by the order of the keys, as std has it, and one by their `==`, as lists
-/// of calls have it, find the same.
+/// Looking up a key of a tree map by the order of the keys, as std does, and by `==`, as lists of
+/// calls do, gives the same value.
 pub fn tree_maps_are_read_alike<K: Ord, V>()
     ensures { (m : BTreeMap K V) (q : K) → get K.cmp m q ≡ lookup (K.eq q) m.entries }
 {}

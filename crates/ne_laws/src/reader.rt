@@ -1,4 +1,4 @@
-//! The first runs of a source, and the reader as it stands after them.
+//! The first runs of a non-empty iterator, and the reader after them.
 ghost use Rattle.std.specs.Prelude.{◌≡◌, ◌<◌, ◌≤◌, IfOk, length};
 ghost use Rattle.std.specs.Iterator.{IsFiniteIterable, CallableOnAllAt};
 ghost use Rattle.ne_iter.specs.GroupingRuns.{HasRead, IsOver};
@@ -9,20 +9,20 @@ use nonempty_collections::iter::GroupBy;
 use nonempty_collections::{NEVec, NonEmptyIterator};
 use std::alloc::{AllocError, Global};
 
-/// The first `k` runs of `iter` by the keys that `key` returns, and the reader as it stands then,
-/// which gives the runs that follow. If the source has fewer runs, these are all of them, and the
-/// reader returns `None` from then on.
+/// Returns the first `k` runs of `iter` by the keys that `key` returns, and the reader, which gives
+/// the runs that follow. If there are fewer runs, all of them are returned, and the reader returns
+/// `None` from then on.
 ///
-/// The runs are those of [`group_by`](NonEmptyIterator::group_by): an item goes on a run while its
-/// key equals that of the run's first item. `key` is called once on each item that is drawn, in
-/// order. At most one item is drawn beyond the runs, which the reader holds; if `k` is 0 nothing is
-/// drawn, and `key` is not called.
+/// The runs are those of [`group_by`](NonEmptyIterator::group_by): an item continues a run if its
+/// key equals that of the run's first item. `key` is called once for each item that is drawn, in
+/// order. At most one item beyond the runs is drawn, and the reader holds it. If `k` is 0, nothing
+/// is drawn and `key` is not called.
 ///
-/// Returns `AllocError` if there is no memory for a run or for the list of the runs. All that was
-/// drawn is then dropped, and the source and `key` with it.
+/// Returns `AllocError` if an allocation for a run or for the list of the runs fails. All that was
+/// drawn is then dropped, and so are the source and `key`.
 ///
-/// Of 5, 5, 6 and 6 by the item itself, with `k` 1, it gives the run `[5, 5]`; `key` was called
-/// three times, one 6 is held, and the other was not drawn.
+/// For 5, 5, 6 and 6, each its own key, and `k` 1, it returns the run `[5, 5]`. `key` was then
+/// called three times, the reader holds one 6, and the other 6 was not drawn.
 pub fn take_runs<I: NonEmptyIterator, K: PartialEq + Drop, F: FnMut(&I::Item) -> K + Drop>(
     alloc: Global,
     iter: I,

@@ -1,4 +1,4 @@
-//! A list of calls on a vector, carried out one after another.
+//! A list of calls on a vector, made one after another.
 ghost use Rattle.std.specs.Prelude.{◌≡◌, ◌<◌, length, IfOk, OnErr};
 ghost use Rattle.ne_laws.specs.VectorCalls.{Answers, RunsSome, RunsTo};
 
@@ -6,18 +6,18 @@ use nonempty_collections::NEVec;
 use std::alloc::{AllocError, Global};
 use std::num::NonZeroUsize;
 
-/// A call on a vector, by the name of the call that it stands for.
+/// A call on a vector. Each variant has the name of the method that it calls.
 #[derive(Drop)]
 pub enum VecCall<T> {
     /// [`NEVec::push`].
     Push(T),
     /// [`NEVec::pop`].
     Pop,
-    /// [`NEVec::remove`] at a place.
+    /// [`NEVec::remove`] at an index.
     Remove(usize),
-    /// [`NEVec::swap_remove`] at a place.
+    /// [`NEVec::swap_remove`] at an index.
     SwapRemove(usize),
-    /// [`NEVec::insert`] at a place.
+    /// [`NEVec::insert`] at an index.
     Insert(usize, T),
     /// [`NEVec::truncate`] to a length.
     Truncate(NonZeroUsize),
@@ -27,27 +27,27 @@ pub enum VecCall<T> {
     Len,
 }
 
-/// What a call on a vector replies.
+/// The reply to a call on a vector.
 #[derive(Drop)]
 pub enum VecReply<T> {
-    /// The call was carried out: `Push`, `Insert`, `Truncate` and `Reverse`.
+    /// The reply to `Push`, `Insert`, `Truncate` and `Reverse`: the call was made.
     Done,
-    /// The item that was taken out; `None` if it is the only one, which stays.
+    /// The item that was taken out, or `None` if it is the only one, which stays.
     Taken(Option<T>),
-    /// How many items there are.
+    /// The number of items.
     Len(NonZeroUsize),
-    /// The place is not there, and nothing was changed: `Remove` and `SwapRemove` at the length or
-    /// beyond, unless the vector has one item, and `Insert` beyond the length.
+    /// The index is out of range, and nothing was changed: `Remove` and `SwapRemove` at the length
+    /// or beyond, unless the vector has one item, and `Insert` beyond the length.
     Refused,
 }
 
-/// Carries out the calls in turn, and returns a reply to each. The vector has an item before and
-/// after each of them, whatever they are.
+/// Makes the calls in order, and returns a reply for each. The vector has an item before and after
+/// each call, whatever the calls are.
 ///
-/// Returns `AllocError` if there is no memory for an item or for the replies. A first part of the
-/// calls was carried out then; the other calls and the replies are dropped.
+/// Returns `AllocError` if an allocation for an item or for the replies fails. Only the calls at
+/// the front were then made; the other calls and the replies are dropped.
 ///
-/// Of `[1]`, the calls `Pop`, `Push(2)` and `Remove(0)` reply `Taken(None)`, `Done` and
+/// On `[1]`, the calls `Pop`, `Push(2)` and `Remove(0)` have the replies `Taken(None)`, `Done` and
 /// `Taken(Some(1))`, and leave `[2]`.
 pub fn run_vec<T: Drop>(
     alloc: Global,
@@ -59,7 +59,7 @@ pub fn run_vec<T: Drop>(
     ensures one_each { IfOk result (λ replies. length replies.items ≡ length calls.items) }
     ensures nonempty { 0 < length v.new }
 {
-    // `len` says that there is an item.
+    // The contract of `len` says that there is an item.
     let _before = v.len();
     let mut replies = Vec::new(alloc);
     for call in calls {
@@ -70,7 +70,7 @@ pub fn run_vec<T: Drop>(
     Ok(replies)
 }
 
-// Carries out one call.
+// Makes one call.
 fn answer<T: Drop>(v: &mut NEVec<T>, call: VecCall<T>) -> Result<VecReply<T>, AllocError>
     ensures step { IfOk result (λ reply. Answers v.old call reply v.new) }
     ensures unchanged { OnErr result (v.new ≡ v.old) }

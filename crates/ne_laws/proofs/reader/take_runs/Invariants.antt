@@ -4,7 +4,7 @@ use Rattle.ne_iter.specs.GroupingRuns.{HasRead, CanRead}
 use Rattle.ne_iter.specs.Grouping.{Unread}
 use Rattle.ne_laws.proofs.reader.take_runs.Given as goal
 
--- the reader began with the source that the loop's first reader had
+-- The reader began with the source that the first reader of the loop had.
 abbrev pub invariant-loop-reader : goal.invariant-loop-reader
 invariant-loop-reader g l =
     g.I.IntoIterator.into_iter_gives l.fn.iter l.initial.reader.source
