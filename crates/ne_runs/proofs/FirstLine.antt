@@ -6,7 +6,7 @@ use Rattle.std.proofs.lemmas.List.Sums.{fails_before_first}
 use Rattle.std.proofs.lemmas.Bool.Decides.{nat_tests}
 use Rattle.ne_runs.specs.Lines.{lines_of}
 
--- the first line is what stands before the first line feed
+-- The first line is what comes before the first line feed.
 pub lines_of-at_feed : (end : ℕ) (text : List ℕ) → end < length text
     → ((k : ℕ) → k < end → eqb (get_or text k 0) 10 ≡ false) → eqb (get_or text end 0) 10 ≡ true
     → lines_of text ≡ take end text ∷ lines_of (drop (suc end) text)
@@ -19,7 +19,7 @@ lines_of-at_feed (suc end) (byte ∷ text) inside before here =
           (λ k below. before (suc k) (omega arith)) here,
     )
 
--- a text without a line feed is one line
+-- A text without a line feed is one line.
 pub lines_of-no_feed : (text : List ℕ) → 0 < length text
     → ((k : ℕ) → k < length text → eqb (get_or text k 0) 10 ≡ false) → lines_of text ≡ text ∷ []
 lines_of-no_feed [] some none = absurd (omega arith)
@@ -35,7 +35,7 @@ none_before : (first len k : ℕ) → cond (ltb first len) (Some first) None ≡
     → k < first
 none_before first len k none below = grind (arith, nat_tests)
 
--- no byte of a text in which none is found is a line feed
+-- If no line feed is found in a text, no byte of it is a line feed.
 pub no_line_feed : (text : List ℕ) → position (λ byte. eqb byte 10) text ≡ None → (k : ℕ)
     → k < length text → eqb (get_or text k 0) 10 ≡ false
 no_line_feed text none k below =

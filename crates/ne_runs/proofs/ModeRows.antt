@@ -1,4 +1,4 @@
--- Each mode makes rows of numbers, and no others.
+-- Each mode makes exactly one list of rows.
 use Rattle.std.proofs.Common.{arith, sym, ap₂, ◌∙◌}
 use Rattle.std.specs.Prelude.{◌≡◌, ℕ, ◌<◌, ◌≤◌, Bool, All, Contains, nat_eq, List, [], ◌∷◌, length}
 use Rattle.std.specs.Prelude.{sum, refl}

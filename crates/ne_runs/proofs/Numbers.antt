@@ -1,4 +1,4 @@
--- The numbers of lines: what digits write, and the first bad line.
+-- The numbers of lines: the number that digits write, and the first bad line.
 use Rattle.std.proofs.Common.{◌≡◌, ℕ, ◌+◌, ◌^◌, ◌<◌, ◌≤◌, false, true, List, length, None, Some}
 use Rattle.std.proofs.Common.{arith, ltb, sym, rules}
 use Rattle.std.specs.List.{position_or_len}
@@ -15,29 +15,29 @@ use Rattle.ne_runs.specs.Lines.{is_bad, is_number, number_of, place_value}
 use Rattle.ne_runs.specs.Faults.{bad_line}
 use Rattle.ne_runs.specs.declared.fault.Fault.TheVariants.{BadLine}
 
--- behind at most eight digits there is room for one more
+-- After at most eight digits there is room for one more.
 pub nine_digits_fit : (value count : ℕ) → value < 10 ^ count → count < 9 → value < 100000000
 nine_digits_fit value count below few =
     let most : 10 ^ count ≤ 10 ^ 8 = pow-le-pow_right {n = 10} (omega arith) {i = count} {j = 8}
     (omega arith) in omega (arith, most)
 
--- no line is bad
+-- No line is bad.
 pub bad_line-none : (lines : List (List ℕ)) → position_or_len is_bad lines ≡ length lines
     → bad_line lines ≡ None
 bad_line-none lines e = let past : ltb (length lines) (length lines)
     ≡ false = grind (arith, nat_tests) in rw (e, past)
 
--- the first bad line stands at this place
+-- The first bad line is at this index.
 pub bad_line-some : (lines : List (List ℕ)) (place : ℕ) → position_or_len is_bad lines ≡ place
     → place < length lines → bad_line lines ≡ Some (BadLine (place + 1))
 bad_line-some lines place e inside = let within : ltb place (length lines)
     ≡ true = grind (arith, nat_tests) in rw (e, within)
 
--- digits, and the number that they write by their places
+-- Digits, and the number that they write by the weights of their places.
 weighs : IsNumeralModel (λ line. all_ascii_digits line ≡ true) place_value
 weighs = numerals_by_weight _ tells_all_ascii_digits place_value (search rules)
 
--- the same digits, and the number that std reads
+-- Digits, and the number that std reads from them.
 reads : IsNumeralModel (λ line. all_ascii_digits line ≡ true) (digits_value 10)
 reads = numerals_by_value _ tells_all_ascii_digits
 

@@ -1,4 +1,4 @@
--- A text has its lines and no others.
+-- Each text has exactly one list of lines.
 use Rattle.std.proofs.Common.{◌≡◌, ◌≢◌, ℕ, inl, inr, Bool, true, false, cond, List, [], ◌∷◌, ◌++◌}
 use Rattle.std.proofs.Common.{refl, sym, ap, append_assoc, arith, eqb, eqb-true}
 use Rattle.std.specs.List.{flat_map, onto_first, AllByRecursion}
@@ -23,7 +23,7 @@ lines_of-single (byte ∷ []) free some = rw (not_feed byte free.0)
 lines_of-single (byte ∷ next ∷ line) free some = rw
     (not_feed byte free.0, lines_of-single (next ∷ line) free.1 (λ e. cc))
 
--- the lines of lines that are all ended
+-- The lines of a text in which each line is ended.
 lines_of-all_ended : (lines : List (List ℕ)) → AllByRecursion NoFeed lines
     → lines_of (flat_map ended lines) ≡ lines
 lines_of-all_ended [] free = refl
@@ -34,7 +34,7 @@ lines_of-all_ended (line ∷ lines) free =
       lines_of-all_ended lines free.1,
     )
 
--- the lines of lines the last of which is open
+-- The lines of a text in which the last line is open.
 lines_of-open : (front : List (List ℕ)) (last : List ℕ) → AllByRecursion NoFeed (front ++ last ∷ [])
     → last ≢ [] → lines_of (flat_map ended front ++ last) ≡ front ++ last ∷ []
 lines_of-open [] last free some = lines_of-single last free.0 some
@@ -58,7 +58,7 @@ only_lines text lines are =
           (sym (lines_of-open open_end.front open_end.last free open_end.not_empty))
     ]
 
--- a line feed in front is an empty line
+-- A line feed in front adds an empty line.
 with_feed : (text : List ℕ) (lines : List (List ℕ)) → AreLines text lines
     → AreLines (10 ∷ text) ([] ∷ lines)
 with_feed text lines are = record {
@@ -75,7 +75,7 @@ with_feed text lines are = record {
   ];
 }
 
--- a list with a last item is not empty
+-- A list with a last item is not empty.
 no_last : {X : Type 0} (front : List X) (last : X) → [] ≡ front ++ last ∷ [] → ⊥
 no_last [] last e = cc
 no_last (x ∷ front) last e = cc
@@ -87,7 +87,7 @@ alone byte text are =
       | inr open_end ↦ absurd (no_last open_end.front open_end.last open_end.parts)
     ]
 
--- a byte in front of lines the last of which is open
+-- A byte in front of lines of which the last is open.
 onto_open : (byte : ℕ) (front : List (List ℕ)) (last line : List ℕ) (lines : List (List ℕ))
     (text : List ℕ) → line ∷ lines ≡ front ++ last ∷ [] → last ≢ []
     → text ≡ flat_map ended front ++ last → EndsOpen (byte ∷ text) ((byte ∷ line) ∷ lines)
@@ -106,7 +106,7 @@ onto_open byte (first ∷ front) last line lines text parts some joined = record
   joined = ap (λ t. byte ∷ t) joined;
 }
 
--- another byte in front goes onto the first line
+-- Any other byte in front is added to the first line.
 with_byte : (byte : ℕ) → byte ≢ 10 → (text : List ℕ) (lines : List (List ℕ)) → AreLines text lines
     → AreLines (byte ∷ text) (onto_first byte lines)
 with_byte byte other text [] are = record {

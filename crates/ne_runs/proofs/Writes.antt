@@ -6,7 +6,7 @@ use Rattle.std.proofs.KnownBytes.{Appends-trans}
 use Rattle.std.proofs.lemmas.List.{take_all, length-drop}
 use Rattle.ne_runs.specs.Runs.{TakesPart}
 
--- a write took some more bytes of the rest
+-- A write took some more bytes of the rest.
 pub takes_more : (text rest : List ℕ) (count : ℕ) (taken now next : Option (List ℕ))
     → TakesPart text rest taken now → Appends now next (take count rest)
     → TakesPart text (take (length rest - count) (drop count rest)) taken next

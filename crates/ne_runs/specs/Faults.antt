@@ -1,4 +1,4 @@
--- The faults: the text and the exit status of each, and the fault that an input has.
+-- The faults: the text and the exit status of each, and the fault of an input.
 use Rattle.std.specs.Prelude.{ℕ, ◌+◌, List, [], ◌∷◌, ◌++◌, if◌then◌else◌, nat_lt, length, codes}
 use Rattle.std.specs.Prelude.{position, Option, Some}
 use Rattle.std.specs.Option.{option_map}
@@ -8,7 +8,7 @@ use Rattle.ne_runs.specs.declared.fault.Fault.{Fault}
 use Rattle.ne_runs.specs.declared.fault.Fault.TheVariants.{Empty, BadLine, TooLong, Usage, Read}
 use Rattle.ne_runs.specs.declared.fault.Fault.TheVariants.{Write, Memory}
 
--- what a fault prints
+-- The text that a fault prints.
 abbrev pub fault_text : Fault → List ℕ
 fault_text Empty = codes "Given collection was empty"
 fault_text (BadLine place) = codes "bad line " ++ decimal place
@@ -18,7 +18,7 @@ fault_text Read = codes "read failed"
 fault_text Write = codes "write failed"
 fault_text Memory = codes "out of memory"
 
--- the exit status that tells a fault
+-- The exit status that reports a fault.
 abbrev pub fault_status : Fault → ℕ
 fault_status Empty = 1
 fault_status (BadLine place) = 2
@@ -28,20 +28,20 @@ fault_status Read = 3
 fault_status Write = 3
 fault_status Memory = 4
 
--- the most bytes that a run takes
+-- The greatest number of bytes that a run accepts.
 abbrev pub most_bytes : ℕ
 most_bytes = 1048576
 
--- the first bad line, counted from 1
+-- The first bad line, counted from 1.
 abbrev pub bad_line : List (List ℕ) → Option Fault
 bad_line lines = option_map (λ place. BadLine (place + 1)) (position is_bad lines)
 
--- what is wrong with lines: there is none, or one is bad
+-- What is wrong with lines: there are none, or one is bad.
 abbrev pub fault_of_lines : List (List ℕ) → Option Fault
 fault_of_lines [] = Some Empty
 fault_of_lines (line ∷ lines) = bad_line (line ∷ lines)
 
--- what is wrong with an input: it is too long, else what is wrong with its lines
+-- What is wrong with an input: if it is too long, that; otherwise what is wrong with its lines.
 abbrev pub fault_of : List ℕ → Option Fault
 fault_of input = if nat_lt most_bytes (length input) then Some TooLong else fault_of_lines
     (lines_of input)

@@ -1,4 +1,5 @@
--- The modes: the word that names each, and what it writes of a list of numbers. A space is 32.
+-- The modes: the word that names each mode, and what it writes for a list of numbers. A space is
+-- the byte 32.
 use Rattle.std.specs.Prelude.{◌≡◌, ◌==◌, ℕ, ◌≤◌, ◌-◌, ◌%◌, Bool, nat_eq, nat_le, List, [], ◌∷◌}
 use Rattle.std.specs.Prelude.{◌++◌, if◌then◌else◌, length, map, slice_index, codes, All, Contains}
 use Rattle.std.specs.Prelude.{sum, Option, None, Some}
@@ -13,7 +14,7 @@ use Rattle.ne_runs.specs.declared.mode.Mode.{Mode}
 use Rattle.ne_runs.specs.declared.mode.Mode.TheVariants.{Ends, Stats, Equal, Parity, Distinct}
 use Rattle.ne_runs.specs.declared.mode.Mode.TheVariants.{Near, Chain}
 
--- the word that names a mode
+-- The word that names a mode.
 abbrev pub word_of : Mode → List ℕ
 word_of Ends = codes "ends"
 word_of Stats = codes "stats"
@@ -23,7 +24,7 @@ word_of Distinct = codes "distinct"
 word_of Near = codes "near"
 word_of Chain = codes "chain"
 
--- the mode that a word names
+-- The mode that a word names.
 abbrev pub mode_of : List ℕ → Option Mode
 mode_of word =
     if bytes_eq word (word_of Ends) then Some Ends
@@ -35,27 +36,27 @@ mode_of word =
     else if bytes_eq word (word_of Chain) then Some Chain
     else None
 
--- how many numbers there are, the first and the last
+-- How many numbers there are, the first number and the last.
 abbrev pub ends_of : List ℕ → List ℕ
 ends_of numbers = length numbers ∷ slice_index numbers 0 ∷ slice_index numbers (length numbers - 1)
     ∷ []
 
--- one of the numbers, which is at most each of them
+-- One of the numbers, which is at most each of them.
 abbrev pub IsLeast : List ℕ → ℕ → Type 0
 IsLeast numbers least = Contains numbers least × All (λ n. least ≤ n) numbers
 
--- one of the numbers, which is at least each of them
+-- One of the numbers, which is at least each of them.
 abbrev pub IsGreatest : List ℕ → ℕ → Type 0
 IsGreatest numbers greatest = Contains numbers greatest × All (λ n. n ≤ greatest) numbers
 
 abbrev pub is_even : ℕ → Bool
 is_even n = n % 2 == 0
 
--- whether two numbers differ by at most 1
+-- Whether two numbers differ by at most 1.
 abbrev pub is_near : ℕ → ℕ → Bool
 is_near m n = nat_le (abs_diff m n) 1
 
--- the rows that a mode makes of numbers, of which there is at least one
+-- The rows that a mode makes of numbers, if there is at least one number.
 abbrev pub AreRows : Mode → List ℕ → List (List ℕ) → Type 0
 AreRows Ends numbers rows = rows ≡ ends_of numbers ∷ []
 AreRows Stats numbers rows =
@@ -68,16 +69,17 @@ AreRows Distinct numbers rows = rows ≡ key_list nat_eq numbers ∷ []
 AreRows Near numbers rows = IsDivision (by_first is_near) numbers rows
 AreRows Chain numbers rows = IsDivision (by_previous is_near) numbers rows
 
--- a row as a line of text: in decimal, with one space between
+-- A row as a line of text: its numbers in decimal, with one space between them.
 abbrev pub row_text : List ℕ → List ℕ
 row_text row = join_with_byte 32 (map decimal row) ++ 10 ∷ []
 
--- the text is a line for each run of the numbers, as `goes_on` says which number goes on a run
+-- The text is one line for each run of the numbers. `goes_on` says whether a number continues a
+-- run.
 abbrev pub HasRowOfEachRun : (List ℕ → ℕ → Bool) → List ℕ → List ℕ → Type 0
 HasRowOfEachRun goes_on numbers text =
     (rows : List (List ℕ)) × IsDivision goes_on numbers rows × (text ≡ flat_map row_text rows)
 
--- the text that a mode writes of numbers: its rows, a line each
+-- The text that a mode writes for numbers: its rows, one line each.
 pub record IsText (mode : Mode) (numbers text : List ℕ) : Type 0 where
   pub rows : List (List ℕ)
   pub of_mode : AreRows mode numbers rows

@@ -1,6 +1,6 @@
--- What a run reads, answers and writes. `left` and `taken` are what the reader has left and what
--- the writer has taken, before the run, and `left'` and `taken'` the same after it; `None` claims
--- nothing of bytes.
+-- What a run reads, returns and writes. Before the run, `left` is what the reader has left and
+-- `taken` is what the writer has taken; `left'` and `taken'` are the same after the run. `None`
+-- says nothing about the bytes.
 use Rattle.std.specs.Prelude.{◌≡◌, ℕ, ◌+◌, ◌⊎◌, List, [], ◌++◌, length, Option, None, Some, Result}
 use Rattle.std.specs.Prelude.{MatchResult}
 use Rattle.std.specs.Io.KnownBytes.{Appends, Consumes, IsAtEnd}
@@ -11,22 +11,22 @@ use Rattle.ne_runs.specs.declared.mode.Mode.{Mode}
 use Rattle.ne_runs.specs.declared.fault.Fault.{Fault}
 use Rattle.ne_runs.specs.declared.fault.Fault.TheVariants.{Write}
 
--- the writer took a first part of this text, of which the rest is left, and nothing more
+-- The writer took a first part of this text and nothing more. The rest of the text is `rest`.
 pub record TakesPart (text rest : List ℕ) (taken taken' : Option (List ℕ)) : Type 0 where
   pub part : List ℕ
   pub joined : text ≡ part ++ rest
   pub written : Appends taken taken' part
 
--- the writer took the mode's text of the input's numbers, all but the rest of it, and nothing more
+-- The writer took the mode's text for the input's numbers, all but `rest`, and nothing more.
 pub record WritesBut (rest : List ℕ) (mode : Mode) (input : List ℕ)
     (taken taken' : Option (List ℕ)) : Type 0 where
   pub text : List ℕ
   pub is_text : IsText mode (numbers_of input) text
   pub takes : TakesPart text rest taken taken'
 
--- How a run ends that has read this input: nothing is wrong with it, and the whole text was
--- written; or the fault is what is wrong with it; or nothing is wrong with it, and a write or the
--- flush failed when some rest of the text, perhaps none, was left.
+-- How a run ends that has read this input. Either nothing is wrong with the input and the whole
+-- text was written; or the fault is what is wrong with the input; or nothing is wrong with it, and
+-- a write or the flush failed when some rest of the text, perhaps none, was left.
 abbrev pub EndsWith : Mode → List ℕ → Option (List ℕ) → Option (List ℕ) → Result (Unit {0}) Fault
     → Type 0
 EndsWith mode input taken taken' result =
@@ -36,8 +36,8 @@ EndsWith mode input taken taken' result =
     ⊎ ((fault_of input ≡ None) × (fault ≡ Write)
     × ((rest : List ℕ) × WritesBut rest mode input taken taken')))
 
--- A run that meets no failed read and no want of memory: it reads the whole input, or one byte more
--- than it takes, and ends as that input has it.
+-- A run in which no read and no allocation fails: it reads the whole input, or one byte more than
+-- it accepts, and ends as that input requires.
 pub record Completes (mode : Mode) (left left' taken taken' : Option (List ℕ))
     (result : Result (Unit {0}) Fault) : Type 0 where
   pub input : List ℕ

@@ -1,8 +1,9 @@
 //! What a run reads from and writes to.
 //!
-//! [`Source`] and [`Sink`] are the two sides of a run. Each tells its bytes and whether a call on
-//! it has failed, and a sink whether it was flushed, so that a run's contract can say what was read
-//! and written, and when a failure was met. [`StdIo`] makes them of std's readers and writers.
+//! [`Source`] and [`Sink`] are the two sides of a run. In contracts, each says what its bytes are
+//! and whether a call on it has failed, and a sink also says whether it was flushed. So the
+//! contract of a run can say what was read and written, and when a call failed. [`StdIo`] makes a
+//! source or a sink of std's readers and writers.
 ghost use Rattle.std.specs.Prelude.{◌≡◌, ℕ, ◌<◌, ◌≤◌, Bool, true, false, ◌||◌, List, length, IfOk};
 ghost use Rattle.std.specs.Prelude.{OnOk, Option, is_err};
 ghost use Rattle.std.specs.Io.KnownBytes.{ReadConsumes, WriteAppends, Keeps};
@@ -12,16 +13,16 @@ use std::marker::Model;
 
 /// Where bytes come from.
 pub trait Source {
-    /// The bytes that are left; `None` claims nothing of them.
+    /// The bytes that are left; `None` says nothing about them.
     ghost left: { Self → Option (List ℕ) };
 
-    /// Whether a call has failed. Once it has, this stays.
+    /// Whether a call has failed. Once a call has failed, it stays true.
     ghost has_failed: { Self → Bool };
 
-    /// Reads into `buffer`, and answers how many bytes came; they stand at its front.
+    /// Reads into the front of `buffer`, and returns how many bytes were read.
     ///
-    /// `Ok(0)` with room in the buffer comes only at the end. `Err` comes exactly where the call
-    /// failed, and then no byte moved.
+    /// Returns `Ok(0)` with room in the buffer only at the end. Returns `Err` if and only if the
+    /// call failed; no byte was then read.
     fn read(&mut self, buffer: &mut [u8]) -> Result<usize, ()>
         ensures bound { IfOk result (λ count. count ≤ length buffer.new) }
         ensures bytes { ReadConsumes (left self.old) (left self.new) result buffer.new }
@@ -30,26 +31,27 @@ pub trait Source {
 
 /// Where bytes go.
 pub trait Sink {
-    /// The bytes that were taken; `None` claims nothing of them.
+    /// The bytes that were taken; `None` says nothing about them.
     ghost taken: { Self → Option (List ℕ) };
 
-    /// Whether a call has failed. Once it has, this stays.
+    /// Whether a call has failed. Once a call has failed, it stays true.
     ghost has_failed: { Self → Bool };
 
     /// Whether all that was taken was flushed.
     ghost is_flushed: { Self → Bool };
 
-    /// Writes from the front of `text`, and answers how many bytes were taken, at least one of a
-    /// text that is not empty.
+    /// Writes from the front of `text`, and returns how many bytes were taken: at least one, if the
+    /// text is not empty.
     ///
-    /// `Err` comes exactly where the call failed, and then no byte was taken.
+    /// Returns `Err` if and only if the call failed; no byte was then taken.
     fn write(&mut self, text: &[u8]) -> Result<usize, ()>
         ensures bound { IfOk result (λ count. count ≤ length text.now) }
         ensures progress { 0 < length text.now → IfOk result (λ count. 0 < count) }
         ensures bytes { WriteAppends (taken self.old) (taken self.new) result text.now }
         ensures failed { has_failed self.new ≡ (has_failed self.old || is_err result) };
 
-    /// Sends on what was taken and is still held. `Err` comes exactly where the call failed.
+    /// Sends on the bytes that were taken and are still held. Returns `Err` if and only if the call
+    /// failed.
     fn flush(&mut self) -> Result<(), ()>
         ensures bytes { Keeps (taken self.old) (taken self.new) }
         ensures flushed { OnOk result (is_flushed self.new ≡ true) }
@@ -58,8 +60,8 @@ pub trait Sink {
 
 /// A reader or a writer of std as a [`Source`] or a [`Sink`].
 ///
-/// It tells bytes where std's does. A contract sees it as the reader or writer, whether a call on
-/// it has failed, and whether all that was written is flushed.
+/// It says what its bytes are if std's reader or writer does. In contracts it is the reader or
+/// writer, whether a call on it has failed, and whether all that was written is flushed.
 #[derive(Drop)]
 pub struct StdIo<T> {
     inner: T,
@@ -80,7 +82,7 @@ impl<T> Model for StdIo<T> {
 }
 
 impl<T> StdIo<T> {
-    /// No call on it has failed, and there is nothing to flush.
+    /// Wraps a reader or a writer. No call on it has failed, and there is nothing to flush.
     pub fn new(inner: T) -> StdIo<T>
         ensures { result ≡ record { inner = inner; has_failed = false; is_flushed = true } }
     {
@@ -91,7 +93,7 @@ impl<T> StdIo<T> {
         }
     }
 
-    /// The reader or writer, as it stands.
+    /// Returns the reader or writer as it is.
     pub fn into_inner(self) -> T
         ensures { result ≡ self.inner }
     {
@@ -127,8 +129,7 @@ impl<T: io::Write> Sink for StdIo<T> {
 
     ghost is_flushed = { λ device. device.is_flushed };
 
-    /// A write that takes no byte of a text that is not empty has failed. What is taken is to be
-    /// flushed.
+    /// A write that takes no byte of a non-empty text has failed. What is taken is not yet flushed.
     fn write(&mut self, text: &[u8]) -> Result<usize, ()>
         ensures bound { IfOk result (λ count. count ≤ length text.now) }
         ensures progress { 0 < length text.now → IfOk result (λ count. 0 < count) }

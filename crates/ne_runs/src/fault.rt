@@ -1,4 +1,4 @@
-//! [`Fault`], why a run ended otherwise than by writing its text: seven of them, each with its text
+//! [`Fault`]: why a run did not end by writing its text. There are seven faults, each with its text
 //! and its exit status.
 ghost use Rattle.std.specs.Prelude.{◌≡◌, Some};
 ghost use Rattle.ne_runs.specs.Faults.{fault_text, fault_status};
@@ -8,28 +8,28 @@ use std::alloc::{AllocError, AllocFailed};
 use std::error::Error;
 use std::fmt;
 
-/// Why a run ended otherwise than by writing its whole text and flushing it.
+/// Why a run ended without writing its whole text and flushing it.
 #[derive(Clone, Copy, Debug, PartialEq, Eq)]
 pub enum Fault {
     /// The input has no line.
     Empty,
-    /// The place of the input's first bad line, counted from 1.
+    /// A line of the input is bad. The number is that of the first bad line, counted from 1.
     BadLine(u32),
     /// The input has more than 1,048,576 bytes.
     TooLong,
-    /// There is not just one word, or it names no mode. Nothing was read.
+    /// There is not exactly one word, or it names no mode. Nothing was read.
     Usage,
     /// A read failed.
     Read,
-    /// A write, or the flush, failed.
+    /// A write or the flush failed.
     Write,
-    /// There was no memory for what was asked.
+    /// An allocation failed.
     Memory,
 }
 
 impl Fault {
-    /// The exit status: 1 for no line, 2 for a bad input or word, 3 for a failed device, 4 for want
-    /// of memory.
+    /// Returns the exit status: 1 for no line, 2 for a bad input or word, 3 for a failed device, 4
+    /// for a failed allocation.
     pub fn status(&self) -> u8
         ensures { result ≡ fault_status self.now }
     {

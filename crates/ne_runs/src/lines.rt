@@ -10,29 +10,29 @@ ghost use Rattle.ne_runs.specs.Lines.{place_value};
 use crate::fault::Fault;
 use std::alloc::Global;
 
-/// Each text has its lines, and no others: the two ways in which lines are defined agree.
+/// Each text has exactly one list of lines: the two definitions of lines agree.
 pub fn lines_are_one()
     ensures there { (text : List ℕ) → AreLines text (lines_of text) }
     ensures only { (text : List ℕ) (lines : List (List ℕ)) → AreLines text lines
         → lines ≡ lines_of text }
 {}
 
-/// The number that a good line writes is the sum of its digits, each by the weight of its place.
-/// The digits that print a number are a good line that writes it.
+/// The number that a good line writes is the sum of its digits, each times the weight of its place.
+/// The digits of a number of at most nine digits are a good line that writes it.
 pub fn numbers_are_decimal()
     ensures weighed { (line : List ℕ) → is_number line ≡ true → number_of line ≡ place_value line }
     ensures good { (n : ℕ) → n < 10 ^ 9 → is_number (decimal n) ≡ true }
     ensures printed { (n : ℕ) → n < 10 ^ 9 → number_of (decimal n) ≡ n }
 {}
 
-// Where the first line of a text ends, if a line feed ends it.
+// Returns where the first line of a text ends, if a line feed ends it.
 fn line_end(text: &[u8]) -> Option<usize>
     ensures { result ≡ position (λ byte. byte == 10) text.now }
 {
     text.iter().position(|byte| *byte == b'\n')
 }
 
-// The first line of a text, and what follows it.
+// Returns the first line of a text, and what follows it.
 fn first_line(text: &[u8]) -> (&[u8], &[u8])
     requires { 0 < length text.now }
     ensures lines { lines_of text.now ≡ result.0.now ∷ lines_of result.1.now }
@@ -44,7 +44,7 @@ fn first_line(text: &[u8]) -> (&[u8], &[u8])
     }
 }
 
-// The number that a line of one to nine digits writes; `None` for any other line.
+// Returns the number that a line of one to nine digits writes, or `None` for any other line.
 fn number(line: &[u8]) -> Option<u32>
     ensures { MatchOption result (is_number line.now ≡ false)
         (λ number. (is_number line.now ≡ true) × (number ≡ number_of line.now)) }
@@ -62,10 +62,11 @@ fn number(line: &[u8]) -> Option<u32>
     Some(value)
 }
 
-/// The numbers of all lines of a text, in order; or its first bad line, or `Memory` where there is
-/// no memory for them.
+/// Returns the numbers of all lines of a text, in order. Returns the first bad line if there is
+/// one, or `Memory` if an allocation fails.
 ///
-/// Their sum fits in 64 bits: there are no more of them than bytes, and each fits in 32.
+/// The sum of the numbers fits in 64 bits: there are no more numbers than bytes, and each number
+/// fits in 32 bits.
 pub fn numbers(alloc: Global, text: &[u8]) -> Result<Vec<u32>, Fault>
     requires { length text.now ≤ most_bytes }
     ensures fits { IfOk result (λ numbers. sum numbers.items < 2 ^ 64) }

@@ -1,7 +1,7 @@
-//! Reads numbers, one a line, and writes what a mode makes of them.
+//! Reads numbers, one per line, and writes what a mode makes of them.
 //!
-//! `ne_runs MODE` reads standard input and writes standard output. What goes wrong is told on
-//! standard error, and by the exit status.
+//! `ne_runs MODE` reads standard input and writes standard output. A fault is reported on standard
+//! error and by the exit status.
 #![tactic(auto)]
 
 ghost use Rattle.std.specs.Prelude.{◌≡◌, ◌⊎◌, IfErr};
@@ -27,14 +27,14 @@ fn main(rt: HostRuntime) -> ExitCode {
         Ok(()) => ExitCode::SUCCESS,
         Err(fault) => {
             let status = fault.status();
-            // where the fault cannot be told, the status tells it
+            // if the fault cannot be printed, the exit status still reports it
             let _ = rt.eprintln(fault);
             ExitCode::from(status)
         }
     }
 }
 
-// Runs the mode that the command line names on the standard streams.
+// Runs the mode that the command line names, on the standard streams.
 fn start(rt: &HostRuntime) -> Result<(), Fault> {
     let words = arguments(rt)?;
     let mode = one_word(words.as_slice())?;
@@ -46,8 +46,8 @@ fn start(rt: &HostRuntime) -> Result<(), Fault> {
     )
 }
 
-// The words after the program's name, which is not looked at, since a path may be any bytes. A word
-// that is not UTF-8, or longer than that of any mode, is `Usage`.
+// Returns the words after the program's name. The name is not looked at, because a path can be any
+// bytes. A word that is not UTF-8, or longer than the word of any mode, is `Usage`.
 fn arguments(rt: &HostRuntime) -> Result<Vec<String>, Fault>
     ensures { IfErr result (λ fault. (fault ≡ Fault.Usage) ⊎ (fault ≡ Fault.Memory)) }
 {

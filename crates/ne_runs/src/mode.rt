@@ -1,7 +1,6 @@
-//! [`Mode`], what a run makes of its numbers: the word that names each mode, and its text.
+//! [`Mode`]: what a run makes of its numbers. Each mode has a word that names it, and a text.
 //!
-//! The laws of the library that are called here do nothing. What they ensure is cited by the
-//! proofs.
+//! The laws of the library that are called here do nothing. The proofs use what they ensure.
 ghost use Rattle.std.specs.Prelude.{◌≡◌, ◌^◌, ◌<◌, ◌≤◌, ◌∷◌, ◌++◌, OnOk, IfOk, Some, string_bytes};
 ghost use Rattle.std.specs.Prelude.{List, ℕ, Bool, length, sum, true};
 ghost use Rattle.std.specs.Iterator.{IsFiniteIterable};
@@ -28,22 +27,23 @@ pub enum Mode {
     Ends,
     /// The least number, the greatest and the sum of all, on one line.
     Stats,
-    /// The runs of equal numbers, a line each.
+    /// The runs of equal numbers, one line each.
     Equal,
-    /// The runs of numbers that are all even or all odd, a line each.
+    /// The runs of numbers that are all even or all odd, one line each.
     Parity,
-    /// Each number once, in the order in which they come first, on one line.
+    /// Each number once, in the order in which they first appear, on one line.
     Distinct,
-    /// The runs of numbers that differ from their run's first by at most 1, a line each.
+    /// The runs of numbers that differ from their run's first by at most 1, one line each.
     Near,
-    /// The runs of numbers that differ from the one before by at most 1, a line each.
+    /// The runs of numbers that differ from the one before by at most 1, one line each.
     Chain,
 }
 
-/// How many bytes the longest word of a mode has.
+/// The number of bytes in the longest word of a mode.
 pub const LONGEST_WORD: usize = 8;
 
-/// Each mode has a word that names it, of at most [`LONGEST_WORD`] bytes, and no other word does.
+/// Each mode has a word that names it, of at most [`LONGEST_WORD`] bytes, and no other word names
+/// it.
 pub fn modes_have_words()
     ensures named { (mode : Mode) → mode_of (word_of mode) ≡ Some mode }
     ensures only { (word : List ℕ) (mode : Mode) → mode_of word ≡ Some mode
@@ -51,7 +51,7 @@ pub fn modes_have_words()
     ensures short { (mode : Mode) → length (word_of mode) ≤ LONGEST_WORD }
 {}
 
-/// Each mode makes rows of numbers, of which there is at least one, and no other rows.
+/// Each mode makes exactly one list of rows of numbers, if there is at least one number.
 pub fn rows_are_one()
     ensures there { (mode : Mode) (numbers : List ℕ) → 0 < length numbers
         → (rows : List (List ℕ)) × AreRows mode numbers rows }
@@ -64,7 +64,7 @@ pub fn rows_are_one()
 }
 
 impl Mode {
-    /// The mode that `word` names, if it names one.
+    /// Returns the mode that `word` names, or `None` if it names none.
     pub fn named(word: &str) -> Option<Mode>
         ensures { result ≡ mode_of word.now }
     {
@@ -80,9 +80,10 @@ impl Mode {
         }
     }
 
-    /// The text that the mode writes of the numbers. `AllocError` where there is no memory for it.
+    /// Returns the text that the mode writes for the numbers, or `AllocError` if an allocation
+    /// fails.
     ///
-    /// The sum of the numbers has to fit in 64 bits, whichever mode it is.
+    /// The sum of the numbers must fit in 64 bits, whichever mode it is.
     pub fn text(&self, alloc: Global, numbers: &NEVec<u32>) -> Result<String, AllocError>
         requires { sum numbers.now < 2 ^ 64 }
         ensures { IfOk result (λ text. IsText self.now numbers.now (string_bytes text)) }
@@ -137,7 +138,7 @@ fn parity_text(alloc: Global, numbers: &NEVec<u32>) -> Result<String, AllocError
     text_by_first(alloc, numbers, |a, b| (*a % 2 == 0) == (*b % 2 == 0))
 }
 
-// Each number once, in the order in which they come first.
+// Each number once, in the order in which they first appear.
 fn distinct_text(alloc: Global, numbers: &NEVec<u32>) -> Result<String, AllocError>
     ensures { IfOk result (λ text. IsText Mode.Distinct numbers.now (string_bytes text)) }
 {
@@ -161,7 +162,7 @@ fn chain_text(alloc: Global, numbers: &NEVec<u32>) -> Result<String, AllocError>
     text_by_previous(alloc, numbers, |a, b| a.abs_diff(*b) <= 1)
 }
 
-// The runs of numbers that are the same as their run's first, a line each.
+// The runs of numbers that are the same, by `same`, as their run's first, one line each.
 fn text_by_first<F: Fn(&u32, &u32) -> bool>(
     alloc: Global,
     numbers: &NEVec<u32>,
@@ -176,7 +177,7 @@ fn text_by_first<F: Fn(&u32, &u32) -> bool>(
     text_of_runs(alloc, items.runs_by(same))
 }
 
-// The runs of numbers that are the same as the one before, a line each.
+// The runs of numbers that are the same, by `same`, as the one before, one line each.
 fn text_by_previous<F: Fn(&u32, &u32) -> bool>(
     alloc: Global,
     numbers: &NEVec<u32>,
@@ -191,7 +192,7 @@ fn text_by_previous<F: Fn(&u32, &u32) -> bool>(
     text_of_runs(alloc, items.adjacent_runs(same))
 }
 
-// Each run as a row.
+// The text with each run as a row.
 fn text_of_runs<'a, R: NonEmptyIterator<Item = NESlice<'a, u32>>>(
     alloc: Global,
     runs: R,
@@ -230,7 +231,7 @@ fn sum(numbers: &NEVec<u32>) -> u64
     numbers.nonempty_iter().copied().map(u64::from).sum()
 }
 
-// Adds a row to a text: its first number, and the rest of them.
+// Adds a row to a text: its first number, then the others.
 fn push_row(text: &mut String, first: u64, rest: &[u64]) -> Result<(), AllocError>
     ensures { OnOk result (string_bytes text.new ≡ string_bytes text.old
         ++ row_text (first ∷ rest.now)) }

@@ -14,13 +14,13 @@ use crate::mode::Mode;
 use nonempty_collections::NEVec;
 use std::alloc::Global;
 
-/// The most bytes that a run takes.
+/// The greatest number of bytes that a run accepts.
 pub const LIMIT: usize = 1_048_576;
 
 // How many bytes are asked for at a time.
 const CHUNK: usize = 16_384;
 
-/// The word, where there is just one; else `Usage`. It takes no memory.
+/// Returns the word if there is exactly one, or `Usage` otherwise. It does not allocate.
 pub fn one_word(words: &[String]) -> Result<&str, Fault>
     ensures { MatchResult result
         (λ word. map string_bytes words.now ≡ word.now ∷ [])
@@ -32,7 +32,7 @@ pub fn one_word(words: &[String]) -> Result<&str, Fault>
     }
 }
 
-// Reads to the end, or until there is one byte more than a run takes.
+// Reads to the end, or until there is one byte more than a run accepts.
 fn read_all<R: Source>(alloc: Global, reader: &mut R) -> Result<Vec<u8>, Fault>
     requires { R.has_failed reader.old ≡ false }
     ensures read { IsErrOf result Fault.Read ↔ IsTrue (R.has_failed reader.new) }
@@ -55,7 +55,7 @@ fn read_all<R: Source>(alloc: Global, reader: &mut R) -> Result<Vec<u8>, Fault>
     Ok(input)
 }
 
-// Writes a whole text, and flushes.
+// Writes a whole text, and flushes the writer.
 fn write_all<W: Sink>(writer: &mut W, text: &[u8]) -> Result<(), Fault>
     requires { W.has_failed writer.old ≡ false }
     ensures written { OnOk result (TakesPart text.now [] (W.taken writer.old)
@@ -76,11 +76,12 @@ fn write_all<W: Sink>(writer: &mut W, text: &[u8]) -> Result<(), Fault>
     writer.flush().map_err(|()| Fault::Write)
 }
 
-/// Reads numbers, one a line, and writes what the mode that `mode` names makes of them.
+/// Reads numbers, one per line, and writes what the mode that `mode` names makes of them.
 ///
 /// No call on the reader or the writer may have failed before. The whole text is built before the
-/// first write, and at most one byte beyond the limit is read. Of the faults, `Usage` comes before
-/// all others; of an input, `TooLong` comes before `BadLine`, and that before `Empty`.
+/// first write, and at most one byte beyond the limit is read. If there are several faults, `Usage`
+/// is returned before all others. For an input, `TooLong` comes before `BadLine`, and `BadLine`
+/// before `Empty`.
 pub fn run<R: Source, W: Sink>(
     alloc: Global,
     mode: &str,
@@ -93,17 +94,18 @@ pub fn run<R: Source, W: Sink>(
     ensures usage { IsErrOf result Fault.Usage ↔ (mode_of mode.now ≡ None) }
     ensures unread { IsErrOf result Fault.Usage → reader.new ≡ reader.old }
 
-    // A failed read, and a failed write or flush, are told, and no others.
+    // `Read` is returned if and only if a read failed, and `Write` if and only if a write or the
+    // flush failed.
     ensures read { IsErrOf result Fault.Read ↔ IsTrue (R.has_failed reader.new) }
     ensures write { IsErrOf result Fault.Write ↔ IsTrue (W.has_failed writer.new) }
 
-    // After any fault but `Write` nothing was written. A run without a fault has flushed the
-    // writer.
+    // After any fault but `Write`, nothing was written. After a run without a fault, the writer is
+    // flushed.
     ensures unwritten { IfErr result (λ fault. fault ≢ Fault.Write → writer.new ≡ writer.old) }
     ensures flushed { OnOk result (W.is_flushed writer.new ≡ true) }
 
-    // Where a mode is named, no read failed and memory was there, the run ends as the bytes that it
-    // read have it.
+    // If a mode is named and no read and no allocation failed, the run ends as the bytes that it
+    // read require.
     ensures completes { IfSome (mode_of mode.now)
         (λ m. IsErrOf result Fault.Read ⊎ IsErrOf result Fault.Memory
         ⊎ Completes m (R.left reader.old) (R.left reader.new) (W.taken writer.old)
@@ -115,7 +117,7 @@ pub fn run<R: Source, W: Sink>(
         return Err(Fault::TooLong);
     }
     let numbers = numbers(alloc, input.as_slice())?;
-    // what follows needs the numbers alone
+    // only the numbers are needed from here on
     drop(input);
     let numbers = NEVec::try_from_vec(numbers).ok_or(Fault::Empty)?;
     let text = mode.text(alloc, &numbers)?;

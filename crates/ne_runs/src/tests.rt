@@ -1,5 +1,5 @@
 //! Runs over readers and writers in memory: the worked rows, odd inputs, and each read and write
-//! failed in turn.
+//! failing in turn.
 
 mod fakes;
 
@@ -20,7 +20,7 @@ fn is<T: PartialEq + Debug + Drop>(given: T, wanted: T) -> Result<(), Fail> {
     }
 }
 
-// Runs of a mode over each input, whose reader and writer move 1 byte a call, or 2, or all.
+// Runs a mode over each input, with a reader and a writer that move 1 byte per call, or 2, or all.
 fn check_rows(
     alloc: Global,
     mode: &str,
@@ -184,7 +184,7 @@ fn words_that_name_no_mode(rt: HostRuntime) -> Result<(), Fail> {
     Ok(())
 }
 
-// A line, that often.
+// A line, repeated `count` times.
 fn repeated(alloc: Global, line: &[u8], count: usize) -> Result<Vec<u8>, AllocError> {
     let mut text = Vec::new(alloc);
     for _ in 0..count {
@@ -269,7 +269,7 @@ fn read_failed_after_a_line(rt: HostRuntime) -> Result<(), Fail> {
 
 #[test]
 fn each_write_failed(rt: HostRuntime) -> Result<(), Fail> {
-    // the text `1 1 1` and a line feed, a byte a call
+    // the text `1 1 1` and a line feed, one byte per call
     for call in 0..6 {
         let mut writer = empty_tape(rt.alloc(), 1);
         writer.fails_at = call;

@@ -1,11 +1,11 @@
-//! Readers and writers in memory, which move a few bytes a turn, and fail where they are told to.
+//! Readers and writers in memory that move a few bytes per call, and fail when they are told to.
 ghost use Rattle.std.specs.Prelude.{◌≡◌, None, Some, false};
 
 use crate::device::{Sink, Source};
 use std::alloc::Global;
 use std::io;
 
-/// Gives `rest`, at most `step` bytes a turn, and fails at the turn `fails_at`, counted from 0.
+/// Gives `rest`, at most `step` bytes per turn, and fails at the turn `fails_at`, counted from 0.
 #[derive(Drop)]
 pub struct Script<'a> {
     pub rest: &'a [u8],
@@ -47,7 +47,7 @@ impl Source for Script<'_> {
     }
 }
 
-/// Gives `1` for ever, one byte a turn.
+/// Gives `1` forever, one byte per turn.
 #[derive(Drop)]
 pub struct Endless {
     pub turns: usize,
@@ -70,8 +70,8 @@ impl Source for Endless {
     }
 }
 
-/// Takes at most `step` bytes a call, fails at the call `fails_at`, counted from 0, and at the
-/// flush where it is told to.
+/// Takes at most `step` bytes per call. It fails at the call `fails_at`, counted from 0, and at the
+/// flush if it is told to.
 #[derive(Drop)]
 pub struct Tape {
     pub text: Vec<u8>,
@@ -140,7 +140,7 @@ impl io::Write for Closed {
     }
 }
 
-/// A writer of std that takes all, or fails where it is told to, and counts its flushes, which
+/// A writer of std that takes everything, or fails if it is told to. It counts its flushes, which
 /// fail.
 #[derive(Drop)]
 pub struct Clogged {

@@ -3,7 +3,7 @@ use Rattle.std.specs.Str.{all_ascii_digits}
 use Rattle.std.specs.Str.Parse.{digits_value, digits_value_after}
 use Rattle.ne_runs.proofs.lines.number.Given as goal
 
--- what is left decides whether all are digits, and goes on from the value so far
+-- The bytes that are left decide whether all are digits, and continue from the value so far.
 abbrev pub invariant-loop-byte : goal.invariant-loop-byte
 invariant-loop-byte l = record {
   digits : all_ascii_digits (drop l.byte-index l.line) ≡ all_ascii_digits l.line;

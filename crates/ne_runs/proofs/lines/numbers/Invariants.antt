@@ -3,8 +3,8 @@ use Rattle.std.specs.List.{position_or_len}
 use Rattle.ne_runs.specs.Lines.{lines_of, numbers_of, is_bad}
 use Rattle.ne_runs.proofs.lines.numbers.Given as goal
 
--- the numbers so far, none of which stands on a bad line and each of which fits in 32 bits, and
--- those of what is left
+-- The numbers so far and those of the rest are all the numbers. None of the numbers so far is from
+-- a bad line, and each of them fits in 32 bits.
 abbrev pub invariant-loop-rest : goal.invariant-loop-rest
 invariant-loop-rest l = record {
   numbers : l.numbers.items ++ numbers_of l.rest ≡ numbers_of l.text;

@@ -6,7 +6,7 @@ use Rattle.ne_runs.specs.Modes.{row_text}
 use Rattle.ne_runs.proofs.Rows.{row_ended}
 use Rattle.ne_runs.proofs.mode.push_run.Goals as goal
 
--- a list that has a first item is that item and the others
+-- A list that has a first item is that item followed by the others.
 first_and_rest : (xs : List ℕ) (first : ℕ) → slice_get xs 0 ≡ Some first
     → xs ≡ first ∷ take (length xs - 1) (drop 1 xs)
 first_and_rest [] first e = let e = e in cc

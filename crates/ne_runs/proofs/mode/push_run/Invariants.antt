@@ -3,7 +3,7 @@ use Rattle.std.specs.List.{flat_map}
 use Rattle.ne_runs.proofs.Rows.{behind}
 use Rattle.ne_runs.proofs.mode.push_run.Given as goal
 
--- the numbers so far, and those that are left
+-- The text so far, followed by the numbers that are left, is the whole text.
 abbrev pub invariant-loop-number : goal.invariant-loop-number
 invariant-loop-number l =
     string_bytes l.text ++ flat_map behind (drop l.number-index l.rest)

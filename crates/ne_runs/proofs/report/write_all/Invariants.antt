@@ -2,7 +2,7 @@ use Rattle.std.proofs.Common.{◌≡◌, false, length}
 use Rattle.ne_runs.specs.Runs.{TakesPart}
 use Rattle.ne_runs.proofs.report.write_all.Given as goal
 
--- so far a first part of the text was taken, and no call failed
+-- So far a first part of the text was taken, and no call failed.
 abbrev pub invariant-loop-rest : goal.invariant-loop-rest
 invariant-loop-rest g l = record {
   healthy : g.W.Sink.has_failed l.writer ≡ false;
