@@ -73,7 +73,7 @@ module _ {K V : Type 0} (test : K → Bool) where
       by false h later = ap (λ n. slice_set (e ∷ es) n (p.0, v)) (one_more place)
           ∙ ap (λ l. e ∷ l) (later h)
 
-  -- no place: no value
+  -- If there is no position, there is no value.
   pub absent : (es : List (K × V)) → position passes es ≡ None → lookup test es ≡ None
   absent es h = looked_up es ∙ ap (option_map (λ e. e.1)) (find_at passes es ∙ by _ refl h)
     where
@@ -85,7 +85,7 @@ module _ {K V : Type 0} (test : K → Bool) where
       by true past h = absurd (none-some place (sym h))
       by false past h = slice_get_past es place (ltb-false place (length es) past)
 
-  -- a place: a value
+  -- There is a position if and only if there is a value.
   pub is_there : (es : List (K × V)) → is_some (position passes es) ≡ is_some (lookup test es)
   is_there es = by _ refl
     where
@@ -99,7 +99,7 @@ module _ {K V : Type 0} (test : K → Bool) where
       by false past = sym (ap is_some (looked_up es ∙ ap (option_map (λ e. e.1))
           (find_at passes es ∙ slice_get_past es place (ltb-false place (length es) past))))
 
-  -- the pair at the place has the value, and writing it there writes it at the key
+  -- The pair at the position has the value, and writing a value there writes it at the key.
   pub found : (es : List (K × V)) (i : ℕ) (p : K × V) → position passes es ≡ Some i
       → slice_get es i ≡ Some p
       → (lookup test es ≡ Some p.1)
@@ -124,7 +124,7 @@ module _ {K V : Type 0} {eq : K → K → Bool} (laws : IsEquivalence eq) (k : K
   pub one_pair : IsMap eq ((k, v) ∷ [])
   one_pair = (IsDistinct-from_count laws (k ∷ []) refl, some 0)
 
-  -- The value of a key that is there is written at its place.
+  -- The value of a key that is there is written at the key's position.
   pub written_there : (es at : List (K × V)) (i : ℕ) (p : K × V) (w : V) → at ≡ es
       → Some i ≡ position (λ e. eq k e.0) es → slice_get at i ≡ Some p → w ≡ v → IsMap eq at
       → (Some p.1 ≡ lookup (eq k) es) × Writes eq es k v (slice_set at i (p.0, w))
@@ -170,7 +170,7 @@ module _ {K V : Type 0} {eq : K → K → Bool} (laws : IsEquivalence eq) (k : K
       by true same later = ap (λ b. cond b (Some v) (Some e.1)) (apart same)
       by false same later = later
 
-  -- A key that is not there is put behind the others.
+  -- A key that is not there is added after the others.
   pub added_last : (es at new : List (K × V)) → at ≡ es → new ≡ at ++ (k, v) ∷ []
       → is_some (lookup (eq k) es) ≡ false → IsMap eq at → Puts eq es k v new × IsMap eq new
   added_last es at new same is absent map =

@@ -1,5 +1,5 @@
-//! Lists of calls on maps: on each of the library's, on one of a user's own, and on any. None has a
-//! proof file, and one calls a law.
+//! Lists of calls on maps: on each of the library's, on a user's own, and on any map. No function
+//! here has a proof file, and one calls a law.
 ghost use Rattle.std.specs.Prelude.{◌≡◌, ◌≢◌, ◌+◌, ◌<◌, [], ◌∷◌, true, false, None, Some, is_some};
 ghost use Rattle.std.specs.Prelude.{length, nat_eq, IfOk, OnOk};
 ghost use Rattle.std.specs.BTreeMap.{get as get_ordered};
@@ -13,7 +13,7 @@ use ne_laws::maps::{NonEmptyMap, tree_maps_are_read_alike};
 use nonempty_collections::{NEBTreeMap, NEIndexMap, NEMap};
 use std::alloc::{AllocError, Global};
 
-/// No calls: no replies, and the map stays as it is, whichever it is.
+/// No calls have no replies and leave the map as it is, whichever map it is.
 pub fn no_calls<M: NonEmptyMap<u32, u32>>(
     alloc: Global,
     m: &mut M,
@@ -24,7 +24,7 @@ pub fn no_calls<M: NonEmptyMap<u32, u32>>(
     run_map(alloc, m, Vec::new(alloc))
 }
 
-/// Whatever the calls are, each has a reply, and there is a key.
+/// Whatever the calls are, each has a reply, and the map has a key.
 pub fn any_calls<M: NonEmptyMap<u32, u32>>(
     alloc: Global,
     m: &mut M,
@@ -36,7 +36,7 @@ pub fn any_calls<M: NonEmptyMap<u32, u32>>(
     Ok(run_map(alloc, m, calls)?.len())
 }
 
-/// What is put in is there, and the old value comes back.
+/// A key that is inserted is there, and its old value is returned.
 pub fn put_and_ask(
     alloc: Global,
     m: &mut NEMap<u32, u32>,
@@ -51,8 +51,8 @@ pub fn put_and_ask(
     run_map(alloc, m, calls)
 }
 
-/// The calls go in turn: of two values at a key the last one stays, and another key has what it
-/// had.
+/// The calls are made in order: of two values at a key the last one stays, and another key keeps
+/// its value.
 pub fn put_twice(
     alloc: Global,
     m: &mut NEIndexMap<u32, u32>,
@@ -71,7 +71,7 @@ pub fn put_twice(
     run_map(alloc, m, calls)
 }
 
-/// A key that is not there is not written, and stays away.
+/// A key that is not there is not written, and is still not there afterwards.
 pub fn write_and_ask(
     alloc: Global,
     m: &mut NEBTreeMap<u32, u32>,
@@ -87,8 +87,8 @@ pub fn write_and_ask(
     run_map(alloc, m, calls)
 }
 
-/// The same as [`put_and_ask`] on a tree map, in the words of its order, which a law ties to those
-/// of the calls.
+/// The same as [`put_and_ask`] on a tree map, in terms of the order of its keys. A law connects
+/// these terms with those of the calls.
 pub fn put_and_ask_in_order(
     alloc: Global,
     m: &mut NEBTreeMap<u32, u32>,
@@ -104,7 +104,7 @@ pub fn put_and_ask_in_order(
     run_map(alloc, m, calls)
 }
 
-/// A key that is there takes the value, and there are as many keys as before.
+/// A key that is there takes the new value, and there are as many keys as before.
 pub fn write_there(
     alloc: Global,
     m: &mut PairMap<u32, u32>,
@@ -120,7 +120,7 @@ pub fn write_there(
     run_map(alloc, m, vec![in alloc; MapCall::Write(k, v)]?)
 }
 
-/// The number of keys, before a new one is put in and after.
+/// Returns the number of keys before and after a new key is inserted.
 pub fn count_and_put<M: NonEmptyMap<u32, u32>>(
     m: &mut M,
     k: u32,

@@ -1,7 +1,7 @@
-//! Lists of calls on maps and on vectors, as a user writes them, and a map of a user's own.
+//! Lists of calls on maps and on vectors, as a user writes them, and a user's own map type.
 //!
-//! This crate is no part of the library. It stands for a user's: what is proved here, a user of the
-//! library can prove.
+//! This crate is not part of the library. It stands for a user's crate: what is proved here, a user
+//! of the library can prove.
 #![tactic(auto)]
 
 mod callers;

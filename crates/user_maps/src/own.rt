@@ -1,4 +1,4 @@
-//! A map of a user's own: the list of its pairs, which serves where there are few keys.
+//! A user's own map type: the list of its pairs, which is enough if there are few keys.
 ghost use Rattle.std.specs.Prelude.{◌≡◌, ◌<◌, [], ◌∷◌, length, IfOk, IfSome};
 ghost use Rattle.std.specs.List.{position};
 
@@ -9,7 +9,7 @@ use std::marker::Model;
 use std::mem;
 use std::num::NonZeroUsize;
 
-/// A list of pairs, at least one, no two of which have equal keys. A contract sees it as that list.
+/// A list of pairs, at least one, in which no two keys are equal. In contracts it is that list.
 #[derive(Drop)]
 pub struct PairMap<K: Eq, V> {
     pairs: NEVec<(K, V)>,
@@ -27,7 +27,8 @@ impl<K: Eq, V> Model for PairMap<K, V> {
 }
 
 impl<K: Eq + Drop, V: Drop> PairMap<K, V> {
-    /// The map of one key. `AllocError` where there is no memory for it; the pair is then dropped.
+    /// Creates a map that holds the key `k` with the value `v`. Returns `AllocError` if the
+    /// allocation fails; the pair is then dropped.
     pub fn new(alloc: Global, k: K, v: V) -> Result<Self, AllocError>
         ensures { IfOk result (λ m. m ≡ (k, v) ∷ []) }
     {
@@ -36,7 +37,7 @@ impl<K: Eq + Drop, V: Drop> PairMap<K, V> {
         })
     }
 
-    // The place of an equal key, if there is one.
+    // Returns the index of the key equal to `k`, or `None` if there is no such key.
     fn place(&self, k: &K) -> Option<usize>
         ensures place { result ≡ position (λ p. K.eq k.now p.0) self.now }
         ensures within { IfSome result (λ i. i < length self.now) }

@@ -1,4 +1,4 @@
-//! Lists of calls on vectors. None has a proof file, and none calls a law.
+//! Lists of calls on vectors. No function here has a proof file or calls a law.
 ghost use Rattle.std.specs.Prelude.{◌≡◌, ◌<◌, ◌++◌, [], ◌∷◌, None, Some, length, reverse};
 ghost use Rattle.std.specs.Prelude.{IfOk, OnOk};
 
@@ -6,7 +6,7 @@ use ne_laws::vector_calls::{VecCall, VecReply, run_vec};
 use nonempty_collections::NEVec;
 use std::alloc::{AllocError, Global};
 
-/// No calls: no replies, and the vector stays as it is.
+/// No calls have no replies and leave the vector as it is.
 pub fn no_calls_on_a_vector(
     alloc: Global,
     v: &mut NEVec<u32>,
@@ -17,7 +17,7 @@ pub fn no_calls_on_a_vector(
     run_vec(alloc, v, Vec::new(alloc))
 }
 
-/// Whatever the calls are, each has a reply, and there is an item.
+/// Whatever the calls are, each has a reply, and the vector has an item.
 pub fn any_calls_on_a_vector(
     alloc: Global,
     v: &mut NEVec<u32>,
@@ -29,7 +29,7 @@ pub fn any_calls_on_a_vector(
     Ok(run_vec(alloc, v, calls)?.len())
 }
 
-/// Two items are pushed, in turn.
+/// Two items are pushed, one after the other.
 pub fn push_two(
     alloc: Global,
     v: &mut NEVec<u32>,
@@ -59,7 +59,7 @@ pub fn pop_the_only_item(
     run_vec(alloc, v, vec![in alloc; VecCall::Pop]?)
 }
 
-/// An item is pushed, and the order turned round.
+/// An item is pushed, and the order is reversed.
 pub fn push_and_reverse(
     alloc: Global,
     v: &mut NEVec<u32>,
@@ -74,7 +74,7 @@ pub fn push_and_reverse(
     )
 }
 
-/// What is pushed is what is taken back, and the vector is as it was.
+/// The item that is pushed is popped again, and the vector is as it was.
 pub fn push_and_pop(
     alloc: Global,
     v: &mut NEVec<u32>,
