@@ -44,8 +44,8 @@ pub use walks::{IntoIter, Iter, Union};
 /// ```
 ///
 /// In contracts it is std's record of the set: `contains T.eq s x` says whether an item equal to
-/// `x` is in the set, `s.keys` is the list of the items in the order of iteration, `IsUnique T.eq
-/// s` says that no two items are equal, and `hasher_of s` is the hasher.
+/// `x` is in the set, `s.keys` is the list of the items in the order of iteration,
+/// `IsUnique T.eq s` says that no two items are equal, and `hasher_of s` is the hasher.
 #[derive(Drop)]
 pub struct NESet<T: Eq + Hash, S: BuildHasher = BuildHasherDefault<FoldHasher>> {
     inner: HashSet<T, S>,

@@ -1,8 +1,9 @@
 //! The macros [`ne_indexmap!`](crate::ne_indexmap), [`neim!`](crate::neim) and
 //! [`neis!`](crate::neis).
 
-/// Creates a map from the pairs that are written out, as in `ne_indexmap![alloc; "a" => 1, "b" =>
-/// 2]`. The keys are in the order in which they first appear, each with the value of its last pair.
+/// Creates a map from the pairs that are written out, as in
+/// `ne_indexmap![alloc; "a" => 1, "b" => 2]`. The keys are in the order in which they first appear,
+/// each with the value of its last pair.
 ///
 /// Returns a `Result`: `AllocError` if an allocation fails; the pairs are then dropped. The
 /// expressions are evaluated from left to right, the allocator first, and none after a failed
