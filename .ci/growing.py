@@ -1,5 +1,5 @@
-"""The public calls that may answer want of memory, as the sources of the library declare them: what
-returns an `AllocError`, and the macros."""
+"""The public calls that may report a failed allocation, as the sources of the library declare them:
+the functions that return an `AllocError`, and the macros."""
 
 import glob
 import os
@@ -8,7 +8,7 @@ import re
 from scratch import ROOT, read
 
 CRATES = ("ne_vec", "ne_iter", "ne_tree", "ne_hash", "ne_index", "ne_products", "ne_laws")
-# How the tests name what a trait's method makes of a type, and of which type the items come.
+# How the tests name a trait's method for a type, and the method that an iterator type comes from.
 KINDS = {
     "NEVec": "",
     "NEBTreeMap": " of a tree map",
@@ -23,8 +23,9 @@ ITEMS = {
     "GroupBy": "GroupBy::next",
     "ProductIter": "NonEmptyItertools::cartesian_product",
 }
-# What never asks for memory, though its type would allow an `AllocError`; what only a clone of the
-# items can refuse, which tests of `test_ne_iter` do; and what another name stands for.
+# Calls that never allocate, although their type allows an `AllocError`; calls that fail only if a
+# clone of the items fails, which is tested in `test_ne_iter`; and calls that are tested under
+# another name.
 EXCUSED = {
     *("NESlice::clone", "Iter::clone", "Keys::clone", "Values::clone", "collect into ()"),
     *("RawIntersperse::next", "FromNonEmptyIterator::from_nonempty_iter", "NonEmptyMap::put"),
@@ -33,7 +34,7 @@ EXCUSED = {
 
 
 def blocks(text):
-    """The blocks of a file that stand at its left edge, each with the lines that open it."""
+    """Yields the top-level blocks of a file, each with the lines that open it."""
     for block in re.split(r"^(?=(?:impl|pub trait)\b)", text, flags=re.M)[1:]:
         body = block.partition("\n}")[0]
         head = re.split(r"\{\n|^    ghost ", body, maxsplit=1, flags=re.M)[0]
@@ -41,7 +42,8 @@ def blocks(text):
 
 
 def refusing(text, indent):
-    """The functions at this indent that return an `AllocError`, each with the words before `fn`."""
+    """Yields the functions at this indent that return an `AllocError`, with the words before
+    `fn`."""
     signature = rf"^{indent}((?:pub |final )?)fn (\w+)(.*?)(?=^{indent}\{{|\{{$|;$)"
     for words, name, rest in re.findall(signature, text, re.M | re.S):
         returned = re.search(r"->(.*?)(?=\bwhere\b|\brequires\b|\bensures\b|$)", rest, re.S)
@@ -50,7 +52,7 @@ def refusing(text, indent):
 
 
 def plain(head):
-    """The line that opens a block, without parameters of types and conditions."""
+    """Returns the line that opens a block, without type parameters and conditions."""
     head, was = head.replace("->", ""), ""
     while head != was:
         head, was = re.sub(r"<[^<>]*>", "", head), head
@@ -58,7 +60,7 @@ def plain(head):
 
 
 def case(head, name):
-    """What the tests call a method of this block."""
+    """Returns the name that the tests have for a method of this block."""
     words = plain(head).split()
     if words[:2] == ["pub", "trait"]:
         return f"{words[2].rstrip(':')}::{name}"
@@ -75,7 +77,7 @@ def case(head, name):
 
 
 def cases():
-    """What the tests call each of these calls."""
+    """Returns the names that the tests have for all of these calls."""
     found = set()
     for crate in CRATES:
         paths = glob.glob(os.path.join(ROOT, "crates", crate, "src", "**", "*.rt"), recursive=True)

@@ -1,13 +1,13 @@
-/* Refuses one request for memory of the program that it is loaded into by LD_PRELOAD: the one whose
-   number, counted from 1, stands in the variable REFUSE; none where that is 0. The C library's own
-   allocator answers all others. */
+/* Makes one allocation fail in the program that it is loaded into by LD_PRELOAD: the one whose
+   number, counted from 1, is in the variable REFUSE. If REFUSE is 0, none fails. The C library's
+   own allocator serves all other requests. */
 
 extern void *__libc_malloc(unsigned long size);
 extern void *__libc_realloc(void *block, unsigned long size);
 extern char *getenv(const char *name);
 extern int atoi(const char *text);
 
-/* How many requests there are to come up to the one that is refused; -1 before the first one. */
+/* How many requests are left up to the one that is refused; -1 before the first request. */
 static int left = -1;
 
 static int is_refused(void) {

@@ -1,5 +1,5 @@
-"""What the scripts of the gate share: the repository's files, a scratch copy of them, checks and
-tests in it, and runs of what `rt ci` built with memory refused."""
+"""What the scripts of the gate share: reading the repository's files, making a scratch copy of
+them, checks and tests in that copy, and runs in which an allocation of what `rt ci` built fails."""
 
 import functools
 import os
@@ -28,7 +28,7 @@ def stop(why):
 
 
 def read(path):
-    """The text of a file, whose path is absolute or below the repository."""
+    """Returns the text of a file. Its path is absolute or relative to the repository."""
     try:
         with open(os.path.join(ROOT, path), encoding="utf-8") as it:
             return it.read()
@@ -53,14 +53,15 @@ def copy_into(folder):
 
 
 def kit():
-    """The folder of the toolchain's kit."""
+    """Returns the folder of the toolchain's kit."""
     page = subprocess.run(["rt", "doc"], capture_output=True, text=True, check=True).stdout
     return os.path.dirname(page.strip())
 
 
 @functools.cache
 def stamps(folder):
-    """What `rt` knows the text of each crate of the scratch copy by, as its own module sums it."""
+    """Returns the stamp by which `rt` knows the text of each crate of the scratch copy, as computed
+    by its own module."""
     sys.path.insert(0, os.path.join(kit(), "bin"))
     import rtlib
 
@@ -69,7 +70,7 @@ def stamps(folder):
 
 
 def libraries(crate):
-    """The repository's libraries that a crate stands on."""
+    """Returns the repository's libraries that a crate depends on."""
     rows = dict(re.findall(r"^(\w+): (.*)$", read("crates.txt"), re.M))
     found, left = set(), [crate]
     while left:
@@ -80,8 +81,8 @@ def libraries(crate):
 
 
 def wait_for(crate, log):
-    """Waits until `rt ci`, whose output is the log, has proved the crate, and tells whether it
-    has."""
+    """Waits until `rt ci`, whose output is the log, is done with the crate, and returns whether the
+    crate is proved."""
     while True:
         said = read(log)
         if re.search(rf"^rt: {crate} (proved|is kept)", said, re.M):
@@ -92,9 +93,9 @@ def wait_for(crate, log):
 
 
 def take_libraries(folder, crate):
-    """Gives the scratch copy the libraries of a crate that `rt ci` proves beside it, whose output
-    is in the file that the variable CI_LOG names, so that nothing is proved twice. Without one, and
-    where a text differs, a check proves them in the copy."""
+    """Copies the libraries of a crate that `rt ci` proves at the same time into the scratch copy,
+    so that nothing is proved twice. The output of `rt ci` is in the file that the variable CI_LOG
+    names. Without that variable, or if a text differs, a check proves them in the copy."""
     log = os.environ.get("CI_LOG")
     for name in libraries(crate) if log else ():
         built, taken = (os.path.join(it, "crates", name, "out", "rlib") for it in (ROOT, folder))
@@ -104,8 +105,8 @@ def take_libraries(folder, crate):
 
 
 def check_functions(folder, crate, functions):
-    """What a check of these functions of a crate of the scratch copy prints. One job: each further
-    one would read all libraries again."""
+    """Returns what a check of these functions of a crate of the scratch copy prints. It uses one
+    job, because each further job would read all libraries again."""
     take_libraries(folder, crate)
     only = [word for name in functions for word in ("--only", name)]
     how = {**QUIET, "cwd": os.path.join(folder, "crates", crate)}
@@ -113,14 +114,14 @@ def check_functions(folder, crate, functions):
 
 
 def errors_of(said):
-    """The errors of the source in what a check printed. Of a law that has no proof it tells an
-    error in the source, and goes on."""
+    """Returns the errors of the source in what a check printed, except those for a law without a
+    proof: a check reports such a law as an error in the source, and continues."""
     row = r"^(?:so far: )?(?:\./)?(src/\S+:\d+:\d+: error(?!: `\w+-value`).*)"
     return re.findall(row, said, re.M)
 
 
 def failed_tests(folder, crate):
-    """The paths of the tests of a crate of the scratch copy that fail."""
+    """Returns the paths of the tests of a crate of the scratch copy that fail."""
     how = {**QUIET, "cwd": os.path.join(folder, "crates", crate)}
     said = subprocess.run(["rt", "try", "--test"], **how).stdout
     errors = errors_of(said)
@@ -130,10 +131,11 @@ def failed_tests(folder, crate):
 
 
 def printed_by(folder, crate):
-    """What a program of the scratch copy prints for its stored input, compiled and not proved."""
+    """Returns what a program of the scratch copy prints for its stored input. It is compiled, but
+    not proved."""
     how = {"cwd": os.path.join(folder, "crates", crate), "capture_output": True, "text": True}
     script = read(f"crates/{crate}/stdin")
-    # the interpreter, which would run it first, is stopped at once; the run with checks is slow
+    # the interpreter would run it first, and its run with checks is slow: it is stopped at once
     ran = subprocess.run(["rt", "try", "--steps", "1", "--seconds", "600"], input=script, **how)
     errors = errors_of(ran.stderr)
     if errors or "runners=1" not in ran.stderr:
@@ -142,7 +144,7 @@ def printed_by(folder, crate):
 
 
 class Refusals:
-    """A program that `rt ci` has built here, run with one of its requests for memory refused."""
+    """A program that `rt ci` has built here, and that is run with one failing allocation."""
 
     def __init__(self, program):
         self.program = os.path.join(ROOT, "crates", program)
@@ -155,14 +157,14 @@ class Refusals:
         subprocess.run([os.path.join(kit(), "toolchain", "bin", "clang"), *words], check=True)
 
     def ran(self, place, words, given=b""):
-        """What the program made of these words and this input where the request at this place, from
-        1 on, was refused; 0 refuses none."""
+        """Runs the program with these words and this input. The request with this number, counted
+        from 1, is refused; 0 refuses none."""
         how = {"input": given, "capture_output": True, "cwd": self.room.name, "timeout": 60}
         how["env"] = {"LD_PRELOAD": self.refuse, "REFUSE": str(place)}
         return subprocess.run([self.program, *words], **how)
 
 
 def in_threads(call, items):
-    """What the call answers of each item, several at a time."""
+    """Returns the result of the call for each item. Several calls run at the same time."""
     with ThreadPoolExecutor(os.cpu_count()) as threads:
         return list(threads.map(call, items))
