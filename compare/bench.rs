@@ -1,5 +1,5 @@
-// The workloads of `crates/test_bench` over the Rust crate `nonempty-collections`: what the port's speed is compared with. The steps and the
-// numbers are those of the port.
+// The workloads of `crates/test_bench` on the Rust crate `nonempty-collections`. The port's speed
+// is compared with them. The steps and the numbers are those of the port.
 use nonempty_collections::{
     IntoNonEmptyIterator, NEBTreeMap, NEBTreeSet, NEIndexMap, NEIndexSet, NEMap, NESet, NEVec, NonEmptyIterator, NonEmptyItertools,
 };
@@ -232,7 +232,7 @@ fn intersperse(n: NonZeroUsize) -> u64 {
     checksum
 }
 
-// The Rust crate has none of the next four: these are plain Rust, over std's slices and iterators.
+// The Rust crate has none of the next four. These are plain Rust, on std's slices and iterators.
 
 fn runs_by(n: NonZeroUsize) -> u64 {
     let items = rising(n, 3);
@@ -305,7 +305,8 @@ fn tree_map(n: NonZeroUsize) -> u64 {
     checksum
 }
 
-// Products, whether items differ, and lists of calls. The Rust crate has none that carries out such a list, so `*_run` is `*_directly` here.
+// Products, whether items are distinct, and lists of calls. The Rust crate has no function that
+// makes a list of calls, so `*_run` is `*_directly` here.
 
 fn listed(name: &str, n: NonZeroUsize) -> Option<u64> {
     Some(match name {
@@ -456,12 +457,12 @@ fn map_directly<M: Table>(mut map: M, calls: Vec<MapCall>) -> u64 {
     checksum
 }
 
-// Maps and sets: `hash_*` and `index_*` with the hashes of the port's default hasher, and with `_default` behind the name with those of
-// the Rust crate's own.
+// Maps and sets. `hash_*` and `index_*` use the hashes of the port's default hasher; with
+// `_default` at the end of the name they use those of the Rust crate's own.
 
 type Folding = BuildHasherDefault<Fold>;
 
-// The port's default hasher, of keys of eight bytes.
+// The port's default hasher, for keys of eight bytes.
 struct Fold(u64);
 
 impl Default for Fold {
@@ -556,7 +557,7 @@ trait Bag {
     fn is_same(&self, other: &Self) -> bool;
 }
 
-// How a checksum and a pair, or an item, make one: in their order, or so that it tells nothing of that.
+// Adds a pair or an item to a checksum: so that their order counts, or so that it does not.
 fn in_order(checksum: u64, x: u64) -> u64 {
     mixed(checksum, x)
 }

@@ -1,4 +1,5 @@
-"""The calls that `compare/replay` makes, and its scripts of them. A call is its name, its closure's name or "", and its numbers."""
+"""The calls that `compare/replay` makes, and its scripts of calls. A call has a name, the name of
+its closure or "", and numbers."""
 
 import glob
 import itertools
@@ -11,7 +12,8 @@ from program import HERE
 CRATE, TWIN = "test_replay", "replay"
 GREATEST = 2**32 - 1
 EDGES = sorted({x for power in range(33) for x in (2**power - 1, 2**power, 2**power + 1) if x <= GREATEST} | {0})
-# The closures, the simplest first. Those of PURE answer by the number that they are shown alone, the others by their state too.
+# The closures, the simplest first. What those of PURE return depends only on the number that they
+# are passed; what the others return depends on their state too.
 PURE = ["same", "zero", "half", "tens", "digit", "falling"]
 ANY = [*PURE, "calls", "pairs", "total"]
 NONE = [""]
@@ -28,13 +30,13 @@ def single(values):
 
 
 def an_item(chance, items):
-    """Often one of the vector's, or beside one."""
+    """Returns a number that is often one of the vector's items, or next to one."""
     beside = min(GREATEST, chance.choice(items) + 1)
     return chance.choice([chance.choice(items), chance.choice(items), beside, chance.randrange(10), chance.choice(EDGES), GREATEST])
 
 
 def a_place(chance, items):
-    """Often about the vector's length."""
+    """Returns an index that is often near the vector's length."""
     length = len(items)
     known = 0, 1, length // 2, length - 1, length, length + 1, GREATEST
     return chance.choice([*known, chance.randrange(length), chance.choice(EDGES)])
@@ -45,26 +47,28 @@ def some_items(chance, items):
 
 
 def like_vector(chance, items):
-    """The vector's items, or almost."""
+    """Returns the vector's items, or nearly the same items."""
     at = chance.randrange(len(items))
     changed = (*items[:at], an_item(chance, items), *items[at + 1 :])
     return chance.choice([items, items[: at + 1], (*items, an_item(chance, items)), changed, (an_item(chance, items),)])
 
 
 def some_calls(chance, items):
-    """Calls of a list, each by which it is and by its number."""
+    """Returns a list of calls, each as the number of its kind and its own number."""
     turns = range(chance.choice([0, 1, 2, 5, 12]))
     return tuple(x for _ in turns for x in (chance.randrange(8), chance.choice([a_place, an_item])(chance, items)))
 
 
-# What a call's numbers may be: the values in small scripts, in pairs of calls and in the sample, and those made beside a vector.
+# What the numbers of a call may be: the values in small scripts, in pairs of calls and in the
+# sample, and the random values for a vector.
 Kind = namedtuple("Kind", "small few telling random")
 KINDS = {
     "item": Kind(single(range(4)), single([1]), single([5, 8]), lambda chance, items: (an_item(chance, items),)),
     "pair": Kind(lists(2, 2, range(4)), [(1, 2)], [(1, 4), (3, 9)], lambda chance, items: (an_item(chance, items), an_item(chance, items))),
     "place": Kind(single(range(5)), single([0, 2]), single([2, 7]), lambda chance, items: (a_place(chance, items),)),
     "size": Kind(single(range(1, 5)), single([1, 2]), single([3, 9]), lambda chance, items: (a_place(chance, items),)),
-    # a size of what is made, and how often something is done: never far above the length, as EXCUSED says
+    # a size of what is made, or how often something is done; never far above the length, see
+    # EXCUSED
     "count": Kind(single(range(1, 5)), single([2]), single([3, 9]), lambda chance, items: (chance.randrange(len(items) + 2),)),
     "items": Kind(lists(0, 2, range(2)), [(), (0, 2)], [(5, 9, 2), ()], some_items),
     "other": Kind(lists(1, 3, range(3)), [(1, 0)], [(3, 1, 4, 1, 5, 9, 2, 6), (7, 7, 0, 13)], like_vector),
@@ -77,7 +81,8 @@ KINDS["calls"] = Kind(
     some_calls,
 )
 
-# Names of calls, the closures that they take, the kinds of their numbers, and what they do to the vector. A new call is a new name.
+# Names of calls, the closures that they take, the kinds of their numbers, and what they do to the
+# vector. A new call needs a new name.
 ROWS = [
     ("new singleton nev_one", NONE, "item", MAKES),
     ("nev_two nev_three", NONE, "pair", MAKES),
@@ -140,14 +145,14 @@ CALLS = {
     for name in names.split()
 }
 NAMES = list(CALLS)
-# The sort that stands before a search.
+# The sort that comes before each search.
 SORTS = {
     "binary_search": "sort",
     "binary_search_by": "sort_by",
     "binary_search_by_key": "sort_by_key",
     "partition_point": "sort_by_key",
 }
-# All that is left out on purpose, and why.
+# Everything that is left out on purpose, and why.
 EXCUSED = [
     (
         "sort_by, sort_by_key, sorted_by_key: closures with state",
@@ -181,27 +186,28 @@ def setting(items):
 
 
 def prepared(call):
-    """The call, behind its sort where it is a search."""
+    """Returns the call, after its sort if it is a search."""
     name, closure, _ = call
     return [(SORTS[name], closure, ()), call] if name in SORTS else [call]
 
 
 def is_allowed(script):
-    """Whether a script begins with its vector, and has each search behind its sort."""
+    """Returns whether a script begins with its vector, and has each search right after its sort."""
     behind = zip(script, script[1:])
     searches = all(first[:2] == (SORTS[name], closure) for first, (name, closure, _) in behind if name in SORTS)
     return script[0][0] == "try_from_vec" and bool(script[0][2]) and searches
 
 
 def each_call(name, values):
-    """Every call of this name, at these values of each kind of number."""
+    """Yields every call of this name, with these values of each kind of number."""
     row = CALLS[name]
     for closure, *numbers in itertools.product(row.closures, *map(values, row.kinds)):
         yield name, closure, tuple(itertools.chain(*numbers))
 
 
 def small_scripts():
-    """Each call over each vector of one to three small items, and each pair of two that change it over each of one or two."""
+    """Yields each call on each vector of one to three small items, and each pair of calls that
+    change the vector on each vector of one or two."""
     single_calls = [call for name in NAMES for call in each_call(name, lambda kind: kind.small)]
     for items in lists(1, 3, range(3)):
         yield from ([setting(items), *prepared(call)] for call in single_calls)
@@ -211,7 +217,7 @@ def small_scripts():
 
 
 def a_vector(chance, length):
-    """Of few or many different items."""
+    """Returns a vector with few or many different items."""
     few = chance.sample(range(10), chance.randint(1, 4))
     pool = chance.choice([few, range(10), range(100), EDGES, [chance.randrange(2**32) for _ in range(30)]])
     items = chance.choices(pool, k=length)
@@ -219,13 +225,13 @@ def a_vector(chance, length):
 
 
 def a_call(chance, name, items):
-    """A call of this name over these items, behind its sort where it is a search."""
+    """Returns a random call of this name on these items, after its sort if it is a search."""
     numbers = itertools.chain(*(kind.random(chance, items) for kind in CALLS[name].kinds))
     return prepared((name, chance.choice(CALLS[name].closures), tuple(numbers)))
 
 
 def a_script(chance, items, size):
-    """A script of so many calls over these items."""
+    """Returns a script of so many calls on these items."""
     script = []
     while len(script) < size:
         calls = a_call(chance, chance.choice(NAMES), items)
@@ -241,7 +247,8 @@ def random_scripts(chance, count):
 
 
 def long_scripts(chance):
-    """Some of ten calls over thousands of items, and each call alone over three such vectors."""
+    """Yields twenty scripts of ten calls on thousands of items, and each call alone on three such
+    vectors."""
     vectors = (a_vector(chance, chance.randint(1000, 5000)) for _ in itertools.count())
     for _ in range(20):
         yield a_script(chance, next(vectors), 10)
@@ -249,7 +256,7 @@ def long_scripts(chance):
         yield [setting(items), *a_call(chance, name, items)]
 
 
-# Worked rows of a vector's calls, in front of the sample: each is what its name says in small.
+# Worked rows of a vector's calls, at the front of the sample. Each is a small example of its call.
 ROWS = """
 new 7
 push 8
@@ -346,7 +353,7 @@ cartesian_product 7 8
 
 
 def parsed(table):
-    """The script that the rows of a table write."""
+    """Returns the script that the rows of a table write."""
     split = [row.split() for row in table.strip().splitlines()]
     named = [(name, [it for it in words if not it.isdigit()], words) for name, *words in split]
     return [(name, "".join(closure), tuple(it for it in words if it.isdigit())) for name, closure, words in named]
@@ -357,12 +364,13 @@ def scripts(chance, count):
 
 
 def counted(script):
-    """What is counted of a script: its calls, without the line that it begins with."""
+    """Returns what is counted in a script: its calls, without the line that it begins with."""
     return [("vector", name) for name, _, _ in script[1:]]
 
 
 def sample():
-    """The worked rows, and then each call twice, each time but for those that make a vector over the same one."""
+    """Returns the worked rows, and then two turns of each call. In a turn, all calls but those that
+    make a vector are on the same vector."""
     script = parsed(ROWS)
     for turn, items in enumerate([(3, 1, 4, 1, 5, 9, 2, 6), (7, 7, 0, 12, 12, 35, GREATEST)]):
         is_set = False
@@ -379,12 +387,12 @@ def line(call):
 
 
 def text(scripts):
-    """What the programs read."""
+    """Returns the text that the programs read."""
     return "".join(f"{line(call)}\n" for script in scripts for call in script).encode()
 
 
 def arms(crate):
-    """The names of calls in a program's arms."""
+    """Returns the names of calls in the match arms of a program."""
     named = set()
     for path in glob.glob(os.path.join(HERE, os.pardir, "crates", crate, "src", "*.rt")):
         if os.path.basename(path) != "closure.rt":
@@ -395,5 +403,5 @@ def arms(crate):
 
 
 def unlisted():
-    """The names that either the program or this table lacks."""
+    """Returns the names that either the program or this table lacks."""
     return sorted(arms(CRATE) ^ set(NAMES))

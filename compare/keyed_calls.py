@@ -1,5 +1,6 @@
-"""The calls on maps and sets that `compare/replay` makes, and its scripts of them, in the form of `calls.py`. A script begins with the kind
-of the map or the set, and its numbers: of a map keys and values by turns. Two keys are equal where their halves are."""
+"""The calls on maps and sets that `compare/replay` makes, and its scripts of calls, in the form of
+`calls.py`. A script begins with the kind of the map or set, and its numbers: for a map, keys and
+values in turn. Two keys are equal if their halves are equal."""
 
 import itertools
 from collections import namedtuple
@@ -10,12 +11,12 @@ CRATE, TWIN = "test_replay_keyed", "replay_keyed"
 MAPS = ["tree_map", "hashed_map", "indexed_map"]
 SETS = ["tree_set", "hashed_set", "indexed_set"]
 SUBJECTS = MAPS + SETS
-# Behind a call that leaves many keys, of which the programs write how many there are: shows them.
+# Shows the keys after a call that leaves many; the programs write only how many there are.
 WALK = "iter", "", ()
 
 
 def valued(keys):
-    """A map's numbers: each key has its place for a value."""
+    """Returns a map's numbers. The value of each key is its position, from 1."""
     return tuple(itertools.chain(*((key, place) for place, key in enumerate(keys, 1))))
 
 
@@ -24,14 +25,15 @@ def some_keys(chance, keys):
 
 
 def like_keys(chance, keys):
-    """All keys, or almost, the first ones or some, in any order; as they are or each as the key that equals it."""
+    """Returns all keys, or nearly all, or the first of them, or some, in any order. Each is as it
+    is, or is replaced by the key that equals it."""
     keys = chance.choice([keys, keys[: len(keys) // 2 + 1], (*keys, an_item(chance, keys)), some_keys(chance, keys)])
     keys = [key ^ chance.choice([0, 0, 1]) for key in keys] or [an_item(chance, [0])]
     return tuple(chance.sample(keys, len(keys)) if chance.random() < 0.5 else keys)
 
 
 def same_pairs(chance, keys):
-    """Pairs that make the same map, or almost."""
+    """Returns pairs that make the same map, or nearly the same."""
     pairs = list(enumerate(keys, 1))
     chance.shuffle(pairs)
     pairs = pairs if chance.random() < 0.5 else pairs[1:] + [(chance.randrange(9), an_item(chance, keys))]
@@ -39,18 +41,18 @@ def same_pairs(chance, keys):
 
 
 def some_calls(chance, keys):
-    """Calls of a list, each by which it is, by its key and its value."""
+    """Returns a list of calls, each as the number of its kind, its key and its value."""
     turns = range(chance.choice([0, 1, 2, 5, 12]))
     return tuple(x for _ in turns for x in (chance.randrange(4), an_item(chance, keys), chance.randrange(9)))
 
 
 SMALL_MAPS = [valued(it) for it in lists(0, 2, range(3))]
-# What a call's numbers may be, as in `calls.py`; those by chance are made beside the keys.
+# What the numbers of a call may be, as in `calls.py`; the random values are made from the keys.
 KINDS = {
     "key": Kind(single(range(4)), single([0, 3]), single([8, 5]), lambda chance, keys: (an_item(chance, keys),)),
     "value": Kind(single([7]), single([7]), single([50, 60]), lambda chance, keys: (chance.choice([0, 1, 7, GREATEST]),)),
     "place": Kind(single(range(3)), single([0, 1]), single([1, 7]), lambda chance, keys: (a_place(chance, keys),)),
-    # a size of what is made: never far above the length, as EXCUSED says
+    # a size of what is made; never far above the length, see EXCUSED
     "size": Kind(single(range(1, 3)), single([2]), single([3, 9]), lambda chance, keys: (chance.randrange(len(keys) + 2),)),
     "keys": Kind(lists(0, 2, range(3)), [(), (1, 4)], [(9, 4, 20), (5, 11)], some_keys),
     "pairs": Kind(SMALL_MAPS, [(), (1, 8, 4, 9)], [(9, 1, 4, 2, 20, 3), (5, 1, 11, 2)], lambda *made: valued(some_keys(*made))),
@@ -64,7 +66,8 @@ KINDS = {
     "map": Kind(SMALL_MAPS[1:], [(1, 8)], [(9, 2, 3, 1), (13, 6, 0, 4, 2, 2, 9, 7, 7, 5)], same_pairs),
 }
 
-# Names of calls, the kinds that have them, the kinds of their numbers, and what they do. A new call is a new name.
+# Names of calls, the kinds of maps and sets that have them, the kinds of their numbers, and what
+# they do. A new call needs a new name.
 ROWS = [
     ("new singleton written_one", MAPS, "key value", MAKES),
     ("written_two", MAPS, "key value key value", MAKES),
@@ -106,7 +109,7 @@ CALLS = {
     for subject in subjects
     for name in names.split()
 }
-# All that is left out on purpose, and why.
+# Everything that is left out on purpose, and why.
 EXCUSED = [
     (
         "with_capacity, with_capacity_and_hasher, reserve: sizes far above the length",
@@ -128,12 +131,14 @@ EXCUSED = [
 
 
 def counted(script):
-    """What is counted of a script: its calls, without the line that it begins with."""
+    """Returns what is counted in a script: its calls, without the line that it begins with."""
     return [(script[0][0], name) for name, _, _ in script[1:]]
 
 
 def is_open(script, call):
-    """Whether the call behind this script is an intersection of tree sets that EXCUSED names. No change stands before one that is not."""
+    """Returns whether the call after this script is an intersection of tree sets that EXCUSED
+    names. It is one if its set was changed before, or if one set has at least 16 times the items of
+    the other."""
     if (script[0][0], call[0]) != ("tree_set", "intersection"):
         return False
     mine, other = ({key // 2 for key in numbers or (0,)} for numbers in (script[0][2], call[2]))
@@ -142,7 +147,8 @@ def is_open(script, call):
 
 
 def is_allowed(script):
-    """Whether a script begins with its map or set, and makes calls that it has, none of which is open."""
+    """Returns whether a script begins with its map or set, and makes only calls that it has, none
+    of which is open."""
     if script[0][0] not in SUBJECTS or not script[0][2] or not all(call in CALLS for call in counted(script)):
         return False
     return not any(is_open(script[:place], script[place]) for place in range(1, len(script)))
@@ -157,13 +163,14 @@ def names_of(subject, *does):
 
 
 def each_call(subject, name, values):
-    """Every call of this name, at these values of each kind of number."""
+    """Yields every call of this name, with these values of each kind of number."""
     for numbers in itertools.product(*map(values, CALLS[subject, name].kinds)):
         yield name, "", tuple(itertools.chain(*numbers))
 
 
 def small_scripts():
-    """Each call over each map and set of one to three small keys, and each pair of two that change it over each of one or two."""
+    """Yields each call on each map and set of one to three small keys, and each pair of calls that
+    change it on each map and set of one or two."""
     for subject in SUBJECTS:
         single_calls = [call for name in names_of(subject) for call in each_call(subject, name, lambda kind: kind.small)]
         for keys, call in itertools.product(lists(1, 3, range(4)), single_calls):
@@ -178,7 +185,7 @@ def a_call(chance, subject, name, keys):
 
 
 def random_scripts(chance, count):
-    """So many calls by chance of each kind."""
+    """Yields scripts with so many random calls on each kind of map and set."""
     for subject in SUBJECTS:
         left, names = count, names_of(subject)
         while left > 0:
@@ -194,7 +201,8 @@ def random_scripts(chance, count):
 
 
 def long_scripts(chance):
-    """Each call over maps and sets of 1, 2, 10 and 10,000 keys in rising, falling and scrambled order."""
+    """Yields each call on maps and sets of 1, 2, 10 and 10,000 keys in rising, falling and
+    scrambled order."""
     for length, subject in itertools.product((1, 2, 10, 10_000), SUBJECTS):
         rising = [2 * place + chance.randrange(2) for place in range(length)]
         for keys in rising, rising[::-1], chance.sample(rising, length):
@@ -210,7 +218,8 @@ def scripts(chance, count):
     return {"small": small_scripts(), "random": random_scripts(chance, count), "long": long_scripts(chance)}
 
 
-# Worked rows, in front of the sample: each is what its name says in small. Keys are even, but for those that equal another by its half.
+# Worked rows, at the front of the sample. Each is a small example of its call. Keys are even,
+# except those that equal another key by its half.
 MAP_ROWS = """
 written_two 2 10 2 12
 get 2
@@ -283,7 +292,7 @@ singleton 2
 eq 4
 eq 3
 """
-# These have no order, or one of their own, and room.
+# Rows for some kinds of maps and sets only. Those with room are hashed or indexed.
 TRIED_ROWS = "try_from\ntry_from 4 1 2 2"
 WRITTEN_ROWS = "collect 2 0 4 1\niter_mut 1\nnonempty_iter_mut 2\nmut_into_iter 3"
 ROOM_ROWS = "with_capacity {numbers} 9\ncapacity 9\nwith_capacity_and_hasher {numbers} 8\ncapacity 8\nshrink_to_fit\nis_empty"
@@ -311,7 +320,8 @@ values_clone
 
 
 def rows():
-    """A script of the worked rows of each kind. Of tree sets each pair of sets of three keys or fewer is compared."""
+    """Returns a script of the worked rows of each kind. For tree sets, each pair of sets of three
+    keys or fewer is compared."""
     script = []
     for subject in SUBJECTS:
         tables = [MAP_ROWS if subject in MAPS else SET_ROWS]
@@ -326,8 +336,8 @@ def rows():
 
 
 def large(count):
-    """The numbers of each kind of a call over so many keys: a known key and another one, and half as many keys again. `COUNT*STEP` is
-    written out by the programs."""
+    """Returns the numbers of each kind for a call on so many keys: a known key and another one, and
+    half as many keys again. The programs write out `COUNT*STEP`."""
     keys = f"{3 * count}*7919"
     values = {"key": (count, 2 * count), "value": (7, 8), "place": (0, count - 1), "size": (count, 2), "map": (f"{2 * count}*7919", keys)}
     values |= {"keys": (keys,) * 2, "pairs": (keys,) * 2, "other": (keys, f"{2 * count}*1")}
@@ -336,8 +346,8 @@ def large(count):
 
 
 def each(subject, turn, begin, values):
-    """A script with each call of this kind behind its beginning, twice where no other kind has it. Those that make a map or a set come
-    last."""
+    """Returns a script with each call of this kind after its beginning, twice if no other kind has
+    it. The calls that make a map or a set come last."""
     script = [begin]
     for does in READS, CHANGES, MAKES:
         for name in names_of(subject, does):
@@ -352,8 +362,8 @@ def each(subject, turn, begin, values):
 
 
 def sample():
-    """The worked rows; each call over a few keys; and each over 1, 2, 10 and 10,000, which come in a scrambled order, and at last rise and
-    fall."""
+    """Returns the worked rows; each call on a few keys; and each call on 1, 2, 10 and 10,000 keys.
+    These keys are in scrambled order, and at last in rising and in falling order."""
     script = rows()
     for turn, subject in enumerate(SUBJECTS):
         script += each(subject, turn, setting(subject, (6, 3, 8, 1, 7, 12, 9)), lambda kind: kind.telling)
@@ -367,5 +377,5 @@ def sample():
 
 
 def unlisted():
-    """The names that either the program or this table lacks."""
+    """Returns the names that either the program or this table lacks."""
     return sorted(arms(CRATE) ^ {*SUBJECTS, *(name for _, name in CALLS)})

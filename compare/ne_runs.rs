@@ -1,4 +1,4 @@
-// `ne_runs` in plain Rust, with its modes, checks and faults: what the port's speed is compared with.
+// `ne_runs` in plain Rust, with its modes, checks and faults. The port's speed is compared with it.
 use indexmap::IndexSet;
 use std::fmt::{self, Display, Write as _};
 use std::io::{self, Read, Write};
@@ -49,7 +49,7 @@ enum Mode {
 }
 
 impl Mode {
-    // The mode that the command line names, by a single word.
+    // Returns the mode that the command line names by a single word.
     fn of_arguments() -> Option<Mode> {
         let mut words = std::env::args_os().skip(1);
         let mode = match words.next()?.to_str()? {
@@ -65,7 +65,7 @@ impl Mode {
         words.next().is_none().then_some(mode)
     }
 
-    // What the mode writes of the numbers; `None` where there are none.
+    // Returns what the mode writes for the numbers, or `None` if there are none.
     fn text(&self, numbers: &[u32]) -> Option<String> {
         let (first, last) = (numbers.first()?, numbers.last()?);
         Some(match self {
@@ -103,7 +103,7 @@ impl<'a> Iterator for NearRuns<'a> {
     }
 }
 
-// A line for each run.
+// Returns a line for each run.
 fn rows<'a>(runs: impl Iterator<Item = &'a [u32]>) -> String {
     let mut text = String::new();
     for run in runs {
@@ -112,7 +112,7 @@ fn rows<'a>(runs: impl Iterator<Item = &'a [u32]>) -> String {
     text
 }
 
-// A line: the numbers, with a space between.
+// Adds a line: the numbers, with a space between them.
 fn push_row<'a>(text: &mut String, numbers: impl Iterator<Item = &'a u32>) {
     for (place, number) in numbers.enumerate() {
         if place > 0 {

@@ -1,5 +1,5 @@
-"""A proved program and its twin, built; and a reference of what `ne_runs` has to do, written from the description of its modes and faults
-alone."""
+"""Builds a proved program and its twin. Also holds a reference of what `ne_runs` must do, which was
+written from the description of its modes and faults alone."""
 
 import os
 import re
@@ -13,18 +13,19 @@ LIMIT = 1_048_576
 
 
 def numbers_of(words, usage):
-    """The numbers that the words write, each at least 1; else the program ends and tells its usage."""
+    """Returns the numbers that the words write. If a word is not a number of at least 1, the
+    program ends and prints its usage."""
     if not all(re.fullmatch(r"[1-9]\d*", word, re.ASCII) for word in words):
         sys.exit(f"usage: {usage}")
     return [int(word) for word in words]
 
 
 def build(name="ne_runs", status=2):
-    """Proves and builds the program of the crate of this name, and returns the path of what was built. `status` is that of a run that is
-    given no word and no input."""
+    """Proves and builds the program of the crate of this name, and returns its path. `status` is
+    the exit status of a run without words and without input."""
     crate = os.path.join(HERE, os.pardir, "crates", name)
     how = {"cwd": crate, "stdin": subprocess.DEVNULL, "stdout": subprocess.DEVNULL, "stderr": subprocess.PIPE}
-    # without a word a program that takes one answers its usage, with status 2
+    # without words, a program that takes one prints its usage and ends with status 2
     ran = subprocess.run(["rt", "run"], **how)
     if ran.returncode != status or status == 2 and f"usage: {name} ".encode() not in ran.stderr:
         sys.exit(f"the program is not proved, or not built:\n{ran.stderr.decode(errors='replace')[-2000:]}")
@@ -32,7 +33,7 @@ def build(name="ne_runs", status=2):
 
 
 def built_twin(folder, name):
-    """Builds a program's twin beside the Rust crate in this folder, and returns the path of what was built."""
+    """Builds a program's twin beside the Rust crate in this folder, and returns its path."""
     if not os.path.exists(os.path.join(folder, "Cargo.toml")):
         sys.exit(f"{folder} has no Cargo.toml: compare/README.md says how it is made")
     programs = os.path.join(folder, "src", "bin")
@@ -51,8 +52,8 @@ def stats(numbers):
 
 
 def runs(numbers, same, place=0):
-    """Each number goes on a run while it is the same as the run's first number, or, if the place is
-    -1, as its last."""
+    """Returns the runs. A number continues a run if it is the same as the run's first number, or,
+    if the place is -1, as its last."""
     rows = []
     for number in numbers:
         if rows and same(rows[-1][place], number):
@@ -103,7 +104,7 @@ def number(line):
 
 
 def wanted(words, given):
-    """The status, the standard output and the standard error that are due."""
+    """Returns the status, the standard output and the standard error that are expected."""
     if len(words) != 1 or words[0] not in MODES:
         return 2, b"", b"usage: ne_runs MODE\n"
     if len(given) > LIMIT:
@@ -121,6 +122,6 @@ def wanted(words, given):
 
 
 def ran(program, words, given):
-    """What the program does."""
+    """Returns the status, the standard output and the standard error of the program."""
     done = subprocess.run([program, *words], input=given, capture_output=True)
     return done.returncode, done.stdout, done.stderr

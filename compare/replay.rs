@@ -1,5 +1,5 @@
-// The calls of `crates/test_replay` over the Rust crate `nonempty-collections`, which the port is compared with. What it reads and prints is
-// the same, and its functions are named after the port's.
+// The calls of `crates/test_replay` on the Rust crate `nonempty-collections`, with which the port
+// is compared. It reads and prints the same, and its functions have the names of the port's.
 #![allow(deprecated)]
 use nonempty_collections::iter::once;
 use nonempty_collections::{
@@ -87,7 +87,8 @@ fn chained(items: &NEVec<u32>, call: &Call, text: &mut String) -> Result<bool, f
 
 // The closures that a script names.
 
-// A named closure on numbers. It counts its calls and adds up the numbers that it was shown, so that some answer by state.
+// A named closure on numbers. It counts its calls and adds up the numbers that it was passed. What
+// some closures return depends on this state.
 struct Closure {
     rule: Rule,
     calls: Cell<u32>,
@@ -114,7 +115,7 @@ impl Default for Closure {
 }
 
 impl Closure {
-    // The closure of this name, before its first call; `None` where there is none.
+    // Returns the closure of this name, before its first call, or `None` if there is none.
     fn named(name: &str) -> Option<Closure> {
         let rule = match name {
             "same" => Rule::Same,
@@ -159,7 +160,7 @@ impl Closure {
         }
     }
 
-    // Whether what it answers at `x` is even.
+    // Returns whether its result for `x` is even.
     fn holds(&self, x: u32) -> bool {
         self.of(x) % 2 == 0
     }
@@ -171,16 +172,16 @@ impl Closure {
 
 // A call, as a line of a script writes it: a name, perhaps a closure's name, and numbers.
 
-// A call. Where a line has no number, the number is 0.
+// A call. If a line has no number, the number is 0.
 struct Call<'t> {
     name: &'t str,
-    // The closure that it takes; where none is named, the one that answers what it is shown.
+    // The closure that it takes. If none is named, it is the one that returns what it is passed.
     closure: Closure,
     numbers: Vec<u32>,
     first: u32,
     last: u32,
     place: usize,
-    // The first of them as a size, which is at least 1.
+    // The first of the numbers as a size, which is at least 1.
     size: NonZeroUsize,
 }
 
@@ -361,7 +362,7 @@ fn vector_edited(items: &mut NEVec<u32>, call: &Call, text: &mut String) -> Resu
     Ok(true)
 }
 
-// The Rust crate carries out no list of calls: they are made one by one.
+// The Rust crate has no function that makes a list of calls, so they are made one by one.
 fn listed_run(items: &mut NEVec<u32>, call: &Call, text: &mut String) -> Result<bool, fmt::Error> {
     if call.name != "run_vec" {
         return Ok(false);

@@ -1,5 +1,5 @@
-// The calls of `crates/test_replay_keyed` over the Rust crate `nonempty-collections`, which the port is compared with. What it reads and
-// prints is the same, and its functions are named after the port's.
+// The calls of `crates/test_replay_keyed` on the Rust crate `nonempty-collections`, with which the
+// port is compared. It reads and prints the same, and its functions have the names of the port's.
 #![allow(deprecated)]
 use indexmap::{IndexMap, IndexSet};
 use nonempty_collections::{
@@ -60,7 +60,7 @@ enum Subject {
 }
 
 impl Subject {
-    // Whether the order of its walks is open.
+    // Returns whether its order of iteration is unspecified.
     fn is_hashed(&self) -> bool {
         matches!(self, Subject::HashedMap(_) | Subject::HashedSet(_))
     }
@@ -88,7 +88,7 @@ impl Subject {
     }
 }
 
-// A number that equals another where their halves are the same, and is ordered and hashed by its half.
+// A number that equals another if their halves are the same. It is ordered and hashed by its half.
 #[derive(Clone, Copy)]
 struct Key {
     half: u32,
@@ -133,7 +133,8 @@ impl Debug for Key {
     }
 }
 
-// A call, as a line of a script writes it: a name and numbers. `COUNT*STEP` stands for COUNT numbers, the multiples of STEP modulo COUNT.
+// A call, as a line of a script writes it: a name and numbers. `COUNT*STEP` means COUNT numbers,
+// the multiples of STEP modulo COUNT.
 
 fn number_of(word: &str) -> u32 {
     word.parse().unwrap_or(0)
@@ -196,7 +197,7 @@ impl<'t> Call<'t> {
     }
 }
 
-// How answers are written.
+// How results are written.
 
 #[derive(Default)]
 struct Transcript {
@@ -245,7 +246,7 @@ fn checksum(text: &str) -> u32 {
     text.bytes().fold(0, |sum: u32, byte| sum.wrapping_mul(31).wrapping_add(byte.into()))
 }
 
-// A map or a set that a call made stands in the place of the one that there is.
+// A map or a set that a call made replaces the current one.
 
 fn put<C>(there: &mut C, made: C) -> bool {
     *there = made;
@@ -274,7 +275,7 @@ type TreeMap = NEBTreeMap<Key, u32>;
 type HashedMap = NEMap<Key, u32>;
 type IndexedMap = NEIndexMap<Key, u32>;
 
-// What a call replies: it is printed, and not read otherwise.
+// The reply to a call. It is only printed.
 #[allow(dead_code)]
 #[derive(Debug)]
 enum MapReply {
@@ -300,7 +301,8 @@ macro_rules! any_map {
                 map.extend([(key, value)]);
                 true
             }
-            // The Rust crate carries out no list of calls: they are made one by one.
+            // The Rust crate has no function that makes a list of calls, so they are made one by
+            // one.
             "run_map" => {
                 let mut replies = Vec::new();
                 for three in call.numbers.chunks(3) {
@@ -348,7 +350,7 @@ macro_rules! any_map {
     }};
 }
 
-// Calls that maps have which are not ordered.
+// Calls that only maps without an order by keys have.
 macro_rules! roomy_map {
     ($Map:ident, $map:expr, $call:expr, $out:expr) => {{
         let (map, call, out) = ($map, $call, $out);
@@ -368,7 +370,7 @@ macro_rules! roomy_map {
     }};
 }
 
-// Walks that write values.
+// Iterators that write values.
 macro_rules! rewritten {
     ($map:expr, $call:expr) => {
         match $call.name {
@@ -483,7 +485,7 @@ macro_rules! any_set {
     }};
 }
 
-// Calls that sets have which are not ordered.
+// Calls that only sets without an order by items have.
 macro_rules! roomy_set {
     ($Set:ident, $set:expr, $call:expr, $out:expr) => {{
         let (set, call, out) = ($set, $call, $out);

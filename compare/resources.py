@@ -1,4 +1,5 @@
-"""What a run of a program takes, its start and its end among it: time, instructions and memory; and how two programs are compared."""
+"""What a run of a program takes, including its start and its end: time, instructions and memory;
+and how two programs are compared."""
 
 import os
 import re
@@ -8,7 +9,7 @@ import time
 
 
 def spent(words, file):
-    """The milliseconds that one run takes."""
+    """Returns the milliseconds that one run takes."""
     with open(file, "rb") as given:
         start = time.perf_counter()
         subprocess.run(words, stdin=given, stdout=subprocess.DEVNULL, check=True)
@@ -16,13 +17,13 @@ def spent(words, file):
 
 
 def medians(programs, words, rounds, file=os.devnull):
-    """The median time of each program, which are run in turn."""
+    """Returns the median time of each program. The programs are run in turn."""
     times = [[spent([program, *words], file) for program in programs] for _ in range(rounds)]
     return [statistics.median(taken) for taken in zip(*times)]
 
 
 def valgrind(tool, pattern, words, file):
-    """What a tool of valgrind counts of one run."""
+    """Returns what a tool of valgrind counts in one run."""
     with open(file, "rb") as given:
         traced = ["valgrind", f"--tool={tool}", f"--{tool}-out-file={os.devnull}", *words]
         said = subprocess.run(traced, stdin=given, stdout=subprocess.DEVNULL, stderr=subprocess.PIPE, check=True).stderr
@@ -34,12 +35,12 @@ def instructions(words, file=os.devnull):
 
 
 def heap(words, file):
-    """The most bytes of the heap that are held at once."""
+    """Returns the greatest number of bytes on the heap at one time."""
     return valgrind("dhat", rb"At t-gmax: +([\d,]+) bytes", words, file)
 
 
 def ratio(port, rust):
-    """How many times as much the port takes, with a star where that is more."""
+    """Returns how many times as much the port takes, with a star if that is more."""
     return f"{port / rust:.2f}{' *' if port > rust else ''}"
 
 
