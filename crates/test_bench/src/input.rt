@@ -1,4 +1,4 @@
-//! What the workloads are run on: numbers of a linear congruential generator, and pairs of them.
+//! The input of the workloads: numbers of a linear congruential generator, and pairs of them.
 
 use ne_vec::NEVec;
 use std::alloc::{AllocError, Global};
@@ -11,7 +11,7 @@ pub fn next(state: u64) -> u64 {
         .wrapping_add(1_442_695_040_888_963_407)
 }
 
-/// One checksum of a checksum and a number.
+/// Adds a number to a checksum.
 pub fn mixed(checksum: u64, x: u64) -> u64 {
     checksum.wrapping_mul(31).wrapping_add(x)
 }
@@ -27,8 +27,7 @@ pub fn scrambled(alloc: Global, n: NonZeroUsize) -> Result<NEVec<u64>, AllocErro
     Ok(items)
 }
 
-/// `n` numbers that rise by 1 now and then, in runs of about `mask + 1`, where that is a power of
-/// two.
+/// `n` numbers that rise by 1 now and then, in runs of about `mask + 1`, if that is a power of two.
 pub fn rising(alloc: Global, n: NonZeroUsize, mask: u64) -> Result<NEVec<u64>, AllocError> {
     let mut state = 1u64;
     let mut item = 0u64;

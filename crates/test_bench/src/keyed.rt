@@ -1,4 +1,5 @@
-//! Workloads over maps and sets, each written once: over what it asks of a map or of a set.
+//! Workloads over maps and sets. Each is written once, in terms of what it needs from a map or a
+//! set.
 
 mod map;
 mod set;
@@ -10,10 +11,10 @@ use set::Bag;
 use std::alloc::{AllocError, Global};
 use std::num::NonZeroUsize;
 
-/// What the workload of this name makes of `n` items; `None` if none has the name.
+/// Returns what the workload of this name makes of `n` items, or `None` if none has the name.
 ///
-/// A name is the kind of the collections, and the step that is measured: `tree_insert`. With
-/// `_default` behind it the twin takes its own default hasher; here it is the same workload.
+/// A name is the kind of the collection and the step that is measured, as in `tree_insert`. With
+/// `_default` at the end, the twin uses its own default hasher; here it is the same workload.
 pub fn checksum(alloc: Global, name: &str, n: NonZeroUsize) -> Result<Option<u64>, AllocError> {
     let name = name.strip_suffix("_default").unwrap_or(name);
     match name.split_once("_") {
@@ -63,7 +64,7 @@ fn collected<M: Table + Drop>(alloc: Global, n: NonZeroUsize) -> Result<M, Alloc
     M::of_all(alloc, paired(alloc, n)?)
 }
 
-// Twice as many keys are looked for as there are, about half of them in vain.
+// Looks up twice as many keys as there are, about half of them in vain.
 fn look_up<M: Table>(map: &M, n: NonZeroUsize) -> u64 {
     let mut state = 1u64;
     let mut checksum = 0u64;

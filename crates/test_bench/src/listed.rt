@@ -1,5 +1,6 @@
-//! Workloads over products, over the look for equal items, and over lists of calls: carried out by
-//! `run_vec` and `run_map`, and beside them the same calls made directly, with their replies kept.
+//! Workloads over products, over the check for equal items, and over lists of calls: made by
+//! `run_vec` and `run_map`, and, for comparison, the same calls made directly, with their replies
+//! kept.
 
 use crate::input::{mixed, next, scrambled};
 use ne_laws::map_calls::{MapCall, MapReply, run_map};
@@ -11,7 +12,8 @@ use nonempty_collections::{
 use std::alloc::{AllocError, Global};
 use std::num::NonZeroUsize;
 
-/// What the workload of this name makes of `n` pairs, items or calls; `None` if none has the name.
+/// Returns what the workload of this name makes of `n` pairs, items or calls, or `None` if none has
+/// the name.
 pub fn checksum(alloc: Global, name: &str, n: NonZeroUsize) -> Result<Option<u64>, AllocError> {
     let checksum = match name {
         "product" => product(alloc, n)?,
@@ -30,7 +32,7 @@ pub fn checksum(alloc: Global, name: &str, n: NonZeroUsize) -> Result<Option<u64
     Ok(Some(checksum))
 }
 
-// The workloads of a map, which is of one pair.
+// The workloads of a map, which begins with one pair.
 fn map_step<M: NonEmptyMap<u64, u64> + Drop>(
     alloc: Global,
     map: M,
@@ -44,7 +46,7 @@ fn map_step<M: NonEmptyMap<u64, u64> + Drop>(
     }
 }
 
-// About `n` pairs: of each item one with each of 16.
+// About `n` pairs: each item with each of 16.
 fn product(alloc: Global, n: NonZeroUsize) -> Result<u64, AllocError> {
     let rows = scrambled(alloc, n)?;
     let rows = rows.nonempty_iter().copied();
@@ -58,7 +60,7 @@ fn product(alloc: Global, n: NonZeroUsize) -> Result<u64, AllocError> {
     Ok(checksum)
 }
 
-// `n` calls on a vector, by which it stays short.
+// `n` calls on a vector, which keep it short.
 fn vector_calls(alloc: Global, n: NonZeroUsize) -> Result<Vec<VecCall<u64>>, AllocError> {
     let mut state = 1u64;
     let mut calls = Vec::with_capacity(alloc, n.get())?;

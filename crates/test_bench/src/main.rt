@@ -1,7 +1,8 @@
-//! Runs a workload over the collections, and prints a checksum of what came of it.
+//! Runs a workload over the collections, and prints a checksum of the result.
 //!
-//! `bench WORKLOAD SIZE` is timed beside a twin in Rust, over the Rust crate: see `compare/bench`.
-//! The checksum is there so that both can be compared, and that nothing is left out as unused.
+//! `bench WORKLOAD SIZE` is timed beside a twin in Rust that uses the Rust crate: see
+//! `compare/bench`. With the checksum both can be compared, and nothing is optimized away as
+//! unused.
 #![tactic(auto)]
 
 mod input;
@@ -15,7 +16,7 @@ use std::env;
 use std::num::NonZeroUsize;
 use std::process::ExitCode;
 
-// The greatest size that is taken.
+// The greatest size that is accepted.
 const MOST: usize = 10_000_000;
 
 fn main(rt: HostRuntime) -> ExitCode {
@@ -32,7 +33,8 @@ fn main(rt: HostRuntime) -> ExitCode {
     }
 }
 
-// The checksum of the workload that the command line names; `None` where it names none, or no size.
+// Returns the checksum of the workload that the command line names, or `None` if it names none, or
+// no size.
 fn told(rt: &HostRuntime) -> Result<Option<u64>, AllocError> {
     let Ok(words) = env::args(rt) else {
         return Ok(None);

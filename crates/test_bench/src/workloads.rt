@@ -7,7 +7,7 @@ use std::alloc::{AllocError, Global};
 use std::collections::{BTreeMap, HashMap};
 use std::num::NonZeroUsize;
 
-/// What the workload of this name makes of `n` items; `None` where none has the name.
+/// Returns what the workload of this name makes of `n` items, or `None` if none has the name.
 pub fn checksum(alloc: Global, name: &str, n: NonZeroUsize) -> Result<Option<u64>, AllocError> {
     let checksum = match name {
         "scrambled" => length_and_last(&scrambled(alloc, n)?),
@@ -39,7 +39,7 @@ pub fn checksum(alloc: Global, name: &str, n: NonZeroUsize) -> Result<Option<u64
     Ok(Some(checksum))
 }
 
-// Of the workloads of the other modules.
+// The workloads of the other modules.
 fn others(alloc: Global, name: &str, n: NonZeroUsize) -> Result<Option<u64>, AllocError> {
     match listed::checksum(alloc, name, n)? {
         Some(checksum) => Ok(Some(checksum)),
@@ -47,7 +47,7 @@ fn others(alloc: Global, name: &str, n: NonZeroUsize) -> Result<Option<u64>, All
     }
 }
 
-// What there is to tell of the numbers alone, with which the others begin.
+// The length and the last number only, for workloads that just make the input of the others.
 fn length_and_last(items: &NEVec<u64>) -> u64 {
     mixed(items.len().get() as u64, *items.last())
 }
@@ -194,8 +194,8 @@ fn scan(alloc: Global, n: NonZeroUsize) -> Result<u64, AllocError> {
     Ok(checksum)
 }
 
-// The number of keys and the sum of all values, which tell nothing of the order in which a hash map
-// is walked.
+// The number of keys and the sum of all values, which do not depend on the order in which a hash
+// map iterates.
 fn hash_map(alloc: Global, n: NonZeroUsize) -> Result<u64, AllocError> {
     let items = paired(alloc, n)?.into_nonempty_iter();
     let map: HashMap<u64, u64> = items.collect(alloc)?;

@@ -1,4 +1,4 @@
-//! What the workloads ask of a map, of each kind.
+//! What the workloads need from a map, for each kind.
 
 use crate::input::mixed;
 use nonempty_collections::{
@@ -6,7 +6,7 @@ use nonempty_collections::{
 };
 use std::alloc::{AllocError, Global};
 
-/// A map from numbers to numbers, by what the workloads ask of it.
+/// A map from numbers to numbers, with what the workloads need from it.
 pub trait Table {
     fn of_one(alloc: Global, key: u64, value: u64) -> Result<Self, AllocError>;
 
@@ -19,7 +19,7 @@ pub trait Table {
 
     fn length(&self) -> u64;
 
-    /// A checksum of all pairs; of a hashed map one that tells nothing of their order.
+    /// A checksum of all pairs. For a hashed map it does not depend on their order.
     fn combined(&self) -> u64;
 
     fn is_same(&self, other: &Self) -> bool;

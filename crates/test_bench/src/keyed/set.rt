@@ -1,4 +1,4 @@
-//! What the workloads ask of a set, of each kind.
+//! What the workloads need from a set, for each kind.
 
 use crate::input::mixed;
 use nonempty_collections::{
@@ -6,13 +6,13 @@ use nonempty_collections::{
 };
 use std::alloc::{AllocError, Global};
 
-/// A set of numbers, by what the workloads ask of it.
+/// A set of numbers, with what the workloads need from it.
 pub trait Bag {
     fn of_all(alloc: Global, items: NEVec<u64>) -> Result<Self, AllocError>;
 
     fn length(&self) -> u64;
 
-    /// A checksum of the items of both; of hashed sets one that tells nothing of their order.
+    /// A checksum of the items of both. For hashed sets it does not depend on their order.
     fn united(&self, other: &Self) -> u64;
 
     fn is_same(&self, other: &Self) -> bool;
