@@ -1,4 +1,4 @@
-//! Maps and sets over any hasher, and over hashers of one's own.
+//! Maps and sets with any hasher, and with hashers of the tests' own.
 ghost use Rattle.std.specs.Prelude.{◌≡◌, ◌≤◌, [], ◌∷◌, nat_eq, IfOk, MatchOption, None, OnOk, Some};
 ghost use Rattle.std.specs.HashMap.{get, hasher_of, hash_map_len, spare, IsEmpty};
 ghost use Rattle.std.specs.HashSet as bag;
@@ -10,7 +10,7 @@ use std::collections::HashMap;
 use std::hash::{BuildHasher, BuildHasherDefault, FoldHasher, Hasher, RandomState};
 use std::num::NonZeroUsize;
 
-/// Gives all keys the same hash, which costs time and changes no answer.
+/// Gives all keys the same hash, which costs time and changes no result.
 #[derive(Clone, Copy)]
 pub(crate) struct Colliding;
 
@@ -36,7 +36,7 @@ impl BuildHasher for Colliding {
     }
 }
 
-/// Hashes as the default hasher does, and is told from other ones by its number.
+/// Hashes as the default hasher does, and is told apart from other ones by its number.
 #[derive(Clone, Copy, Drop)]
 pub(crate) struct Numbered {
     pub number: u32,
@@ -44,7 +44,7 @@ pub(crate) struct Numbered {
 }
 
 impl Numbered {
-    /// The one of this number.
+    /// Returns the hasher of this number.
     pub fn new(number: u32) -> Self
         ensures { result.number ≡ number }
     {
@@ -67,7 +67,7 @@ impl BuildHasher for Numbered {
     }
 }
 
-/// Where strangers choose the keys: a map whose hasher has a random seed.
+/// A map whose hasher has a random seed, for keys that untrusted users choose.
 pub(crate) fn of_strangers(
     alloc: Global,
     state: RandomState,
@@ -80,7 +80,7 @@ pub(crate) fn of_strangers(
     NEMap::with_hasher(alloc, state, k, v)
 }
 
-/// A map with room for 16 keys, and with the hasher that was handed in.
+/// A map with room for 16 keys, and with the hasher that was passed.
 pub(crate) fn with_room<S: BuildHasher + Drop>(
     alloc: Global,
     capacity: NonZeroUsize,
@@ -95,7 +95,7 @@ pub(crate) fn with_room<S: BuildHasher + Drop>(
     Ok((map, room))
 }
 
-/// At any hasher, what was put in is found, and the hasher stays.
+/// With any hasher, what was inserted is found, and the hasher stays.
 pub(crate) fn put<S: BuildHasher>(
     map: &mut NEMap<u32, u32, S>,
     k: u32,
@@ -121,7 +121,7 @@ pub(crate) fn reserved<S: BuildHasher>(
     Ok(set.contains(&x))
 }
 
-/// A map that gives back room holds what it held.
+/// A map that releases room holds what it held.
 pub(crate) fn shrunk<S: BuildHasher>(
     map: &mut NEMap<u32, u32, S>,
     k: u32,

@@ -1,4 +1,4 @@
-//! Maps: what is in one, what was put in, and its walks collected or used up.
+//! Maps: what is in one, what was inserted, and its iterators collected or used up.
 ghost use Rattle.std.specs.Prelude.{◌≡◌, ◌+◌, ◌<◌, ◌≤◌, ◌≢◌, ◌/◌, ◌++◌, true, false, length};
 ghost use Rattle.std.specs.Prelude.{◌↔◌, map, nat_eq, All, Contains, IfOk, IsTrue};
 ghost use Rattle.std.specs.Prelude.{None, OnOk, Some};
@@ -11,7 +11,7 @@ use nonempty_collections::{IntoNonEmptyIterator, NEMap, NEVec, NonEmptyIterator,
 use std::alloc::{AllocError, Global};
 use std::collections::HashMap;
 
-/// A map that is written out: the last of two equal keys counts.
+/// A map that is written out: of two equal keys the last one's value counts.
 pub(crate) fn written_out(alloc: Global) -> Result<NEMap<u32, u32>, AllocError>
     ensures first { IfOk result (λ m. get nat_eq m 1 ≡ Some 30) }
     ensures second { IfOk result (λ m. get nat_eq m 2 ≡ Some 20) }
@@ -21,7 +21,7 @@ pub(crate) fn written_out(alloc: Global) -> Result<NEMap<u32, u32>, AllocError>
     nem![alloc; 1 => 10, 2 => 20, 1 => 30]
 }
 
-/// What was put at a key is what stands there.
+/// The value that was put at a key is the key's value.
 pub(crate) fn put_and_look_up(map: &mut NEMap<u32, u32>, k: u32, v: u32) -> Result<u32, AllocError>
     ensures { IfOk result (λ found. found ≡ v) }
 {
@@ -32,7 +32,7 @@ pub(crate) fn put_and_look_up(map: &mut NEMap<u32, u32>, k: u32, v: u32) -> Resu
     }
 }
 
-/// What is put at a key leaves the others.
+/// Putting a value at a key does not change the others.
 pub(crate) fn put_beside(
     map: &mut NEMap<u32, u32>,
     k: u32,
@@ -47,7 +47,7 @@ pub(crate) fn put_beside(
     Ok(map.get(&other).copied() == before)
 }
 
-/// The old value comes back, and the number of keys tells whether the key was new.
+/// The old value is returned, and the number of keys shows whether the key was new.
 pub(crate) fn put_twice(alloc: Global, k: u32) -> Result<(Option<u32>, usize), AllocError>
     ensures { IfOk result (λ r. (r.0 ≡ Some 1) × (r.1 ≡ 1)) }
 {
@@ -64,14 +64,14 @@ pub(crate) fn how_many(map: &NEMap<u32, u32>) -> usize
     map.len().get()
 }
 
-/// Whether a key is there: exactly if it has a value.
+/// Whether a key is there: if and only if it has a value.
 pub(crate) fn has(map: &NEMap<u32, u32>, k: u32) -> bool
     ensures { result ≡ false → get nat_eq map.now k ≡ None }
 {
     map.contains_key(&k)
 }
 
-/// The value of a key is written by what `get_mut` lends.
+/// The value of a key is changed through what `get_mut` returns.
 pub(crate) fn write(map: &mut NEMap<u32, u32>, k: u32, v: u32) -> bool
     ensures written { IsTrue result → get nat_eq map.new k ≡ Some v }
     ensures absent { result ≡ false → map.new ≡ map.old }
@@ -123,7 +123,7 @@ pub(crate) fn pairs(alloc: Global, m: NEMap<u32, u32>) -> Result<NEVec<(u32, u32
     m.into_nonempty_iter().collect(alloc)
 }
 
-/// A chain over the pairs by value.
+/// A chain of adapters over the pairs by value.
 pub(crate) fn sums(alloc: Global, m: NEMap<u16, u16>) -> Result<NEVec<u32>, AllocError>
     ensures { IfOk result (λ v. v ≡ map (λ p. p.0 + p.1) m.entries) }
 {
@@ -132,14 +132,14 @@ pub(crate) fn sums(alloc: Global, m: NEMap<u16, u16>) -> Result<NEVec<u32>, Allo
         .collect(alloc)
 }
 
-/// A chain over the pairs by reference.
+/// A chain of adapters over the pairs by reference.
 pub(crate) fn keys_by_pairs(alloc: Global, m: &NEMap<u32, u32>) -> Result<NEVec<u32>, AllocError>
     ensures { IfOk result (λ v. length v ≡ hash_map_len m.now) }
 {
     m.nonempty_iter().map(|(k, _v)| *k).collect(alloc)
 }
 
-/// A chain over the values.
+/// A chain of adapters over the values.
 pub(crate) fn halves(alloc: Global, m: &NEMap<u32, u32>) -> Result<NEVec<u32>, AllocError>
     ensures { IfOk result (λ v. v ≡ map (λ x. x / 2) (values m.now)) }
 {
@@ -177,7 +177,7 @@ pub(crate) fn extended(map: &mut NEMap<u32, u32>, more: NEVec<(u32, u32)>) -> Re
     map.extend(more)
 }
 
-/// A map, and what is left of it as std's: the same, its hasher included.
+/// A map, converted into std's map: the same map with the same hasher.
 pub(crate) fn there_and_back(m: NEMap<u32, u32>) -> NEMap<u32, u32>
     ensures { result ≡ m }
 {

@@ -1,4 +1,4 @@
-//! Sets: what is in one, what was put in, two of them together, and their walks.
+//! Sets: what is in one, what was inserted, two of them together, and their iterators.
 ghost use Rattle.std.specs.Prelude.{◌≡◌, ◌<◌, ◌≤◌, ◌↔◌, ◌++◌, ◌/◌, true, false, map, nat_eq};
 ghost use Rattle.std.specs.Prelude.{All, Contains, IfOk, IsTrue, OnOk};
 ghost use Rattle.std.specs.HashSet.{contains, get, hash_set_len, IsDifference, IsDisjoint};
@@ -19,7 +19,7 @@ pub(crate) fn written_out(alloc: Global) -> Result<NESet<u32>, AllocError>
     nes![alloc; 2, 1, 2]
 }
 
-/// What was put in is there.
+/// An item that was inserted is there.
 pub(crate) fn put_and_look_up(set: &mut NESet<u32>, x: u32) -> Result<bool, AllocError>
     ensures { IfOk result (λ found. found ≡ true) }
 {
@@ -27,7 +27,7 @@ pub(crate) fn put_and_look_up(set: &mut NESet<u32>, x: u32) -> Result<bool, Allo
     Ok(set.contains(&x))
 }
 
-/// Putting an item in a second time adds nothing.
+/// Inserting an item a second time adds nothing.
 pub(crate) fn put_twice(set: &mut NESet<u32>, x: u32) -> Result<bool, AllocError>
     ensures { IfOk result (λ added. added ≡ false) }
 {
@@ -35,7 +35,7 @@ pub(crate) fn put_twice(set: &mut NESet<u32>, x: u32) -> Result<bool, AllocError
     set.insert(x)
 }
 
-/// What is replaced by an equal item comes back, and the item is there.
+/// What is replaced by an equal item is returned, and the item is there.
 pub(crate) fn replaced(set: &mut NESet<u32>, x: u32) -> Result<Option<u32>, AllocError>
     ensures old { IfOk result (λ old. old ≡ get nat_eq set.old x) }
     ensures found { OnOk result (contains nat_eq set.new x ≡ true) }
@@ -59,7 +59,7 @@ pub(crate) fn items_of_a_set(alloc: Global, set: &NESet<u32>) -> Result<NEVec<u3
     set.nonempty_iter().copied().collect(alloc)
 }
 
-/// The items of a set that is handed over.
+/// The items of a set that is passed by value.
 pub(crate) fn items_by_value(alloc: Global, set: NESet<u32>) -> Result<NEVec<u32>, AllocError>
     ensures { IfOk result (λ v. v ≡ set.keys) }
 {
@@ -92,7 +92,7 @@ pub(crate) fn shared(alloc: Global, a: &NESet<u32>, b: &NESet<u32>) -> Result<Ve
     a.intersection(b).copied().collect(alloc)
 }
 
-/// The items that are in the first set alone.
+/// The items that are only in the first set.
 pub(crate) fn left_over(
     alloc: Global,
     a: &NESet<u32>,
@@ -145,7 +145,7 @@ pub(crate) fn extended(set: &mut NESet<u32>, more: NEVec<u32>) -> Result<(), All
     set.extend(more)
 }
 
-/// A set, and what is left of it as std's: the same, its hasher included.
+/// A set, converted into std's set: the same set with the same hasher.
 pub(crate) fn there_and_back(set: NESet<u32>) -> NESet<u32>
     ensures { result ≡ set }
 {

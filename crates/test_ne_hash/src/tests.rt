@@ -1,6 +1,6 @@
-//! Hashers of one's own, and what is dropped. The calls with what they answer are lines of the
-//! stored run of `test_replay_keyed`. What a row answers is compared at once, since each
-//! comparison has to be proved.
+//! The tests' own hashers, and what is dropped. The calls and their results are lines of the stored
+//! run of `test_replay_keyed`. The results of a row are compared at once, because each comparison
+//! has to be proved.
 
 mod drops;
 mod hashers;
@@ -8,7 +8,7 @@ mod hashers;
 use std::fmt::Debug;
 use std::test::Fail;
 
-// Fails if the two values differ, and says what both are.
+// Fails with both values if they differ.
 fn is<T: PartialEq + Debug + Drop>(given: T, wanted: T) -> Result<(), Fail> {
     if given == wanted {
         Ok(())

@@ -1,5 +1,5 @@
-//! Maps and sets over hashers of one's own: one that is told from others, one under which all keys
-//! collide, and one with a random seed. And sizes for which there is no memory.
+//! Maps and sets with the tests' own hashers: one that is told apart from others, one under which
+//! all keys collide, and one with a random seed. Also sizes for which there is no memory.
 
 use super::is;
 use crate::hashers::{Colliding, Numbered, of_strangers};
@@ -10,7 +10,7 @@ use std::hash::RandomState;
 use std::num::NonZeroUsize;
 use std::test::Fail;
 
-// The hasher of 5 is kept by the conversions.
+// The conversions keep the hasher of number 5.
 fn converted_map(alloc: Global) -> Result<NEMap<u32, char, Numbered>, Fail> {
     let inner = HashMap::from(NEMap::with_hasher(alloc, Numbered::new(5), 1, 'a')?);
     is(inner.hasher().number, 5)?;
