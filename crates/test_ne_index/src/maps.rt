@@ -1,4 +1,4 @@
-//! Maps: what is in one, its places, what was put in, and its walks collected or used up.
+//! Maps: what is in one, its indices, what was inserted, and its iterators collected or used up.
 ghost use Rattle.std.specs.Prelude.{◌≡◌, ◌-◌, ◌<◌, ◌≢◌, ◌/◌, ◌++◌, [], ◌∷◌, true, false};
 ghost use Rattle.std.specs.Prelude.{◌↔◌, map, nat_eq, slice_get, IfOk};
 ghost use Rattle.std.specs.Prelude.{IsTrue, None, OnOk, Some};
@@ -12,14 +12,15 @@ use nonempty_collections::{IntoNonEmptyIterator, NEIndexMap, NEVec, NonEmptyIter
 use std::alloc::{AllocError, Global};
 use std::hash::BuildHasher;
 
-/// A map that is written out: the last of two equal keys counts, at the place of the first.
+/// A map that is written out: of two equal keys the last one's value counts, at the index of the
+/// first.
 pub(crate) fn written_out(alloc: Global) -> Result<NEIndexMap<u32, u32>, AllocError>
     ensures { IfOk result (λ m. m.entries ≡ (1, 30) ∷ (2, 20) ∷ []) }
 {
     neim![alloc; 1 => 10, 2 => 20, 1 => 30]
 }
 
-/// The map of one key, with any hasher: it keeps it.
+/// The map of one key, with any hasher: it keeps the hasher.
 pub(crate) fn hashed_by<S: BuildHasher + Drop>(
     alloc: Global,
     hasher: S,
@@ -32,7 +33,7 @@ pub(crate) fn hashed_by<S: BuildHasher + Drop>(
     Ok(map)
 }
 
-/// What was put at a key is what stands there.
+/// The value that was put at a key is the key's value.
 pub(crate) fn put_and_look_up(
     map: &mut NEIndexMap<u32, u32>,
     k: u32,
@@ -47,7 +48,7 @@ pub(crate) fn put_and_look_up(
     }
 }
 
-/// What is put at a key leaves the others.
+/// Putting a value at a key does not change the others.
 pub(crate) fn put_beside(
     map: &mut NEIndexMap<u32, u32>,
     k: u32,
@@ -62,7 +63,7 @@ pub(crate) fn put_beside(
     Ok(map.get(&other).copied() == before)
 }
 
-/// A key that is not there stands last once it is put in.
+/// A new key is the last one after it is inserted.
 pub(crate) fn put_last(map: &mut NEIndexMap<u32, u32>, k: u32, v: u32) -> Result<bool, AllocError>
     ensures { IfOk result (λ new. IsTrue new
         → map.new.entries ≡ map.old.entries ++ (k, v) ∷ []) }
@@ -71,7 +72,7 @@ pub(crate) fn put_last(map: &mut NEIndexMap<u32, u32>, k: u32, v: u32) -> Result
     Ok(old.is_none())
 }
 
-/// The keys stay where they are where one of them takes another value.
+/// The keys stay where they are if one of them takes another value.
 pub(crate) fn put_in_place(
     map: &mut NEIndexMap<u32, u32>,
     k: u32,
@@ -83,7 +84,7 @@ pub(crate) fn put_in_place(
     Ok(old.is_some())
 }
 
-/// The old value comes back, and the number of keys tells whether the key was new.
+/// The old value is returned, and the number of keys shows whether the key was new.
 pub(crate) fn put_twice(alloc: Global, k: u32) -> Result<(Option<u32>, usize), AllocError>
     ensures { IfOk result (λ r. (r.0 ≡ Some 1) × (r.1 ≡ 1)) }
 {
@@ -100,14 +101,14 @@ pub(crate) fn how_many(map: &NEIndexMap<u32, u32>) -> usize
     map.len().get()
 }
 
-/// Whether a key is there: exactly if it has a value.
+/// Whether a key is there: if and only if it has a value.
 pub(crate) fn has(map: &NEIndexMap<u32, u32>, k: u32) -> bool
     ensures { result ≡ false → get nat_eq map.now k ≡ None }
 {
     map.contains_key(&k)
 }
 
-/// The value of a key is written by what `get_mut` lends.
+/// The value of a key is changed through what `get_mut` returns.
 pub(crate) fn write(map: &mut NEIndexMap<u32, u32>, k: u32, v: u32) -> bool
     ensures written { IsTrue result → get nat_eq map.new k ≡ Some v }
     ensures places { keys map.new ≡ keys map.old }
@@ -122,7 +123,7 @@ pub(crate) fn write(map: &mut NEIndexMap<u32, u32>, k: u32, v: u32) -> bool
     }
 }
 
-/// The values at both ends: there always are two places, if only one pair.
+/// The values at both ends, which always exist, even if there is only one pair.
 pub(crate) fn ends(map: &NEIndexMap<u32, u32>) -> (u32, u32)
     ensures first { slice_get (values map.now) 0 ≡ Some result.0 }
     ensures last { slice_get (values map.now) (index_map_len map.now - 1) ≡ Some result.1 }
@@ -132,7 +133,7 @@ pub(crate) fn ends(map: &NEIndexMap<u32, u32>) -> (u32, u32)
     (*first, *last)
 }
 
-/// The value of a key, by its place.
+/// The value of a key, by its index.
 pub(crate) fn at_its_place(map: &NEIndexMap<u32, u32>, k: u32) -> Option<u32>
     ensures { result ≡ get nat_eq map.now k }
 {
@@ -142,7 +143,7 @@ pub(crate) fn at_its_place(map: &NEIndexMap<u32, u32>, k: u32) -> Option<u32>
     }
 }
 
-/// The last pair moved to the front, the first to the end.
+/// The last pair is moved to the front, and the first to the end.
 pub(crate) fn ends_exchanged(map: &mut NEIndexMap<u32, u32>)
     ensures { map.new.entries ≡ swap map.old.entries 0 (index_map_len map.old - 1) }
 {
@@ -178,7 +179,7 @@ pub(crate) fn pairs(alloc: Global, m: NEIndexMap<u32, u32>) -> Result<NEVec<(u32
     m.into_nonempty_iter().collect(alloc)
 }
 
-/// A chain over the pairs by reference.
+/// A chain of adapters over the pairs by reference.
 pub(crate) fn keys_by_pairs(
     alloc: Global,
     m: &NEIndexMap<u32, u32>,
@@ -222,7 +223,7 @@ pub(crate) fn extended(
     map.extend(more)
 }
 
-/// A map, and what is left of it as the crate `indexmap`'s: the same, with its hasher.
+/// A map, converted into the crate `indexmap`'s map: the same map with the same hasher.
 pub(crate) fn there_and_back<S: BuildHasher + Drop>(
     m: NEIndexMap<u32, u32, S>,
 ) -> NEIndexMap<u32, u32, S>

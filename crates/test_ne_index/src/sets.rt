@@ -1,4 +1,4 @@
-//! Sets: what is in one, what was put in, two of them together, and their walks.
+//! Sets: what is in one, what was inserted, two of them together, and their iterators.
 ghost use Rattle.std.specs.Prelude.{◌≡◌, ◌<◌, ◌↔◌, ◌++◌, ◌/◌, [], ◌∷◌, true, false, map, nat_eq};
 ghost use Rattle.std.specs.Prelude.{IfOk, IsTrue, OnOk};
 ghost use Rattle.indexmap.specs.IndexSet.{contains, difference, get, hasher_of, index_set_len};
@@ -19,7 +19,7 @@ pub(crate) fn written_out(alloc: Global) -> Result<NEIndexSet<u32>, AllocError>
     neis![alloc; 2, 1, 2]
 }
 
-/// The set of two items, with any hasher: it keeps it.
+/// The set of two items, with any hasher: it keeps the hasher.
 pub(crate) fn hashed_by<S: BuildHasher + Drop>(
     alloc: Global,
     hasher: S,
@@ -32,7 +32,7 @@ pub(crate) fn hashed_by<S: BuildHasher + Drop>(
     Ok(set)
 }
 
-/// What was put in is there.
+/// An item that was inserted is there.
 pub(crate) fn put_and_look_up(set: &mut NEIndexSet<u32>, x: u32) -> Result<bool, AllocError>
     ensures { IfOk result (λ found. found ≡ true) }
 {
@@ -40,7 +40,7 @@ pub(crate) fn put_and_look_up(set: &mut NEIndexSet<u32>, x: u32) -> Result<bool,
     Ok(set.contains(&x))
 }
 
-/// Putting an item in a second time adds nothing.
+/// Inserting an item a second time adds nothing.
 pub(crate) fn put_twice(set: &mut NEIndexSet<u32>, x: u32) -> Result<bool, AllocError>
     ensures { IfOk result (λ added. added ≡ false) }
 {
@@ -48,14 +48,14 @@ pub(crate) fn put_twice(set: &mut NEIndexSet<u32>, x: u32) -> Result<bool, Alloc
     set.insert(x)
 }
 
-/// A new item stands last.
+/// A new item is the last one.
 pub(crate) fn put_last(set: &mut NEIndexSet<u32>, x: u32) -> Result<bool, AllocError>
     ensures { IfOk result (λ added. IsTrue added → set.new.keys ≡ set.old.keys ++ x ∷ []) }
 {
     set.insert(x)
 }
 
-/// What is replaced by an equal item comes back, and the item is there.
+/// What is replaced by an equal item is returned, and the item is there.
 pub(crate) fn replaced(set: &mut NEIndexSet<u32>, x: u32) -> Result<Option<u32>, AllocError>
     ensures old { IfOk result (λ old. old ≡ get nat_eq set.old x) }
     ensures found { OnOk result (contains nat_eq set.new x ≡ true) }
@@ -79,7 +79,7 @@ pub(crate) fn items_of_a_set(alloc: Global, set: &NEIndexSet<u32>) -> Result<NEV
     set.nonempty_iter().copied().collect(alloc)
 }
 
-/// The items of a set that is handed over.
+/// The items of a set that is passed by value.
 pub(crate) fn items_by_value(alloc: Global, set: NEIndexSet<u32>) -> Result<NEVec<u32>, AllocError>
     ensures { IfOk result (λ v. v ≡ set.keys) }
 {
@@ -108,7 +108,7 @@ pub(crate) fn shared(
     a.intersection(b).copied().collect(alloc)
 }
 
-/// The items that are in the first set alone.
+/// The items that are only in the first set.
 pub(crate) fn left_over(
     alloc: Global,
     a: &NEIndexSet<u32>,
@@ -147,7 +147,7 @@ pub(crate) fn same(a: &NEIndexSet<u32>, b: &NEIndexSet<u32>) -> bool
     *a == *b
 }
 
-/// What is collected into a set: each item once, in the order in which they come first.
+/// What is collected into a set: each item once, in the order in which they first appear.
 pub(crate) fn distinct_halves(
     alloc: Global,
     items: NEVec<u32>,
@@ -165,7 +165,7 @@ pub(crate) fn extended(set: &mut NEIndexSet<u32>, more: NEVec<u32>) -> Result<()
     set.extend(more)
 }
 
-/// A set, and what is left of it as the crate `indexmap`'s: the same, with its hasher.
+/// A set, converted into the crate `indexmap`'s set: the same set with the same hasher.
 pub(crate) fn there_and_back<S: BuildHasher + Drop>(set: NEIndexSet<u32, S>) -> NEIndexSet<u32, S>
     ensures { result ≡ set }
 {

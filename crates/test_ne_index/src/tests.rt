@@ -1,5 +1,5 @@
-//! Hashers of one's own, what is dropped, and some rows. The calls with what they answer are lines
-//! of the stored run of `test_replay_keyed`.
+//! The tests' own hashers, what is dropped, and some rows. The calls and their results are lines of
+//! the stored run of `test_replay_keyed`.
 
 mod drops;
 mod hashers;
@@ -10,7 +10,7 @@ use std::fmt::Debug;
 use std::hash::BuildHasher;
 use std::test::Fail;
 
-// Fails if the two values differ, and says what both are.
+// Fails with both values if they differ.
 fn is<T: PartialEq + Debug + Drop>(given: T, wanted: T) -> Result<(), Fail> {
     if given == wanted {
         Ok(())
@@ -19,7 +19,7 @@ fn is<T: PartialEq + Debug + Drop>(given: T, wanted: T) -> Result<(), Fail> {
     }
 }
 
-// Exchanges the pairs at two places, and fails if one of them is not there.
+// Swaps the pairs at two indices, and fails if one of them is out of range.
 fn exchange<V: Drop, S: BuildHasher + Drop>(
     map: &mut NEIndexMap<u32, V, S>,
     a: usize,

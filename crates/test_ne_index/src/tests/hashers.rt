@@ -1,4 +1,4 @@
-//! Maps and sets over a hasher of one's own, which is told from others by its number.
+//! Maps and sets with a hasher of the tests' own, which is told apart from others by its number.
 
 use super::{exchange, is};
 use indexmap::{IndexMap, IndexSet};

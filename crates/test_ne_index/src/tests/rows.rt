@@ -1,5 +1,5 @@
-//! What the stored run cannot show: the macro's long name, texts as keys, and pairs that are parted
-//! into two sets.
+//! What the stored run cannot show: the macro's long name, texts as keys, and pairs that are
+//! unzipped into two sets.
 
 use super::is;
 use nonempty_collections::{
