@@ -1,8 +1,8 @@
-//! Each method of a source, each source, and what is counted: calls of closures, and draws of a
+//! Each method of a source, each source, and what is counted: calls of closures, and draws from a
 //! source.
 //!
-//! Most methods are called behind a bound, in a function that knows of its source the trait alone;
-//! the tests are worked rows of it.
+//! Most methods are called in a function with a bound, which knows only the trait of its source.
+//! The tests are worked rows of these functions.
 
 mod adapters;
 mod clones;
@@ -39,7 +39,7 @@ pub(crate) fn list<T: Clone + Drop>(alloc: Global, items: &[T]) -> Result<NEVec<
     Ok(NEVec::try_from_slice(alloc, items)?.ok_or("no items")?)
 }
 
-// Fails if the two values differ, and says what both are.
+// Fails with both values if they differ.
 pub(crate) fn is<T: PartialEq + Debug + Drop>(given: T, wanted: T) -> Result<(), Fail> {
     if given == wanted {
         Ok(())
@@ -48,12 +48,12 @@ pub(crate) fn is<T: PartialEq + Debug + Drop>(given: T, wanted: T) -> Result<(),
     }
 }
 
-// The same of two lists.
+// Fails with both lists if they differ.
 pub(crate) fn same<T: PartialEq + Debug>(given: &[T], wanted: &[T]) -> Result<(), Fail> {
     is(given, wanted)
 }
 
-// Fails if the source's items, collected, are others.
+// Fails if the items of the source, collected, are not these.
 pub(crate) fn gives<T: PartialEq + Debug + Drop, S: NonEmptyIterator<Item = T>>(
     alloc: Global,
     s: S,
@@ -65,7 +65,7 @@ pub(crate) fn gives<T: PartialEq + Debug + Drop, S: NonEmptyIterator<Item = T>>(
     same(all.as_slice(), wanted)
 }
 
-// The same of what may be empty.
+// Fails if the items of the iterator, which may be empty, are not these.
 pub(crate) fn yields<T: PartialEq + Debug + Drop, I: IntoIterator<Item = T>>(
     alloc: Global,
     items: I,

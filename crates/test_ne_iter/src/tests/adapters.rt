@@ -1,4 +1,5 @@
-//! The adapters, each over any source: a helper adapts the source, and compares what comes out.
+//! The adapters, each over any source. A helper adapts the source, and the test compares what it
+//! gives.
 ghost use Rattle.std.specs.Prelude.{◌^◌, ◌<◌};
 ghost use Rattle.std.specs.Iterator.{IsFiniteIterable, size};
 
@@ -68,7 +69,7 @@ pub(super) fn chained<S: NonEmptyIterator<Item = u32>, O: IntoIterator<Item = u3
     gives(alloc, s.chain(other), wanted)
 }
 
-// Each item, and behind it its product with the factor.
+// Each item, followed by its product with the factor.
 pub(super) fn multiplied<S: NonEmptyIterator<Item = u32>>(
     alloc: Global,
     s: S,
@@ -125,7 +126,7 @@ fn of_one_source(rt: HostRuntime) -> Result<(), Fail> {
     )
 }
 
-// The sums of the pairs that are zipped are 5, 7 and 9.
+// The sums of the zipped pairs are 5, 7 and 9.
 #[test]
 fn of_two_sources(rt: HostRuntime) -> Result<(), Fail> {
     let alloc = rt.alloc();

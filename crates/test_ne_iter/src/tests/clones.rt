@@ -1,4 +1,4 @@
-//! A clone that is refused.
+//! A clone that fails.
 
 use super::{is, yields};
 use nonempty_collections::{IntoNonEmptyIterator, NonEmptyIterator};
@@ -6,7 +6,7 @@ use std::alloc::AllocError;
 use std::cell::Cell;
 use std::test::Fail;
 
-// A number that counts its clones, of which the second is refused.
+// A number that counts its clones, of which the second fails.
 #[derive(Drop)]
 pub(super) struct Number<'a> {
     pub(super) value: u32,
@@ -30,7 +30,7 @@ pub(super) fn numbered<'a>(value: u32, clones: &'a Cell<u32>) -> Number<'a> {
     Number { value, clones }
 }
 
-// The refusal stands in its place, and the walk goes on behind it.
+// The failed clone is an `Err` in its place, and the iterator continues after it.
 #[test]
 fn second_refused(rt: HostRuntime) -> Result<(), Fail> {
     let clones = Cell::new(0u32);

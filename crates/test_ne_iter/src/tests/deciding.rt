@@ -1,4 +1,4 @@
-//! The methods that answer an item, or whether there is one.
+//! The methods that return an item, or whether there is one.
 ghost use Rattle.std.specs.Iterator.{IsFiniteIterable};
 
 use super::is;

@@ -1,4 +1,4 @@
-//! How often a source is drawn: no method draws an item beyond the one that decides.
+//! How often a source is drawn from: no method draws an item after the one that decides.
 ghost use Rattle.std.specs.Prelude.{◌≡◌, ◌<◌, IfNone};
 ghost use Rattle.std.specs.Iterator.{at_most};
 ghost use Rattle.std.proofs.Common.{arith};
@@ -8,7 +8,7 @@ use nonempty_collections::{IntoIteratorExt, NonEmptyIterator};
 use std::cell::Cell;
 use std::test::Fail;
 
-// The numbers from `first` down to 1, of which each draw is counted.
+// The numbers from `first` down to 1. Each draw is counted.
 #[derive(Drop)]
 pub(super) struct Countdown<'a> {
     first: u32,
@@ -95,7 +95,7 @@ fn taken(rt: HostRuntime) -> Result<(), Fail> {
     is(draws.get(), 2)
 }
 
-// What looks ahead draws one item, and gives it.
+// Adapters that look ahead draw one item, and give it later.
 #[test]
 fn looked_at(rt: HostRuntime) -> Result<(), Fail> {
     let draws = Cell::new(0u32);
@@ -106,7 +106,7 @@ fn looked_at(rt: HostRuntime) -> Result<(), Fail> {
     is((source.next().0, draws.take()), (3, 1))
 }
 
-// An adapter draws nothing before it is asked, and then no more than it has to.
+// An adapter draws nothing before it is called, and then no more than it has to.
 #[test]
 fn adapted(rt: HostRuntime) -> Result<(), Fail> {
     let draws = Cell::new(0u32);

@@ -1,4 +1,4 @@
-//! The extremes, which of several equal items is answered, and sorting.
+//! The extremes, which of several equal items is returned, and sorting.
 ghost use Rattle.std.specs.Iterator.{IsFiniteIterable};
 
 use super::{is, same};
@@ -9,7 +9,7 @@ use std::cmp::Ordering;
 use std::convert::AsSlice;
 use std::test::Fail;
 
-// A number with a mark that no comparison reads.
+// A number with a mark that comparisons ignore.
 #[derive(Drop)]
 #[derive_where(PartialEq, Eq, PartialOrd, Ord)]
 struct Marked {
@@ -18,7 +18,7 @@ struct Marked {
     mark: char,
 }
 
-// Two that are equal but for their marks.
+// Two numbers that are equal but for their marks.
 fn twins() -> [Marked; 2] {
     let (a, b) = ('a', 'b');
     [Marked { number: 5, mark: a }, Marked { number: 5, mark: b }]
@@ -36,7 +36,7 @@ pub(super) fn least<T: Ord + Drop, S: NonEmptyIterator<Item = T>>(s: S) -> T
     s.min()
 }
 
-// The same, by a closure.
+// The greatest item, by a closure.
 pub(super) fn greatest_by<T: Ord + Drop, S: NonEmptyIterator<Item = T>>(s: S) -> T
     requires { IsFiniteIterable S.into_iter_gives S.IntoIter.can_next S.IntoIter.remaining s }
 {
@@ -79,7 +79,7 @@ fn of_numbers(rt: HostRuntime) -> Result<(), Fail> {
     is(least_by([1i32, -2, 33, 4].into_nonempty_iter()), -2)
 }
 
-// Of two that are equal each answers the first.
+// Of two equal items, each method returns the first.
 #[test]
 fn max_of_equal_ones(_rt: HostRuntime) -> Result<(), Fail> {
     is(greatest(twins().into_nonempty_iter()).mark, 'a')
@@ -108,7 +108,7 @@ fn of_words(rt: HostRuntime) -> Result<(), Fail> {
     is(shortest(words.into_nonempty_iter()), "hi")
 }
 
-// A comparison that is no order still answers an item.
+// With a comparison that is not an order, an item is still returned.
 #[test]
 fn always_less(rt: HostRuntime) -> Result<(), Fail> {
     let three = [1u32, 2, 3].into_nonempty_iter();
@@ -116,7 +116,7 @@ fn always_less(rt: HostRuntime) -> Result<(), Fail> {
     is(1 <= some && some <= 3, true)
 }
 
-// The comparison is called with the best item so far and the next one, in this order: `asked` holds
+// The comparison is called with the best item so far and the next one, in this order. `asked` holds
 // its last call.
 #[test]
 fn best_so_far_in_front(rt: HostRuntime) -> Result<(), Fail> {

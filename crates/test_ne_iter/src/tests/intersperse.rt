@@ -1,5 +1,5 @@
-//! A separator between the items: rows, a clone of it that is refused, and when the source is
-//! drawn.
+//! A separator between the items: rows, a clone of it that fails, and when the source is drawn
+//! from.
 ghost use Rattle.std.specs.Iterator.{IsFiniteIterable};
 
 use super::clones::numbered;
@@ -39,8 +39,8 @@ fn of_answers(rt: HostRuntime) -> Result<(), Fail> {
     separated(rt.alloc(), halves, &[Ok(2), Ok(0), Ok(3)])
 }
 
-// The first clone is made, the second refused. Each separator is one clone, and none is made behind
-// the refusal.
+// The first clone is made, and the second fails. Each separator is one clone, and none is made
+// after the failure.
 #[test]
 fn second_refused(rt: HostRuntime) -> Result<(), Fail> {
     let clones = Cell::new(0u32);
@@ -62,7 +62,8 @@ fn second_refused(rt: HostRuntime) -> Result<(), Fail> {
     is((items.next(), clones.get()), (None, 2))
 }
 
-// An item is drawn ahead of its separator. After the end the source is asked at each call.
+// An item is drawn before its separator is given. After the end, each call draws from the source
+// again.
 #[test]
 fn drawn(rt: HostRuntime) -> Result<(), Fail> {
     let draws = Cell::new(0u32);

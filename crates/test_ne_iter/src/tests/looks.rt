@@ -1,4 +1,4 @@
-//! Looking at the first item: of a source, and of what may be empty.
+//! Peeking at the first item: of a source, and of an iterator that may be empty.
 ghost use Rattle.std.specs.Iterator.{IsFiniteIterable};
 
 use super::{gives, is, list, yields};
@@ -12,7 +12,7 @@ pub(super) fn peeked<S: NonEmptyIterator<Item = u32>>(s: S) -> u32
     *s.peekable().peek()
 }
 
-// What is looked at is still given.
+// An item that is peeked at is still given.
 pub(super) fn looked_at<S: NonEmptyIterator<Item = u32>>(
     alloc: Global,
     s: S,

@@ -7,7 +7,7 @@ use std::cell::Cell;
 use std::convert::AsSlice;
 use std::test::Fail;
 
-// The lists one behind another are the items wanted.
+// The lists, one after another, are the items wanted.
 fn flattened(alloc: Global, lists: NEVec<NEVec<u32>>, wanted: &[u32]) -> Result<(), Fail> {
     gives(alloc, lists.into_nonempty_iter().flatten(), wanted)
 }
@@ -64,7 +64,7 @@ fn scanned(rt: HostRuntime) -> Result<(), Fail> {
     )
 }
 
-// The closure is called once on each item that is drawn, and not again at the end.
+// The closure is called once for each item that is drawn, and not again at the end.
 #[test]
 fn calls(rt: HostRuntime) -> Result<(), Fail> {
     let calls = Cell::new(0u32);

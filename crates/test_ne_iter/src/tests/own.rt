@@ -1,7 +1,7 @@
-//! Sources of a user's own: each method on a plain one, and each of the others once.
+//! Sources of a user's own: each method on a plain one, and each of the other sources once.
 //!
-//! The items of most chains are written as the digits of one number, the first in front, so that a
-//! test holds no vector.
+//! The items of most chains are written as the digits of one number, the first item first, so that
+//! a test needs no vector.
 
 use super::totals::digits;
 use super::{adapters, deciding, extremes, gives, is, looks, of, parts, same, totals};
@@ -16,7 +16,7 @@ fn three() -> Result<Countdown, Fail> {
     Ok(Countdown::new(NonZeroU32::new(3).ok_or("0 is no start")?))
 }
 
-// A digit behind the others.
+// Adds a digit after the others.
 fn behind(total: u32, x: u32) -> u32 {
     total.wrapping_mul(10).wrapping_add(x)
 }

@@ -1,4 +1,4 @@
-//! Runs of equal keys: worked rows, and how often the key is asked and the source is drawn.
+//! Runs of equal keys: worked rows, and how often the key is called and the source is drawn from.
 ghost use Rattle.std.specs.Prelude.{◌≡◌, false, refl};
 ghost use Rattle.std.specs.Iterator.{IsFiniteIterable, CallableOnAllAt};
 
@@ -24,7 +24,7 @@ fn runs<K: PartialEq + Drop, S: NonEmptyIterator<Item = u32>, F: FnMut(&u32) -> 
     source.group_by(alloc, key).collect(alloc)?
 }
 
-// The items as the digits of one number, the first in front, with a 0 behind each run.
+// The items as the digits of one number, the first item first, with a 0 after each run.
 fn told(runs: &NEVec<NEVec<u32>>) -> u64 {
     let mut told = 0u64;
     for run in runs {
@@ -74,8 +74,8 @@ fn key_with_state(rt: HostRuntime) -> Result<(), Fail> {
     is((told(&runs), calls), (99_099_090, 5))
 }
 
-// 4 and 3 are a run, and then 2 and 1. Each item is drawn and asked for its key once, and one is
-// drawn beyond a run that it ends.
+// The runs are 4 and 3, and then 2 and 1. Each item is drawn once and its key is called once, and
+// one item is drawn after a run to find its end.
 #[test]
 fn draws_and_keys(rt: HostRuntime) -> Result<(), Fail> {
     let (draws, keys) = (Cell::new(0u32), Cell::new(0u32));

@@ -15,7 +15,7 @@ const ALL: [u8; 32] = [
     26, 27, 28, 29, 30, 31,
 ];
 
-// Fails if the source refers to other items.
+// Fails if the items that the source refers to are not these.
 fn refers_to<'a, T: Copy + PartialEq + Debug + 'a, S: NonEmptyIterator<Item = &'a T>>(
     alloc: Global,
     s: S,

@@ -16,7 +16,7 @@ pub(super) fn count<S: NonEmptyIterator<Item = u32>>(s: S) -> usize
     s.count().get()
 }
 
-// Each digit is written behind the others, so that the total tells the order.
+// Each digit is written after the others, so that the total shows the order.
 pub(super) fn digits<S: NonEmptyIterator<Item = u32>>(s: S, first: u32) -> u32
     requires { IsFiniteIterable S.into_iter_gives S.IntoIter.can_next S.IntoIter.remaining s }
 {
@@ -61,7 +61,7 @@ fn summed(rt: HostRuntime) -> Result<(), Fail> {
     is(sum::<u32, _>([1u32, 2, 3, 4].into_nonempty_iter()), 10)
 }
 
-// Of plain numbers it would have to be proved here that no product is out of range.
+// For plain numbers it would have to be proved here that no product is out of range.
 #[test]
 fn multiplied(rt: HostRuntime) -> Result<(), Fail> {
     let four = [Wrapping(1u32), Wrapping(2), Wrapping(3), Wrapping(4)];
