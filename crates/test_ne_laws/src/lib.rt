@@ -1,5 +1,5 @@
-//! Tests of `ne_laws`: the runs that are taken, and what lists of calls reply, also on a map of a
-//! user's own.
+//! Tests of `ne_laws`: the runs that are taken, and the replies to lists of calls, also on a map of
+//! a user's own.
 #![tactic(auto)]
 
 #[cfg(test)]

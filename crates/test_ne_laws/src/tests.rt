@@ -1,5 +1,5 @@
-//! Which runs are taken, how far the source is drawn and the key asked for that, and what the
-//! reader gives then; what calls on a vector and on a map reply.
+//! Which runs are taken, how often the source is drawn from and the key is called for that, and
+//! what the reader gives then; the replies to calls on a vector and on a map.
 
 mod own_maps;
 
@@ -21,7 +21,7 @@ fn bump(count: &Cell<u32>) {
     count.set(count.get().wrapping_add(1));
 }
 
-// The two are equal; else the test fails by this name.
+// Fails with this name if the two values differ.
 fn is<T: PartialEq + Drop>(given: T, wanted: T, name: &str) -> Result<(), Fail> {
     if given == wanted {
         Ok(())
@@ -30,8 +30,9 @@ fn is<T: PartialEq + Drop>(given: T, wanted: T, name: &str) -> Result<(), Fail> 
     }
 }
 
-// Takes `k` runs of the items by their tens. These are the runs, for which so many items were drawn
-// and the key was asked as often; and the reader gives `then`, or `None` if that is empty.
+// Takes `k` runs of the items by their tens, and fails unless these are the runs, `drawn` items
+// were drawn, the key was called as often, and the reader then gives `then`, or `None` if `then` is
+// empty.
 fn takes(
     alloc: Global,
     items: &[u32],
@@ -89,7 +90,7 @@ fn rows(rt: HostRuntime) -> Result<(), Fail> {
     takes(alloc, &tens, 2, &[&[10], &[20, 21]], 4, &[30])
 }
 
-// Ten thousand items, ten a run.
+// Ten thousand items, ten in each run.
 #[test]
 fn large(rt: HostRuntime) -> Result<(), Fail> {
     let alloc = rt.alloc();
@@ -112,8 +113,8 @@ fn large(rt: HostRuntime) -> Result<(), Fail> {
     )
 }
 
-// What a reply is as a number: 0 if the call was done, 1 if it was refused, 2 if no item was taken,
-// 10 more than an item that was, 100 more than a length.
+// A reply as a number: 0 if the call was made, 1 if it was refused, 2 if no item was taken, 10 more
+// than an item that was taken, 100 more than a length.
 fn code(reply: &VecReply<u32>) -> usize {
     match reply {
         VecReply::Done => 0,
@@ -124,7 +125,8 @@ fn code(reply: &VecReply<u32>) -> usize {
     }
 }
 
-// Carries out the calls on `[1]`. These are the codes of the replies, and this is what is left.
+// Makes the calls on `[1]`. Fails unless these are the codes of the replies, and this is what is
+// left.
 fn replies(
     alloc: Global,
     calls: Vec<VecCall<u32>>,
@@ -170,7 +172,7 @@ fn calls_on_a_vector(rt: HostRuntime) -> Result<(), Fail> {
     replies(alloc, calls, &[0, 0, 13, 102, 1], &[1, 2])
 }
 
-// The value prints this text.
+// Fails unless the value prints this text.
 fn prints<T: Debug>(alloc: Global, value: &T, wanted: &str) -> Result<(), Fail> {
     let text = format!(in alloc; "{value:?}")?;
     if text.as_str() == wanted {
@@ -180,7 +182,7 @@ fn prints<T: Debug>(alloc: Global, value: &T, wanted: &str) -> Result<(), Fail> 
     }
 }
 
-// Carries out no calls on `{1: 'a'}`, and then some that leave `{1: 'c', 2: 'd'}`.
+// Makes no calls on `{1: 'a'}`, and then some that leave `{1: 'c', 2: 'd'}`.
 fn replies_of_map<M: NonEmptyMap<u32, char>>(alloc: Global, m: &mut M) -> Result<(), Fail> {
     prints(alloc, &run_map(alloc, m, Vec::new(alloc))?, "[]")?;
     let calls = vec![in alloc;

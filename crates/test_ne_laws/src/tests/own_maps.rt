@@ -1,4 +1,4 @@
-//! What the calls of a list reply on a map of a user's own, and what they leave.
+//! The replies to a list of calls on a map of a user's own, and what the calls leave.
 
 use super::prints;
 use ne_laws::map_calls::{MapCall, run_map};
