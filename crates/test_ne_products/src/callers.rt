@@ -1,4 +1,4 @@
-//! Products, items that differ, and sources that are one of two.
+//! Products, distinct items, and sources that are one of two.
 ghost use Rattle.std.specs.Prelude.{◌≡◌, ◌/◌, ◌↔◌, IfOk, IsTrue, Ok, map, nat_eq};
 ghost use Rattle.std.specs.List.{IsDistinct};
 ghost use Rattle.ne_products.specs.Pairs.{cartesian_product};

@@ -1,8 +1,8 @@
 //! Callers of products and of sources that are one of two, as a user writes them.
 //!
 //! What they ensure is proved from the public contracts of the calls that they make: there is no
-//! proof file, and no law is called. The tests hold what no contract says: worked rows, printed
-//! texts, how far a source is drawn, and clones that are refused.
+//! proof file, and no law is called. The tests check what no contract says: worked rows, printed
+//! texts, how often a source is drawn from, and clones that fail.
 #![tactic(auto)]
 
 #[cfg(test)]

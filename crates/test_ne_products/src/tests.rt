@@ -1,4 +1,4 @@
-//! Worked rows, how far a source is drawn, and clones that are refused.
+//! Worked rows, how often a source is drawn from, and clones that fail.
 
 use nonempty_collections::{
     IntoNonEmptyIterator, NEEither, NEVec, NonEmptyIterator, NonEmptyItertools, nev,
@@ -8,7 +8,7 @@ use std::cell::Cell;
 use std::fmt::Debug;
 use std::test::Fail;
 
-// Fails if the two values differ, and says what both are.
+// Fails with both values if they differ.
 fn is<T: PartialEq + Debug + Drop>(given: T, wanted: T) -> Result<(), Fail> {
     if given == wanted {
         Ok(())
@@ -17,7 +17,7 @@ fn is<T: PartialEq + Debug + Drop>(given: T, wanted: T) -> Result<(), Fail> {
     }
 }
 
-// Fails if the value prints another text, in which its content stands in order.
+// Fails unless the value prints this text, in which its content is in order.
 fn prints<T: Debug>(alloc: Global, value: &T, wanted: &str) -> Result<(), Fail> {
     let text = format!(in alloc; "{value:?}")?;
     is(text.as_str(), wanted)
@@ -40,7 +40,7 @@ fn pairs_come_in_rows(rt: HostRuntime) -> Result<(), Fail> {
     prints(alloc, &pairs?, "[(0, 'c')]")
 }
 
-// Three hundred rows of three hundred pairs: pair 40 of row 7 stands at its place.
+// Three hundred rows of three hundred pairs: pair 40 of row 7 is at its index.
 #[test]
 fn large(rt: HostRuntime) -> Result<(), Fail> {
     let alloc = rt.alloc();
@@ -63,7 +63,7 @@ fn large(rt: HostRuntime) -> Result<(), Fail> {
     is(later, 300 * 300 - (7 * 300 + 41))
 }
 
-// What `all_unique` answers of the items, and how many it draws for that.
+// What `all_unique` returns for the items, and how many items it draws for that.
 fn differs(alloc: Global, items: &[u32], unique: bool, drawn: u32) -> Result<(), Fail> {
     let draws = Cell::new(0u32);
     let source = NEVec::try_from_slice(alloc, items)?.ok_or("no item")?;
@@ -100,7 +100,7 @@ fn one_of_two(rt: HostRuntime) -> Result<(), Fail> {
     prints(alloc, &seven, "Left(7)")
 }
 
-// A number whose clones are counted; the one of this number is refused.
+// A number whose clones are counted; the clone of this number fails.
 #[derive(Drop)]
 struct Number<'a> {
     value: u32,
@@ -122,8 +122,8 @@ impl<'a> Clone for Number<'a> {
     }
 }
 
-// What comes of two rows of two pairs to the end, where this clone of an item is refused, and how
-// many items of the left side are drawn for that.
+// The results of two rows of two pairs up to the end, if this clone of an item fails, and how many
+// items of the left side are drawn for that.
 fn stops(alloc: Global, refused: u32, wanted: &str, drawn: u32) -> Result<(), Fail> {
     let (clones, draws) = (Cell::new(0u32), Cell::new(0u32));
     let numbers = |value: u32| {
