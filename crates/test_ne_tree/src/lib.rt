@@ -1,7 +1,7 @@
 //! Callers of tree maps and sets, as a user writes them.
 //!
 //! What they ensure is proved from the public contracts of the calls that they make: there is no
-//! proof file, and no law is called. The tests hold what no contract says: worked rows, printed
+//! proof file, and no law is called. The tests check what no contract says: worked rows, printed
 //! texts, and what is dropped.
 #![tactic(auto)]
 

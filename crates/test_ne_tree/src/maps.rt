@@ -1,4 +1,4 @@
-//! Maps: what is in one, what was put in, and its walks collected or used up.
+//! Maps: what is in one, what was inserted, and its iterators collected or used up.
 ghost use Rattle.std.specs.Prelude.{◌≡◌, ◌+◌, ◌<◌, ◌≤◌, ◌≢◌, ◌/◌, ◌++◌, true, false, length};
 ghost use Rattle.std.specs.Prelude.{◌↔◌, map, nat_eq, All, Contains, IfOk, IsTrue};
 ghost use Rattle.std.specs.Prelude.{None, OnOk, Some};
@@ -12,7 +12,7 @@ use nonempty_collections::{IntoNonEmptyIterator, NEBTreeMap, NEVec, NonEmptyIter
 use std::alloc::{AllocError, Global};
 use std::collections::BTreeMap;
 
-/// A map that is written out: the last of two equal keys counts.
+/// A map that is written out: of two equal keys the last one's value counts.
 pub(crate) fn written_out(alloc: Global) -> Result<NEBTreeMap<u32, u32>, AllocError>
     ensures first { IfOk result (λ m. get nat_cmp m 1 ≡ Some 30) }
     ensures second { IfOk result (λ m. get nat_cmp m 2 ≡ Some 20) }
@@ -22,7 +22,7 @@ pub(crate) fn written_out(alloc: Global) -> Result<NEBTreeMap<u32, u32>, AllocEr
     nebtm![alloc; 1 => 10, 2 => 20, 1 => 30]
 }
 
-/// What was put at a key is what stands there.
+/// The value that was put at a key is the key's value.
 pub(crate) fn put_and_look_up(
     map: &mut NEBTreeMap<u32, u32>,
     k: u32,
@@ -37,7 +37,7 @@ pub(crate) fn put_and_look_up(
     }
 }
 
-/// What is put at a key leaves the others.
+/// Putting a value at a key does not change the others.
 pub(crate) fn put_beside(
     map: &mut NEBTreeMap<u32, u32>,
     k: u32,
@@ -52,7 +52,7 @@ pub(crate) fn put_beside(
     Ok(map.get(&other).copied() == before)
 }
 
-/// The old value comes back, and the number of keys tells whether the key was new.
+/// The old value is returned, and the number of keys shows whether the key was new.
 pub(crate) fn put_twice(alloc: Global, k: u32) -> Result<(Option<u32>, usize), AllocError>
     ensures { IfOk result (λ r. (r.0 ≡ Some 1) × (r.1 ≡ 1)) }
 {
@@ -69,14 +69,14 @@ pub(crate) fn how_many(map: &NEBTreeMap<u32, u32>) -> usize
     map.len().get()
 }
 
-/// Whether a key is there: exactly if it has a value.
+/// Whether a key is there: if and only if it has a value.
 pub(crate) fn has(map: &NEBTreeMap<u32, u32>, k: u32) -> bool
     ensures { result ≡ false → get nat_cmp map.now k ≡ None }
 {
     map.contains_key(&k)
 }
 
-/// The value of a key is written by what `get_mut` lends.
+/// The value of a key is changed through what `get_mut` returns.
 pub(crate) fn write(map: &mut NEBTreeMap<u32, u32>, k: u32, v: u32) -> bool
     ensures written { IsTrue result → get nat_cmp map.new k ≡ Some v }
     ensures absent { result ≡ false → map.new ≡ map.old }
@@ -142,7 +142,7 @@ pub(crate) fn pairs(alloc: Global, m: NEBTreeMap<u32, u32>) -> Result<NEVec<(u32
     m.into_nonempty_iter().collect(alloc)
 }
 
-/// A chain over the pairs by value.
+/// A chain of adapters over the pairs by value.
 pub(crate) fn sums(alloc: Global, m: NEBTreeMap<u16, u16>) -> Result<NEVec<u32>, AllocError>
     ensures { IfOk result (λ v. v ≡ map (λ p. p.0 + p.1) m.entries) }
 {
@@ -151,7 +151,7 @@ pub(crate) fn sums(alloc: Global, m: NEBTreeMap<u16, u16>) -> Result<NEVec<u32>,
         .collect(alloc)
 }
 
-/// A chain over the pairs by reference.
+/// A chain of adapters over the pairs by reference.
 pub(crate) fn keys_by_pairs(
     alloc: Global,
     m: &NEBTreeMap<u32, u32>,
@@ -161,7 +161,7 @@ pub(crate) fn keys_by_pairs(
     m.nonempty_iter().map(|(k, _v)| *k).collect(alloc)
 }
 
-/// A chain over the values.
+/// A chain of adapters over the values.
 pub(crate) fn halves(alloc: Global, m: &NEBTreeMap<u32, u32>) -> Result<NEVec<u32>, AllocError>
     ensures { IfOk result (λ v. v ≡ map (λ x. x / 2) (values m.now)) }
 {
@@ -202,7 +202,7 @@ pub(crate) fn extended(
     map.extend(more)
 }
 
-/// A map, and what is left of it as std's: the same.
+/// A map, converted into std's map: the same map.
 pub(crate) fn there_and_back(alloc: Global, m: NEBTreeMap<u32, u32>) -> NEBTreeMap<u32, u32>
     ensures { result ≡ m }
 {

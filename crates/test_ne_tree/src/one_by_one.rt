@@ -1,11 +1,11 @@
-//! Maps and sets that are made of one item, and then take another.
+//! Maps and sets that are made from one item, and then take another.
 ghost use Rattle.std.specs.Prelude.{[], ◌∷◌, nat_eq, IfOk};
 ghost use Rattle.ne_iter.specs.Collected.{IsMapOf, IsSetOf};
 
 use nonempty_collections::{NEBTreeMap, NEBTreeSet, Singleton};
 use std::alloc::{AllocError, Global};
 
-/// What two items make, in whatever is made of one.
+/// What two items make, in any collection that is made from one item.
 pub(crate) fn two<C: Singleton + Drop>(
     alloc: Global,
     a: C::Item,

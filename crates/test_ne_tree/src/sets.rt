@@ -1,4 +1,4 @@
-//! Sets: what is in one, what was put in, two of them together, and their walks.
+//! Sets: what is in one, what was inserted, two of them together, and their iterators.
 ghost use Rattle.std.specs.Prelude.{◌≡◌, ◌<◌, ◌≤◌, ◌↔◌, ◌++◌, ◌/◌, true, false, map, nat_eq};
 ghost use Rattle.std.specs.Prelude.{All, Contains, IfOk, IsTrue, OnOk};
 ghost use Rattle.std.specs.BTreeSet.{btree_set_len, contains, difference, get, intersection, union};
@@ -20,7 +20,7 @@ pub(crate) fn written_out(alloc: Global) -> Result<NEBTreeSet<u32>, AllocError>
     nebts![alloc; 2, 1, 2]
 }
 
-/// What was put in is there.
+/// An item that was inserted is there.
 pub(crate) fn put_and_look_up(set: &mut NEBTreeSet<u32>, x: u32) -> Result<bool, AllocError>
     ensures { IfOk result (λ found. found ≡ true) }
 {
@@ -28,7 +28,7 @@ pub(crate) fn put_and_look_up(set: &mut NEBTreeSet<u32>, x: u32) -> Result<bool,
     Ok(set.contains(&x))
 }
 
-/// Putting an item in a second time adds nothing.
+/// Inserting an item a second time adds nothing.
 pub(crate) fn put_twice(set: &mut NEBTreeSet<u32>, x: u32) -> Result<bool, AllocError>
     ensures { IfOk result (λ added. added ≡ false) }
 {
@@ -36,7 +36,7 @@ pub(crate) fn put_twice(set: &mut NEBTreeSet<u32>, x: u32) -> Result<bool, Alloc
     set.insert(x)
 }
 
-/// What is replaced by an equal item comes back, and the item is there.
+/// What is replaced by an equal item is returned, and the item is there.
 pub(crate) fn replaced(set: &mut NEBTreeSet<u32>, x: u32) -> Result<Option<u32>, AllocError>
     ensures old { IfOk result (λ old. old ≡ get nat_cmp set.old x) }
     ensures found { OnOk result (contains nat_cmp set.new x ≡ true) }
@@ -60,7 +60,7 @@ pub(crate) fn items_of_a_set(alloc: Global, set: &NEBTreeSet<u32>) -> Result<NEV
     set.nonempty_iter().copied().collect(alloc)
 }
 
-/// The items of a set that is handed over.
+/// The items of a set that is passed by value.
 pub(crate) fn items_by_value(alloc: Global, set: NEBTreeSet<u32>) -> Result<NEVec<u32>, AllocError>
     ensures { IfOk result (λ v. v ≡ set.keys) }
 {
@@ -108,7 +108,7 @@ pub(crate) fn shared(
     a.intersection(b).copied().collect(alloc)
 }
 
-/// The items that are in the first set alone.
+/// The items that are only in the first set.
 pub(crate) fn left_over(
     alloc: Global,
     a: &NEBTreeSet<u32>,
@@ -164,7 +164,7 @@ pub(crate) fn extended(set: &mut NEBTreeSet<u32>, more: NEVec<u32>) -> Result<()
     set.extend(more)
 }
 
-/// A set, and what is left of it as std's: the same.
+/// A set, converted into std's set: the same set.
 pub(crate) fn there_and_back(set: NEBTreeSet<u32>) -> NEBTreeSet<u32>
     ensures { result ≡ set }
 {

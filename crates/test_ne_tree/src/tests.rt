@@ -1,6 +1,6 @@
 //! What is dropped, by tokens that count their owners, and which of several equal values is the
-//! greatest. Two owners of a token are equal. The calls with what they answer are lines of the
-//! stored run of `test_replay_keyed`.
+//! greatest. Two owners of a token are equal. The calls and their results are lines of the stored
+//! run of `test_replay_keyed`.
 
 mod equality;
 mod rows;
@@ -11,7 +11,7 @@ use std::fmt::Debug;
 use std::rc::Rc;
 use std::test::Fail;
 
-// Fails if the two values differ, and says what both are.
+// Fails with both values if they differ.
 fn is<T: PartialEq + Debug + Drop>(given: T, wanted: T) -> Result<(), Fail> {
     if given == wanted {
         Ok(())
@@ -20,7 +20,7 @@ fn is<T: PartialEq + Debug + Drop>(given: T, wanted: T) -> Result<(), Fail> {
     }
 }
 
-// Fails if the value prints another text, in which its content stands in order.
+// Fails unless the value prints this text, in which its content is in order.
 fn prints<T: Debug>(alloc: Global, value: &T, wanted: &str) -> Result<(), Fail> {
     let text = format!(in alloc; "{value:?}")?;
     is(text.as_str(), wanted)

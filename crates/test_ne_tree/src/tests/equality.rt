@@ -1,4 +1,5 @@
-//! Equality of sets by one walk over both, beside a body by counts, on all pairs of small sets.
+//! Equality of sets by one iteration over both, compared with a body that counts, on all pairs of
+//! small sets.
 
 use super::is;
 use nonempty_collections::{NEBTreeSet, NonEmptyIterator, nebts};
@@ -6,7 +7,7 @@ use std::alloc::{AllocError, Global};
 use std::cmp::Reverse;
 use std::test::Fail;
 
-// Whether two sets are the same: as many items, and as many in common.
+// Returns whether two sets are the same: they have as many items, and as many in common.
 fn equal_by_counts<T: Ord>(a: &NEBTreeSet<T>, b: &NEBTreeSet<T>) -> bool {
     let len = a.len().get();
     len == b.len().get() && a.intersection(b).count() == len

@@ -1,4 +1,4 @@
-//! What the stored run cannot show: a chain that is collected into a map, pairs that are parted
+//! What the stored run cannot show: a chain that is collected into a map, pairs that are unzipped
 //! into two sets, and a map within a map.
 
 use super::{is, prints};
