@@ -1,4 +1,4 @@
-//! Callers whose closures may be called at the items of a list, and not at every value.
+//! Callers whose closures can be called with the items of a list, but not with every value.
 ghost use Rattle.std.specs.Prelude.{◌<◌, ◌≤◌, All, length};
 ghost use Rattle.std.specs.List.Sorted.{IsSearchInRange};
 
@@ -6,7 +6,7 @@ use ne_vec::NEVec;
 use ne_vec::laws::always_callable_is_callable_at_items;
 use std::cmp::Ordering;
 
-// A quotient by each item.
+// A quotient for each item.
 pub(crate) fn large_quotients(v: &NEVec<u32>, n: u32) -> usize
     requires { All (λ x. 0 < x) v.now }
     ensures { result ≤ length v.now }
@@ -21,7 +21,7 @@ pub(crate) fn place_of_quotient(v: &NEVec<u32>, wanted: u32) -> Result<usize, us
     v.binary_search_by_key(&wanted, |x| 1000 / *x)
 }
 
-// A closure that counts its calls, too.
+// A closure that also counts its calls.
 pub(crate) fn place_and_calls(v: &NEVec<u32>, wanted: u32) -> (Result<usize, usize>, u32)
     requires { All (λ x. 0 < x) v.now }
     ensures { IsSearchInRange result.0 (length v.now) }
@@ -34,7 +34,7 @@ pub(crate) fn place_and_calls(v: &NEVec<u32>, wanted: u32) -> (Result<usize, usi
     (place, calls)
 }
 
-// A closure of the user's, which counts what it is asked.
+// A closure of the user's, which counts its calls.
 pub(crate) struct Asked {
     times: u32,
 }
@@ -58,7 +58,7 @@ pub(crate) fn small_quarters(v: &NEVec<u32>, asked: &mut Asked) -> usize
     v.partition_point(|x| asked.quarter(*x) < 5)
 }
 
-// And generic code, by the law.
+// Generic code, by the law.
 pub(crate) fn place<T, F: FnMut(&T) -> Ordering>(v: &NEVec<T>, f: F) -> Result<usize, usize>
     requires { F.IsAlwaysCallable f }
     ensures { IsSearchInRange result (length v.now) }

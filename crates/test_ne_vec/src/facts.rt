@@ -1,4 +1,4 @@
-//! What a caller knows of a vector or a slice that it has by reference: that there is an item.
+//! What a caller knows about a vector or a slice that it has by reference: that there is an item.
 ghost use Rattle.std.specs.Prelude.{◌≡◌, ◌+◌, ◌-◌, ◌/◌, ◌<◌, [], ◌∷◌, true, length, slice_get};
 ghost use Rattle.std.specs.Prelude.{IsSomeAnd, IfOk, IsOkAnd, Some};
 
@@ -6,7 +6,7 @@ use ne_vec::{Error, NESlice, NEVec};
 use std::alloc::{AllocError, Global};
 use std::convert::AsSlice;
 
-// By the slice, whose `first` may be `None` for another list.
+// By the slice, whose `first` may return `None` for other lists.
 pub(crate) fn first_of_slice(v: &NEVec<u32>) -> u32
     ensures { slice_get v.now 0 ≡ Some result }
 {
@@ -35,7 +35,7 @@ pub(crate) fn first_of_vec(v: &NEVec<u32>) -> u32
     }
 }
 
-// By the other calls of the slice, and by the walks.
+// By the other methods of the slice, and by the iterators.
 pub(crate) fn ends_of_slice(v: &NEVec<u32>) -> (u32, u32)
     ensures first { slice_get v.now 0 ≡ Some result.0 }
     ensures last { slice_get v.now (length v.now - 1) ≡ Some result.1 }
@@ -84,7 +84,7 @@ pub(crate) fn share_by_slice(v: &NEVec<u32>, total: usize) -> usize
     total / v.as_slice().len()
 }
 
-// By place, with no condition of its own.
+// By index, with no condition of its own.
 pub(crate) fn at_zero<T: Copy>(v: &NEVec<T>) -> T
     ensures { slice_get v.now 0 ≡ Some result }
 {
@@ -130,7 +130,7 @@ pub(crate) fn got_mut(v: &mut NEVec<u32>) -> bool
     v.get_mut(0).is_some()
 }
 
-// By the other places, which the length bounds.
+// By the other indices, which the length bounds.
 pub(crate) fn last_by_place(v: &NEVec<u32>) -> u32
     ensures { slice_get v.now (length v.now - 1) ≡ Some result }
 {
@@ -149,7 +149,7 @@ pub(crate) fn at_or_zero(v: &NEVec<u32>, i: usize) -> u32
     if i < v.len().get() { v[i] } else { 0 }
 }
 
-// Each place in turn.
+// Each index in turn.
 pub(crate) fn sum(v: &NEVec<u32>) -> u32 {
     let mut sum = v[0];
     for i in 1..v.len().get() {
@@ -236,7 +236,7 @@ pub(crate) fn first_and_rest(v: &NEVec<u32>) -> (u32, usize)
     (*first, rest.len())
 }
 
-// Out of the type and back: the same items.
+// Converted into a plain vector and back: the same items.
 pub(crate) fn out_and_back<T>(v: NEVec<T>) -> Option<NEVec<T>>
     ensures { IsSomeAnd result (λ w. w ≡ v) }
 {
@@ -274,7 +274,7 @@ pub(crate) fn pair(alloc: Global) -> Result<Option<NEVec<u32>>, AllocError>
     NEVec::try_from_slice(alloc, &[1, 2])
 }
 
-// Of a vector that the caller knows to have an item.
+// From a vector that the caller knows to have an item.
 pub(crate) fn of_vec(vec: Vec<u32>) -> Option<NEVec<u32>>
     requires { 0 < length vec.items }
     ensures { IsSomeAnd result (λ w. w ≡ vec.items) }

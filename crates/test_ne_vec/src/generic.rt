@@ -1,4 +1,4 @@
-//! Callers that use a vector where generic code asks for std's `Clone` and `Extend`.
+//! Callers that use a vector in generic code that requires std's `Clone` and `Extend`.
 ghost use Rattle.std.specs.Prelude.{◌≡◌, [], ◌∷◌, ◌++◌, replicate, IfOk};
 ghost use Rattle.std.specs.Iterator.{IsFinite, IsFiniteIterable, HoldsAlong, ExtendsWithItems};
 ghost use Rattle.std.specs.List.{AllZip};
@@ -15,7 +15,7 @@ pub(crate) fn clone_nested(v: &NEVec<NEVec<u32>>) -> Result<NEVec<NEVec<u32>>, A
     v.clone()
 }
 
-// By the trait.
+// Cloned by the trait.
 pub(crate) fn twice<T: Clone>(x: T) -> Result<(T, T), AllocError>
     ensures { IfOk result (λ pair. (pair.0 ≡ x) × T.is_clone x pair.1) }
 {
@@ -42,7 +42,7 @@ pub(crate) fn clone_report(report: &Report) -> Result<Report, AllocError>
     report.clone()
 }
 
-// And a generic one.
+// A generic struct of the user's.
 #[derive(Clone, Drop)]
 pub(crate) struct Pages<T> {
     pub(crate) first: NEVec<T>,
@@ -56,7 +56,7 @@ pub(crate) fn clone_first<T: Clone>(pages: &Pages<T>) -> Result<NEVec<T>, AllocE
     Ok(copy.first)
 }
 
-// The items of any source at the end of a collection of any kind.
+// Adds the items of any source at the end of a collection of any kind.
 pub(crate) fn take_all<T, C: Extend<T>, I: IntoIterator<Item = T>>(
     to: &mut C,
     items: I,
@@ -70,7 +70,7 @@ pub(crate) fn take_all<T, C: Extend<T>, I: IntoIterator<Item = T>>(
     to.extend(items)
 }
 
-// And so at the end of a vector.
+// Adds the items of any source at the end of a vector.
 pub(crate) fn lengthened<I: IntoIterator<Item = u32>>(
     v: &mut NEVec<u32>,
     items: I,
@@ -82,7 +82,7 @@ pub(crate) fn lengthened<I: IntoIterator<Item = u32>>(
     take_all(v, items)
 }
 
-// The same vector a number of times.
+// The same vector, repeated a number of times.
 pub(crate) fn rows(
     alloc: Global,
     row: NEVec<u32>,
@@ -93,7 +93,7 @@ pub(crate) fn rows(
     NEVec::from_elem(alloc, row, count)
 }
 
-// By the macro.
+// The same vector three times, by the macro.
 pub(crate) fn three_rows(alloc: Global) -> Result<NEVec<NEVec<u32>>, AllocError>
     ensures { IfOk result (λ v. v ≡ (1 ∷ 2 ∷ []) ∷ (1 ∷ 2 ∷ []) ∷ (1 ∷ 2 ∷ []) ∷ []) }
 {

@@ -1,7 +1,7 @@
 //! Callers of the library, in a crate above it.
 //!
 //! What each of them ensures is proved from the public contracts of the calls that it makes. The
-//! tests hold what no contract says: worked rows, printed texts, and that each call succeeds where
+//! tests check what no contract says: worked rows, printed texts, and that each call succeeds if
 //! there is memory.
 #![tactic(auto)]
 

@@ -159,14 +159,14 @@ pub(crate) fn three_numbers(alloc: Global) -> Result<NEVec<u32>, AllocError>
     three(alloc, 1, 2, 3)
 }
 
-// A chain over a walk.
+// A chain of adapters over an iterator.
 pub(crate) fn halves(alloc: Global, v: &NEVec<u32>) -> Result<Vec<u32>, AllocError>
     ensures { IfOk result (λ w. w.items ≡ map (λ x. x / 2) v.now) }
 {
     v.iter().map(|x| *x / 2).collect(alloc)
 }
 
-// And over the loop's.
+// A chain of adapters over the non-empty iterator.
 pub(crate) fn halves_nonempty(alloc: Global, v: &NEVec<u32>) -> Result<Vec<u32>, AllocError>
     ensures { IfOk result (λ w. w.items ≡ map (λ x. x / 2) v.now) }
 {
@@ -214,7 +214,7 @@ pub(crate) fn first_run<'a, T, F: Fn(&T, &T) -> bool + Drop>(
     items.runs_by(same).into_iter().next().unwrap()
 }
 
-// The same, each item compared with the one before it.
+// The first run, if each item is compared with the one before it.
 pub(crate) fn first_adjacent_run<'a, T, F: Fn(&T, &T) -> bool + Drop>(
     items: &'a NESlice<'a, T>,
     same: F,
@@ -232,7 +232,7 @@ pub(crate) fn least_chunks(v: &NEVec<u32>, n: NonZeroUsize) -> usize
     v.nonempty_chunks(n).into_iter().size_hint().0
 }
 
-// Of neighbours that are equal, and may differ all the same, the first stays.
+// Of adjacent items that are equal, and may still differ, the first stays.
 pub(crate) fn drop_equal<T: PartialEq + Drop>(v: &mut NEVec<T>)
     ensures { KeepsFirsts T.eq v.old v.new }
 {

@@ -32,7 +32,7 @@ pub(crate) fn is_greater<T: PartialOrd>(a: &NEVec<T>, b: &NEVec<T>) -> bool
     a > b
 }
 
-// Where the first items tie, and need not be the same, the second ones decide.
+// If the first items compare as equal, and need not be the same, the second ones decide.
 pub(crate) fn by_second<T: Ord>(alloc: Global, a: (T, T), b: (T, T)) -> Result<Ordering, AllocError>
 where
     T: Drop,
@@ -45,14 +45,14 @@ where
     Ok(a.cmp(&b))
 }
 
-// And items that do not compare leave the vectors without an order.
+// Items that do not compare leave the vectors without an order.
 pub(crate) fn without_order<T: PartialOrd>(a: &NEVec<T>, b: &NEVec<T>) -> bool
     ensures { IsTrue result ↔ (slice_partial_cmp T.partial_cmp a.now b.now ≡ None) }
 {
     a.partial_cmp(b).is_none()
 }
 
-// The shorter of two that are alike in front is less.
+// Of two vectors of which one is the front of the other, the shorter is less.
 pub(crate) fn longer_is_greater(alloc: Global) -> Result<bool, AllocError>
     ensures { IfOk result (λ greater. greater ≡ true) }
 {

@@ -32,7 +32,7 @@ fn example_of_the_readme(rt: HostRuntime) -> Result<(), Fail> {
     is(last_job(rt.alloc(), 3, 5)?, 5)
 }
 
-// Fails if the text is another.
+// Fails if the text is not this one.
 fn reads(text: Result<String, AllocError>, wanted: &str) -> Result<(), Fail> {
     is(text?.as_str(), wanted)
 }
@@ -71,7 +71,7 @@ pub(crate) fn of(count: usize) -> Result<NonZeroUsize, Fail> {
     Ok(NonZeroUsize::new(count).ok_or("0 is no count")?)
 }
 
-// The slice, which is not empty.
+// Returns the slice as a non-empty slice, or fails.
 pub(crate) fn part<'a, T>(slice: &'a [T]) -> Result<NESlice<'a, T>, Fail>
     ensures { IfOk result (λ s. length s ≡ length slice.now) }
 {
@@ -85,14 +85,14 @@ pub(crate) fn list<T: Clone + Drop>(alloc: Global, items: &[T]) -> Result<NEVec<
     Ok(NEVec::try_from_slice(alloc, items)?.ok_or("no items")?)
 }
 
-// The same of plain numbers.
+// A vector of these numbers.
 pub(crate) fn numbers(alloc: Global, items: &[u32]) -> Result<NEVec<u32>, Fail>
     ensures { IfOk result (λ v. length v ≡ length items.now) }
 {
     list(alloc, items)
 }
 
-// Fails if the two values differ, and says what both are.
+// Fails with both values if they differ.
 pub(crate) fn is<T: PartialEq + Debug + Drop>(given: T, wanted: T) -> Result<(), Fail> {
     if given == wanted {
         Ok(())
@@ -101,22 +101,22 @@ pub(crate) fn is<T: PartialEq + Debug + Drop>(given: T, wanted: T) -> Result<(),
     }
 }
 
-// The same of two lists.
+// Fails with both lists if they differ.
 pub(crate) fn same<T: PartialEq + Debug>(given: &[T], wanted: &[T]) -> Result<(), Fail> {
     is(given, wanted)
 }
 
-// Fails if the vector's items are others.
+// Fails if the vector's items are not these.
 pub(crate) fn holds(vector: &NEVec<u32>, wanted: &[u32]) -> Result<(), Fail> {
     same(vector.as_slice(), wanted)
 }
 
-// The same of a vector for which there must be memory.
+// Fails if the vector's items are not these, or if there is no memory for it.
 pub(crate) fn made(vector: Result<NEVec<u32>, AllocError>, wanted: &[u32]) -> Result<(), Fail> {
     holds(&vector?, wanted)
 }
 
-// Fails if the parts of a slice are others than these: behind each part stands a 0.
+// Fails if the parts of a slice are not these. Each part is followed by a 0.
 pub(crate) fn shows<'a, P: IntoIterator<Item = NESlice<'a, u32>>>(
     alloc: Global,
     parts: P,

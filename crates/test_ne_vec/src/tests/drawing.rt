@@ -1,4 +1,4 @@
-//! `shuffle` and `choose`, beside what `rand` gives of the same list and source.
+//! `shuffle` and `choose`, compared with what `rand` returns for the same list and source.
 
 use super::{is, list, same};
 use ne_vec::NEVec;
@@ -10,7 +10,7 @@ use std::alloc::Global;
 use std::convert::AsSlice;
 use std::test::Fail;
 
-// Shuffles a vector by the one source, and a slice of the same items by the other.
+// Shuffles a vector with one source, and a slice of the same items with the other.
 fn shuffled(alloc: Global, ours: &mut StdRng, theirs: &mut StdRng) -> Result<NEVec<u32>, Fail> {
     let mut vector = list(alloc, &[1, 2, 3, 4])?;
     let mut plain = [1, 2, 3, 4];
@@ -20,7 +20,7 @@ fn shuffled(alloc: Global, ours: &mut StdRng, theirs: &mut StdRng) -> Result<NEV
     Ok(vector)
 }
 
-// Chooses an item of the vector by the one source, and of its slice by the other.
+// Chooses an item of the vector with one source, and an item of its slice with the other.
 fn chosen(vector: &NEVec<u32>, ours: &mut StdRng, theirs: &mut StdRng) -> Result<(), Fail> {
     is(vector.choose(ours), vector.as_slice().choose(theirs))
 }

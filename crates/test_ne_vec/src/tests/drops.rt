@@ -7,7 +7,7 @@ use std::convert::AsSlice;
 use std::rc::Rc;
 use std::test::Fail;
 
-// A token, which has this number.
+// A token with this number.
 fn token(alloc: Global, number: u32) -> Result<Rc<u32>, Fail> {
     Ok(Rc::new(alloc, number)?)
 }
@@ -17,12 +17,12 @@ fn another(token: &Rc<u32>) -> Result<Rc<u32>, Fail> {
     Ok(token.clone()?)
 }
 
-// A vector of so many owners of the token.
+// A vector of `count` owners of the token.
 fn owners(alloc: Global, token: &Rc<u32>, count: usize) -> Result<NEVec<Rc<u32>>, Fail> {
     Ok(NEVec::from_elem(alloc, another(token)?, of(count)?)?)
 }
 
-// Fails unless the token has so many owners besides the one that is asked.
+// Fails unless the token has `count` owners besides `token` itself.
 fn left(token: &Rc<u32>, count: usize) -> Result<(), Fail> {
     is(Rc::strong_count(token) - 1, count)
 }

@@ -1,4 +1,4 @@
-//! Each call that takes memory once with many items, and what keeps the memory that is there.
+//! Each call that allocates once with many items, and the calls that keep the memory that is there.
 
 use super::{is, list, of};
 use ne_vec::{NEVec, Singleton};
@@ -7,7 +7,7 @@ use std::cmp::Ordering;
 use std::convert::AsSlice;
 use std::test::Fail;
 
-// The numbers from 0 to 2,999, turned round.
+// The numbers from 0 to 2,999 in reverse.
 fn falling(alloc: Global) -> Result<NEVec<u32>, Fail> {
     let mut items = NEVec::new(alloc, 0)?;
     for item in 1..3_000 {
@@ -78,7 +78,7 @@ fn grown(rt: HostRuntime) -> Result<(), Fail> {
     is((items.len().get(), *items.last()), (4_001, 7))
 }
 
-// The items after a first one stay where they stood.
+// The items after a first one keep their memory.
 #[test]
 fn memory_of_the_tail_is_kept(rt: HostRuntime) -> Result<(), Fail> {
     let mut tail = Vec::with_capacity(rt.alloc(), 50)?;
@@ -87,7 +87,7 @@ fn memory_of_the_tail_is_kept(rt: HostRuntime) -> Result<(), Fail> {
     is((*items.last(), items.capacity().get()), (2, 50))
 }
 
-// What is kept stays where the items stood.
+// What is kept stays in the memory of the items.
 #[test]
 fn memory_is_kept(rt: HostRuntime) -> Result<(), Fail> {
     let mut items = NEVec::with_capacity(rt.alloc(), of(50)?, 1u32)?;

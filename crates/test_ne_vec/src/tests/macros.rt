@@ -15,7 +15,7 @@ fn made_by_macro(rt: HostRuntime) -> Result<(), Fail> {
     made(nev![alloc; 1; 3], &[1, 1, 1])
 }
 
-// The value, once the digit is written behind those of the expressions before it.
+// Returns the value, and writes the digit after those of the expressions before it.
 fn told<T>(order: &Cell<u32>, digit: u32, value: T) -> T
     ensures { result ≡ value }
 {
@@ -23,7 +23,7 @@ fn told<T>(order: &Cell<u32>, digit: u32, value: T) -> T
     value
 }
 
-// The allocator is the first, and how often an item is repeated the last.
+// The allocator is evaluated first, and how often an item is repeated is evaluated last.
 #[test]
 fn evaluated_from_left_to_right(rt: HostRuntime) -> Result<(), Fail> {
     let (alloc, order) = (rt.alloc(), Cell::new(0));

@@ -7,7 +7,8 @@ use std::alloc::Global;
 use std::convert::AsSlice;
 use std::test::Fail;
 
-// The runs of `runs_by`, and then those of `adjacent_runs`, are these: behind each run stands a 0.
+// Fails unless these are the runs of `runs_by`, and then those of `adjacent_runs`. Each run is
+// followed by a 0.
 fn runs<F: Fn(&u32, &u32) -> bool + Copy + Drop>(
     alloc: Global,
     items: &[u32],

@@ -20,7 +20,7 @@ fn calls(rt: HostRuntime) -> Result<(), Fail> {
     same(three.as_slice(), &items)
 }
 
-// Fails if the items of the slice's iterator are others.
+// Fails if the items of the slice's iterator are not these.
 fn gives(alloc: Global, iter: slice::Iter<'_, i32>, wanted: &[i32]) -> Result<(), Fail> {
     let items: Vec<i32> = iter.copied().collect(alloc)?;
     same(items.as_slice(), wanted)
@@ -38,7 +38,7 @@ fn walks(rt: HostRuntime) -> Result<(), Fail> {
     gives(alloc, three.into_iter(), &[1, 2, 3])
 }
 
-// The chunks of the numbers from 1 to 7 are these: behind each stands a 0.
+// Fails unless these are the chunks of the numbers from 1 to 7. Each chunk is followed by a 0.
 fn chunked(alloc: Global, size: usize, wanted: &[u32]) -> Result<(), Fail> {
     shows(
         alloc,

@@ -1,5 +1,5 @@
-//! Calls of `NEVec` with closures, walks and traits of their own. Rows of its other calls are in
-//! the stored run of `test_replay`.
+//! Methods of `NEVec` with closures, its iterators, and its traits. Rows of its other methods are
+//! in the stored run of `test_replay`.
 
 use super::{holds, is, list, numbers, of, same};
 use crate::{closures, generic, lists};
@@ -8,7 +8,7 @@ use std::alloc::Global;
 use std::convert::AsSlice;
 use std::test::Fail;
 
-// Fails if the plain vector's items are others.
+// Fails if the plain vector's items are not these.
 fn plain_holds(vector: &Vec<u32>, wanted: &[u32]) -> Result<(), Fail> {
     same(vector.as_slice(), wanted)
 }
@@ -20,7 +20,7 @@ fn made_one_by_one(rt: HostRuntime) -> Result<(), Fail> {
     holds(&two, &[1, 2])
 }
 
-// Fails if other items were kept. Where none are, the answer is the empty vector.
+// Fails if other items were kept. If none were kept, the result is the empty vector.
 fn kept(answer: Result<NEVec<u32>, Vec<u32>>, wanted: &[u32]) -> Result<(), Fail> {
     match answer {
         Ok(items) => holds(&items, wanted),
@@ -38,7 +38,7 @@ fn written_and_kept(rt: HostRuntime) -> Result<(), Fail> {
     kept(written, &[2, 3, 4])
 }
 
-// A closure with a state is asked of each item once, in order.
+// A closure with a state is called once for each item, in order.
 #[test]
 fn kept_by_turns(rt: HostRuntime) -> Result<(), Fail> {
     let mut asked = 0u32;
@@ -76,7 +76,8 @@ fn searched(rt: HostRuntime) -> Result<(), Fail> {
     is(parted.partition_point(|x| *x < 5), 4)
 }
 
-// A search of the vector, and of its slice by std, answer the same, and show the same items.
+// A search of the vector, and a search of its slice by std, return the same, and pass the same
+// items to the closure.
 fn searched_alike(v: &NEVec<u8>, wanted: u8) -> Result<(), Fail> {
     let (mut ours, mut theirs) = (0u32, 0u32);
     let place = v.binary_search_by(|x| {
@@ -135,7 +136,8 @@ fn neighbours_dropped(rt: HostRuntime) -> Result<(), Fail> {
     holds(&near, &[1, 3])
 }
 
-// Whether the later item is the kept one's successor, which tells the two arguments apart.
+// Whether the later item is the successor of the kept one, which shows the order of the two
+// arguments.
 #[test]
 fn successors_dropped(rt: HostRuntime) -> Result<(), Fail> {
     let mut four = numbers(rt.alloc(), &[1, 2, 3, 4])?;
