@@ -1,7 +1,7 @@
-//! The libraries' calls that take memory, each with every request for it refused in turn.
+//! The libraries' calls that allocate, with each of their allocations failing in turn.
 //!
-//! The tests hold whichever request of their process is refused, and hold with ample memory too.
-//! The gate runs them with the first request refused, with the second, and so on.
+//! The tests pass whichever allocation of their process fails, and also if none does. The gate runs
+//! them with the first allocation failing, with the second, and so on.
 #![tactic(auto)]
 
 #[cfg(test)]

@@ -1,7 +1,8 @@
-//! A test for each call: its answer, and what stands after it.
+//! A test for each call: its result, and what is left after it.
 //!
-//! Of each call a test prints one line, which the gate reads: `made` with the name of the call,
-//! `refused`, or `not reached` where it was what the test prepares that was refused.
+//! For each call a test prints one line, which the gate reads: `made`, `refused` or `not reached`,
+//! with the name of the call. `not reached` means that an allocation failed in what the test
+//! prepares.
 
 mod calls;
 mod changes;
@@ -32,7 +33,7 @@ fn pair(alloc: Global) -> Result<NEVec<u32>, AllocError> {
     NEVec::try_from_vec(two(alloc, 1, 2)?).ok_or(AllocError)
 }
 
-// The two items, with no room behind them.
+// The two items, with no room after them.
 fn two(alloc: Global, a: u32, b: u32) -> Result<Vec<u32>, AllocError> {
     let mut items = Vec::with_capacity(alloc, 2)?;
     items.push(a)?;
@@ -40,13 +41,13 @@ fn two(alloc: Global, a: u32, b: u32) -> Result<Vec<u32>, AllocError> {
     Ok(items)
 }
 
-// Prints what became of the call.
+// Prints the outcome of the call.
 fn tell(rt: &impl Print, outcome: &str, call: &str) -> Result<(), Fail> {
     println!(rt; "{outcome}: {call}")?;
     Ok(())
 }
 
-// Of a call that makes a vector: with memory it gives these items.
+// For a call that makes a vector: if it succeeds, the vector has these items.
 fn gives(
     rt: &(impl Abort + Print),
     call: &str,
@@ -62,7 +63,8 @@ fn gives(
     }
 }
 
-// Of a call that changes a vector: with memory `after` stands, and without it `before`.
+// For a call that changes a vector: if it succeeds, the items are `after`, and otherwise they are
+// `before`.
 fn leaves(
     rt: &(impl Abort + Print),
     call: &str,
@@ -83,7 +85,7 @@ fn leaves(
     }
 }
 
-// Fails, and names the call, unless the numbers are these.
+// Fails with the name of the call unless the numbers are these.
 fn walks<I: Iterator<Item = u32> + Drop>(call: &str, numbers: I, wanted: &[u32]) -> Result<(), Fail>
     requires { I.can_next numbers × IsFinite (I.remaining numbers) }
 {
@@ -93,7 +95,7 @@ fn walks<I: Iterator<Item = u32> + Drop>(call: &str, numbers: I, wanted: &[u32])
     Err(Fail::new(format_args!("{call}: other numbers than {wanted:?}")))
 }
 
-// Fails, and names the calls, unless they answer this.
+// Fails with the names of the calls unless they return this.
 fn answers<T: PartialEq + Drop>(calls: &str, given: T, wanted: T) -> Result<(), Fail> {
     if given == wanted {
         return Ok(());
@@ -102,8 +104,8 @@ fn answers<T: PartialEq + Drop>(calls: &str, given: T, wanted: T) -> Result<(), 
 }
 
 // Counts down to 0, and hints at more items than any memory holds. To grow, `extend` asks for the
-// room of the hint, and where that is refused for the room of one item, so that a single refusal is
-// done without. For this hint it does not ask: each growth is one request.
+// room of the hint, and if that is refused, for the room of one item, so it can do without a single
+// request. For this hint it does not ask: each growth is one request.
 #[derive(Drop)]
 struct Countdown(u32);
 

@@ -1,4 +1,4 @@
-//! Lists of calls: where memory is refused, a first part of them was carried out.
+//! Lists of calls: if an allocation fails, the calls at the front were made.
 
 use super::{pair, tell};
 use ne_laws::map_calls::{MapCall, run_map};

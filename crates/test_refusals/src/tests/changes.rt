@@ -55,8 +55,8 @@ fn append(rt: HostRuntime) -> Result<(), Fail> {
     leaves(&rt, "NEVec::append", answer, &items, &[1, 2], &[1, 2, 3, 4])
 }
 
-// The vector grows twice: without memory for the first time it takes nothing, and for the second
-// time a first part.
+// The vector grows twice. If the first growth fails it takes nothing, and if the second fails it
+// takes a first part.
 #[test]
 fn extend(rt: HostRuntime) -> Result<(), Fail> {
     let Ok(mut items) = pair(rt.alloc()) else {

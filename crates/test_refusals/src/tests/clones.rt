@@ -1,5 +1,4 @@
-//! The calls that clone. A clone takes memory of its own, so a later one can be refused when an
-//! earlier is made.
+//! The calls that clone. A clone allocates, so a later clone can fail after an earlier one is made.
 
 use super::tell;
 use nonempty_collections::{IntoNonEmptyIterator, NEVec, NonEmptyIterator};
@@ -8,7 +7,8 @@ use std::num::NonZeroUsize;
 use std::process::Abort;
 use std::test::Fail;
 
-// A number whose clones take memory, though it takes none itself: so the calls are all that asks.
+// A number whose clones allocate, although it has no memory itself: so only the calls make
+// requests.
 #[derive(Drop)]
 struct Number {
     value: u32,
@@ -40,7 +40,7 @@ fn are(items: &NEVec<Number>, values: &[u32]) -> bool {
         .eq(values.iter().copied())
 }
 
-// Of a call that makes a vector: with memory it gives these numbers.
+// For a call that makes a vector: if it succeeds, the vector has these numbers.
 fn gives(
     rt: &(impl Abort + Print),
     call: &str,
@@ -81,7 +81,7 @@ fn clone(rt: HostRuntime) -> Result<(), Fail> {
     gives(&rt, "NEVec::clone", answer, &[7])
 }
 
-// A refused clone is an `Err` in its place, and the others are there.
+// A failed clone is an `Err` in its place, and the others are there.
 #[test]
 fn cloned(rt: HostRuntime) -> Result<(), Fail> {
     let two = [fresh(rt.alloc(), 1), fresh(rt.alloc(), 2)];

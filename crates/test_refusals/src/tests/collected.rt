@@ -1,5 +1,5 @@
-//! Collecting into the standard library's types. What was taken is dropped where more memory is
-//! refused.
+//! Collecting into the standard library's types. What was taken is dropped if a later allocation
+//! fails.
 
 use super::{Countdown, tell};
 use nonempty_collections::iter::once;
@@ -92,7 +92,7 @@ fn hashed_set(rt: HostRuntime) -> Result<(), Fail> {
     tell(&rt, "made", call)
 }
 
-// Of an array, whose hint is right: the set asks for the room of the hint at once.
+// From an array, whose hint is right: the set asks for the room of the hint at once.
 #[test]
 fn tree_set(rt: HostRuntime) -> Result<(), Fail> {
     let call = "collect into BTreeSet";
@@ -108,7 +108,7 @@ fn tree_set(rt: HostRuntime) -> Result<(), Fail> {
     tell(&rt, "made", call)
 }
 
-// The values take memory of their own, and then the text that is made of them grows for each.
+// Collecting the values allocates, and then the text that is made of them grows for each.
 #[test]
 fn result(rt: HostRuntime) -> Result<(), Fail> {
     let call = "collect into Result";

@@ -1,4 +1,4 @@
-//! Items that count their owners: an item that is refused a place is dropped once, as are those
+//! Items that count their owners: an item for which there is no room is dropped once, as are those
 //! that came before it.
 
 use super::tell;
@@ -17,7 +17,7 @@ fn prepared(alloc: Global) -> Result<(Rc<u32>, NEVec<Rc<u32>>, Rc<u32>), AllocEr
     Ok((token, items, next))
 }
 
-// Fails unless the owners of the token are these items and the one that is asked.
+// Fails unless the owners of the token are these items and `token` itself.
 fn owned(
     rt: &impl Print,
     call: &str,
@@ -61,7 +61,8 @@ fn extend_one(rt: HostRuntime) -> Result<(), Fail> {
     owned(&rt, call, answer, &token, &items)
 }
 
-// Fails unless the token has so many owners beside itself where the vector was made, and else none.
+// Fails unless the token has `count` owners besides `token` itself if the vector was made, and none
+// otherwise.
 fn held(
     rt: &impl Print,
     call: &str,

@@ -38,7 +38,8 @@ fn singleton(rt: HostRuntime) -> Result<(), Fail> {
     gives(&rt, "Singleton::singleton", answer, &[1])
 }
 
-// Six items, so that the vector grows before the fifth. None is evaluated after a refusal.
+// Six items, so that the vector grows before the fifth. None is evaluated after a failed
+// allocation.
 #[test]
 fn nev_of_a_list(rt: HostRuntime) -> Result<(), Fail> {
     let mut evaluated = 0u32;

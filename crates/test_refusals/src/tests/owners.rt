@@ -1,4 +1,4 @@
-//! Keys and items that own a token, which tells whether each is dropped once.
+//! Keys and items that own a token, which shows whether each is dropped once.
 
 use std::alloc::{AllocError, Global};
 use std::rc::Rc;
@@ -9,8 +9,8 @@ pub(super) fn token(alloc: Global) -> Result<Rc<u32>, AllocError> {
     Ok(Rc::new(alloc, 7)?)
 }
 
-// An owner of the token. Its clones take memory, though it takes none itself: so the calls are all
-// that asks.
+// An owner of the token. Its clones allocate, although it has no memory itself: so only the calls
+// make requests.
 #[derive(Drop, PartialEq, Eq, PartialOrd, Ord, Hash)]
 pub(super) struct Owner {
     token: Rc<u32>,
@@ -25,7 +25,7 @@ impl Clone for Owner {
     }
 }
 
-// One more owner of the token. It takes no memory.
+// One more owner of the token. It does not allocate.
 pub(super) fn one_more(alloc: Global, token: &Rc<u32>) -> Result<Owner, AllocError> {
     let token = token.clone()?;
     Ok(Owner {
@@ -36,7 +36,7 @@ pub(super) fn one_more(alloc: Global, token: &Rc<u32>) -> Result<Owner, AllocErr
 
 pub(super) type Key = (u32, Owner);
 
-// Fails unless the token has so many owners besides the one that is asked.
+// Fails unless the token has `count` owners besides `token` itself.
 pub(super) fn owned(call: &str, token: &Rc<u32>, count: usize) -> Result<(), Fail> {
     if Rc::strong_count(token) - 1 == count {
         return Ok(());

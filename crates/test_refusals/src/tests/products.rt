@@ -1,4 +1,4 @@
-//! Products and whether items differ: what was taken is dropped once where memory is refused.
+//! Products and distinct items: what was taken is dropped once if an allocation fails.
 
 use super::owners::{Owner, one_more, owned, token};
 use super::{answers, tell, walks};
@@ -10,7 +10,7 @@ use nonempty_collections::{
 use std::cell::Cell;
 use std::test::Fail;
 
-// Of ten items: the set of those that were seen is made for the first, and grows for the last.
+// Ten items: the set of the items seen so far is made for the first, and grows for the last.
 #[test]
 fn all_unique(rt: HostRuntime) -> Result<(), Fail> {
     let call = "NonEmptyItertools::all_unique";
@@ -24,8 +24,8 @@ fn all_unique(rt: HostRuntime) -> Result<(), Fail> {
     tell(&rt, if answer.is_ok() { "made" } else { "refused" }, call)
 }
 
-// Two rows of two pairs, each with a clone of an owner. Where a clone is refused an `Err` stands in
-// the place of its pair, and then `None`, and nothing more is drawn.
+// Two rows of two pairs, each with a clone of an owner. If a clone fails, an `Err` comes in place
+// of its pair, and then `None`, and nothing more is drawn.
 #[test]
 fn cartesian_product(rt: HostRuntime) -> Result<(), Fail> {
     let call = "NonEmptyItertools::cartesian_product";
@@ -61,8 +61,8 @@ fn cartesian_product(rt: HostRuntime) -> Result<(), Fail> {
     tell(&rt, if is_refused { "refused" } else { "made" }, call)
 }
 
-// The first request of this test is that of its call, which the gate wants: what stands before
-// takes no memory.
+// The first request of this test is that of its call, as the gate requires: what comes before does
+// not allocate.
 #[test]
 fn none_taken_before(rt: HostRuntime) -> Result<(), Fail> {
     let call = "NEVec::new behind a product";

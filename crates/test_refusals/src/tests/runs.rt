@@ -1,4 +1,4 @@
-//! Readers of runs, whose runs take memory when they are asked for.
+//! Readers of runs, whose runs are allocated when they are read.
 
 use super::tell;
 use ne_laws::reader::take_runs;
@@ -26,8 +26,8 @@ fn group_by(rt: HostRuntime) -> Result<(), Fail> {
     tell(&rt, "made", call)
 }
 
-// A finished run is given before memory is asked for the next one: where that is refused, the first
-// run came all the same, then an `Err`, and then `None`.
+// A finished run is given before memory is requested for the next one. If that fails, the first run
+// still comes, then an `Err`, and then `None`.
 #[test]
 fn finished_run(rt: HostRuntime) -> Result<(), Fail> {
     let call = "GroupBy::next after a finished run";
@@ -67,8 +67,8 @@ impl<'a> Drop for Weighed<'a> {
 }
 
 // 5, 5, 6 and 6, each with a digit of its own in the sum of what was dropped. One run is taken; it
-// is made of its first item, and the list of the runs grows for it. The first 6 is held then, and
-// the other stands in the source. Whatever was refused, each item is dropped once.
+// is made of its first item, and the list of the runs grows for it. The reader then holds the first
+// 6, and the other is still in the source. Whatever fails, each item is dropped once.
 #[test]
 fn taken(rt: HostRuntime) -> Result<(), Fail> {
     let call = "take_runs";

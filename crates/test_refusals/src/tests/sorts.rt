@@ -1,19 +1,20 @@
-//! The calls that sort, which take memory for more than twenty items.
+//! The calls that sort, which allocate for more than twenty items.
 
 use super::{leaves, tell};
 use nonempty_collections::NEVec;
 use std::alloc::{AllocError, Global};
 use std::test::Fail;
 
-// Twenty-one items, the greatest first.
+// Twenty-one items, in falling order.
 const FALLING: [u32; 21] = [
     20, 19, 18, 17, 16, 15, 14, 13, 12, 11, 10, 9, 8, 7, 6, 5, 4, 3, 2, 1, 0,
 ];
-// The same, the least first.
+// The same items, in rising order.
 const RISING: [u32; 21] = [
     0, 1, 2, 3, 4, 5, 6, 7, 8, 9, 10, 11, 12, 13, 14, 15, 16, 17, 18, 19, 20,
 ];
-// The same, the least half first, and of two with one half the greater first.
+// The same items in rising order of their halves; of two with the same half, the greater comes
+// first.
 const BY_HALVES: [u32; 21] = [
     1, 0, 3, 2, 5, 4, 7, 6, 9, 8, 11, 10, 13, 12, 15, 14, 17, 16, 19, 18, 20,
 ];

@@ -1,5 +1,5 @@
-//! The calls of sources. Those that take memory drop what they took where more of it is refused;
-//! the others take none.
+//! The methods of sources. Those that allocate drop what they took if a later allocation fails; the
+//! others do not allocate.
 
 use super::{Countdown, gives, tell};
 use nonempty_collections::iter::once;
@@ -17,8 +17,8 @@ fn collect(rt: HostRuntime) -> Result<(), Fail> {
     gives(&rt, call, answer, &[5, 4, 3, 2, 1, 0])
 }
 
-// Twenty-one items: the vector grows four times, and the sort takes memory too. Of two with one key
-// the greater is first.
+// Twenty-one items: the vector grows four times, and the sort allocates too. Of two items with the
+// same key, the greater comes first.
 #[test]
 fn sorted_by_key(rt: HostRuntime) -> Result<(), Fail> {
     let source = once(20).chain(Countdown(20));
@@ -62,8 +62,8 @@ fn into_nonempty_vec(rt: HostRuntime) -> Result<(), Fail> {
     )
 }
 
-// Chains of what takes no memory, used up. Short ones: the check takes minutes for a tower of
-// seven.
+// Chains of adapters that do not allocate, used up. They are short, because the check takes minutes
+// for a tower of seven.
 fn greatest() -> (usize, u32) {
     let looked_at = [1u32, 2, 3].into_nonempty_iter().peekable();
     let doubled = looked_at.map(|x| x.wrapping_mul(2)).max();
@@ -71,8 +71,8 @@ fn greatest() -> (usize, u32) {
     once(twice).chain(once((0, 0))).zip([7u32; 2]).max().0
 }
 
-// The first request of this test is that of its call, which the gate wants: what stands before
-// takes no memory.
+// The first request of this test is that of its call, as the gate requires: what comes before does
+// not allocate.
 #[test]
 fn none_taken_before(rt: HostRuntime) -> Result<(), Fail> {
     let (place, item) = greatest();

@@ -1,8 +1,8 @@
-//! Hashed and index maps and sets whose keys and values own a token, which tells whether each is
+//! Hashed and index maps and sets whose keys and values own a token, which shows whether each is
 //! dropped once.
 //!
-//! A table that is made of one item has room for nine. It takes four requests, and to grow takes
-//! four more. A call that makes a table stands in front of one that changes it.
+//! A table that is made of one item has room for nine. Making it takes four requests, and growing
+//! takes four more. A call that makes a table comes before one that changes it.
 
 mod hashed;
 mod index;
@@ -23,14 +23,14 @@ use std::test::Fail;
 // A pair of a map, or an item of a set: a number, with two owners of the token.
 pub(super) type Item = (Key, Owner);
 
-// The item of this number. It takes no memory.
+// The item of this number. It does not allocate.
 pub(super) fn item(alloc: Global, token: &Rc<u32>, number: u32) -> Result<Item, AllocError> {
     let key = (number, one_more(alloc, token)?);
     Ok((key, one_more(alloc, token)?))
 }
 
-// Items with numbers from `next` on, `left` of them. The hint is more than any memory holds, so
-// that no room is asked for beforehand: see `Countdown`.
+// Items with numbers from `next` on, `left` of them. The hint is more than any memory holds, so no
+// room is requested beforehand: see `Countdown`.
 #[derive(Drop)]
 pub(super) struct Items<'a> {
     alloc: Global,
@@ -79,15 +79,15 @@ enum Make {
     // With much room.
     WithCapacityAndHasher,
     Singleton,
-    // Of a set, by its macro.
+    // For a set, by its macro.
     Written,
 }
 
-// The calls that put an item in, and the one that gives back room.
+// The calls that insert an item, and the one that releases room.
 #[derive(Clone, Copy)]
 enum Change {
     Insert,
-    // Of a set.
+    // For a set.
     Replace,
     ExtendOne,
     ShrinkToFit,
@@ -101,13 +101,13 @@ trait Table: Singleton<Item = Item> + Drop {
 
     fn extend_by(&mut self, items: Items<'_>) -> Result<(), AllocError>;
 
-    // How many numbers there are, or 0 where they are not those from 1 on.
+    // How many numbers there are, or 0 if they are not those from 1 on.
     fn count(&self) -> usize;
 }
 
-// Fails unless a table has all numbers from 1 to `all` where the call was made, and where it was
-// refused those up to some number that is at least `fewest` and less than `all`; and unless the
-// token has two owners for each.
+// Fails unless the numbers of the table are right: all from 1 to `all` if the call was made, and
+// otherwise those up to some number that is at least `fewest` and less than `all`. Also fails
+// unless the token has two owners for each number.
 fn stands<C: Table>(
     rt: &impl Print,
     call: &str,
@@ -130,7 +130,8 @@ fn stands<C: Table>(
     tell(rt, if is_made { "made" } else { "refused" }, call)
 }
 
-// What the call makes of item 1, with the items up to `last` put in, for which there is room.
+// Returns the table that the call makes of item 1, with the items up to `last` inserted, for which
+// there is room.
 fn made<C: Table>(
     rt: &impl Print,
     alloc: Global,
@@ -150,7 +151,7 @@ fn made<C: Table>(
     Ok(Some(table))
 }
 
-// Of two calls that are not reached.
+// Reports that two calls are not reached.
 fn neither(rt: &impl Print, call: &str, behind: &str) -> Result<(), Fail> {
     tell(rt, "not reached", call)?;
     tell(rt, "not reached", behind)
@@ -174,7 +175,7 @@ fn changed<C: Table>(
     stands(rt, change.1, answer.is_ok(), &token, &table, 9, after)
 }
 
-// A call that makes a table, and `extend`. Of its items one is there already, one goes into the
+// A call that makes a table, and `extend`. Of the new items one is already there, one goes into the
 // room that is left, and for the next the table grows.
 fn extended<C: Table>(
     rt: &impl Print,
@@ -212,7 +213,7 @@ fn cloned<C: Table + Clone>(
     stands(rt, clone, true, &token, &copy, 1, 1)
 }
 
-// Of ten items: the table is made for the first, and grows for the last.
+// Ten items: the table is made for the first, and grows for the last.
 fn collected<C: Table + FromNonEmptyIterator<Item>>(
     rt: &impl Print,
     alloc: Global,

@@ -1,7 +1,7 @@
-//! Tree maps and sets whose keys, items and values own a token, which tells whether each is dropped
+//! Tree maps and sets whose keys, items and values own a token, which shows whether each is dropped
 //! once.
 //!
-//! A node holds fifteen keys. For one more it becomes two, below a third: two requests.
+//! A node holds fifteen keys. For one more it becomes two nodes, below a third: two requests.
 
 mod changes;
 mod looks;
@@ -19,15 +19,15 @@ type Map = NEBTreeMap<Key, Owner>;
 
 type Set = NEBTreeSet<Key>;
 
-// Collections of numbers, each of which owns the token as often.
+// Collections of numbers, each of which owns the token equally often.
 trait Numbers: Singleton + Drop {
-    // The item of this number. It takes no memory.
+    // The item of this number. It does not allocate.
     fn item(alloc: Global, token: &Rc<u32>, number: u32) -> Result<Self::Item, AllocError>;
 
-    // How many owners an item has.
+    // How many owners of the token an item has.
     fn owners_of_one() -> usize;
 
-    // How many numbers there are, or 0 where they are not those from 1 on.
+    // How many numbers there are, or 0 if they are not those from 1 on.
     fn count(&self) -> usize;
 }
 
@@ -76,8 +76,8 @@ where
     Ok(made)
 }
 
-// Of a call that makes a collection: with memory it has the numbers from 1 to `last`, and without
-// it there is none. Besides, the token has as many owners as `others` says.
+// For a call that makes a collection: if it succeeds, the collection has the numbers from 1 to
+// `last`, and otherwise there is none. The token also has as many owners as `others` says.
 fn gives<C: Numbers>(
     rt: &impl Print,
     call: &str,
@@ -101,8 +101,8 @@ fn gives<C: Numbers>(
     tell(rt, "made", call)
 }
 
-// Of a call that adds to a collection: with memory it has the numbers from 1 to `after`, and
-// without it those up to some number that is at least `before` and less than `after`.
+// For a call that adds to a collection: if it succeeds, the collection has the numbers from 1 to
+// `after`, and otherwise those up to some number that is at least `before` and less than `after`.
 fn leaves<C: Numbers>(
     rt: &impl Print,
     call: &str,

@@ -1,4 +1,4 @@
-//! The calls that take no memory: whichever request is refused, they answer as ever.
+//! The calls that do not allocate: whichever request is refused, they return the same as ever.
 
 use super::{pair, tell};
 use nonempty_collections::{NESlice, NEVec};
@@ -14,7 +14,7 @@ fn seven(alloc: Global) -> Result<NEVec<u32>, AllocError> {
     Ok(items)
 }
 
-// Fails, and names the call, unless the items are these.
+// Fails with the name of the call unless the items are these.
 fn are(call: &str, items: &[u32], wanted: &[u32]) -> Result<(), Fail> {
     if items == wanted {
         return Ok(());

@@ -1,5 +1,5 @@
-//! Hashed maps and sets. Their order is open: the numbers, of which no two are equal, are those
-//! from 1 on if none is greater than how many there are.
+//! Hashed maps and sets. Their order is unspecified: the numbers, of which no two are equal, are
+//! those from 1 on if none is greater than the number of them.
 
 use super::{Change, Item, Items, Key, Make, Owner, Table, changed, cloned, collected, extended};
 use nonempty_collections::{NEMap, NESet, Singleton, nes};

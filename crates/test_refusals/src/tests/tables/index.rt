@@ -1,4 +1,4 @@
-//! Index maps and sets, whose numbers come in order.
+//! Index maps and sets, whose numbers are in order.
 
 use super::{Change, Item, Items, Key, Make, Owner, Table, changed, cloned, collected, extended};
 use nonempty_collections::{NEIndexMap, NEIndexSet, Singleton, neis};

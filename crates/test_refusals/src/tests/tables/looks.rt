@@ -1,5 +1,5 @@
-//! The calls of hashed and index maps and sets that take no memory. The requests after them are
-//! those of the call behind them, which the gate wants. With one item an order is no matter.
+//! The calls of hashed and index maps and sets that do not allocate. The requests after them are
+//! those of the call that follows, as the gate requires. With one item the order does not matter.
 
 use crate::tests::{answers, tell, walks};
 use indexmap::{IndexMap, IndexSet};

@@ -1,12 +1,13 @@
-//! The macros, which evaluate what is written out from left to right, and nothing after a refusal.
+//! The macros, which evaluate their expressions from left to right, and none after a failed
+//! allocation.
 
 use crate::tests::tell;
 use nonempty_collections::{neim, neis, nem, nes};
 use std::test::Fail;
 
-// Of eleven numbers or pairs, of which the last two are counted as they are evaluated, `each`
-// expressions a piece. Without memory for the first one none was evaluated, and without it for the
-// tenth, for which the table grows, that one alone.
+// Eleven numbers or pairs, of which the last two are counted when they are evaluated, with `each`
+// expressions for each. If the allocation for the first one fails, neither was evaluated; if it
+// fails for the tenth, for which the table grows, only that one was.
 fn counted(
     rt: &impl Print,
     call: &str,

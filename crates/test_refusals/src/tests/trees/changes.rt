@@ -1,5 +1,5 @@
-//! The calls that add to a tree map or a tree set, each onto one that has to grow, and with what
-//! is there already, for which they take no memory.
+//! The calls that add to a tree map or a tree set. Each is made on one that has to grow, and with
+//! what is already there, for which it does not allocate.
 
 use super::{Map, Numbers, Set, leaves, token, up_to};
 use crate::tests::tell;
@@ -17,7 +17,7 @@ where
     Ok((token, numbers))
 }
 
-// Fails unless a call that takes no memory answers this.
+// Fails unless a call that does not allocate returns this.
 fn answers(call: &str, is_so: bool) -> Result<(), Fail> {
     if is_so {
         return Ok(());
@@ -63,7 +63,7 @@ fn set_replace(rt: HostRuntime) -> Result<(), Fail> {
     leaves(&rt, call, answer, &token, &set, 15, 16)
 }
 
-// Of what takes one item after another.
+// For calls that take one item after another.
 fn extend_one<C: Numbers>(rt: &impl Print, alloc: Global, call: &str) -> Result<(), Fail>
 where
     C::Item: Drop,
@@ -86,7 +86,7 @@ fn set_extend_one(rt: HostRuntime) -> Result<(), Fail> {
     extend_one::<Set>(&rt, rt.alloc(), "Singleton::extend_one of a tree set")
 }
 
-// The first item is there already, the second goes into the room that is left, and for the third
+// The first item is already there, the second goes into the room that is left, and for the third
 // the node becomes two.
 #[test]
 fn map_extend(rt: HostRuntime) -> Result<(), Fail> {

@@ -1,5 +1,5 @@
-//! The calls of tree maps and sets that take no memory. The request after them is that of the call
-//! behind them, which the gate wants.
+//! The calls of tree maps and sets that do not allocate. The request after them is that of the call
+//! that follows, as the gate requires.
 
 use crate::tests::{answers, tell, walks};
 use nonempty_collections::{IntoNonEmptyIterator, NEBTreeMap, NEBTreeSet, NonEmptyIterator};
@@ -7,7 +7,7 @@ use std::alloc::{AllocError, Global};
 use std::collections::{BTreeMap, BTreeSet};
 use std::test::Fail;
 
-// Each key with its tenfold.
+// Each key with ten times its number.
 fn tens(alloc: Global) -> Result<NEBTreeMap<u32, u32>, AllocError> {
     let mut map = NEBTreeMap::new(alloc, 2, 20)?;
     map.insert(1, 10)?;

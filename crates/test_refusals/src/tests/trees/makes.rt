@@ -27,7 +27,7 @@ fn set_new(rt: HostRuntime) -> Result<(), Fail> {
     gives(&rt, call, answer, &token, 1, 0)
 }
 
-// Of what is made of one item.
+// For collections that are made of one item.
 fn singleton<C: Numbers>(rt: &impl Print, alloc: Global, call: &str) -> Result<(), Fail>
 where
     C::Item: Drop,
