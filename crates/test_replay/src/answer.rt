@@ -1,24 +1,24 @@
-//! How answers are written. Each function reports that there is such a call.
+//! How results are written. Each function reports that there is such a call.
 //!
-//! A call's arm ends in one of these, so that no arm goes on after it: the check then has one way
-//! an arm to follow, and no values to drop where they join.
+//! A call's arm ends in one of these, so no arm continues after it. The check then has one path for
+//! each arm to follow, and no values to drop where the arms join.
 
 use nonempty_collections::NEVec;
 use std::alloc::AllocError;
 use std::fmt::Debug;
 
-/// Writes nothing, of a call that has no answer.
+/// Writes nothing, for a call that has no result.
 pub fn done(_: ()) -> Result<bool, AllocError> {
     Ok(true)
 }
 
-/// Writes an answer.
+/// Writes a result.
 pub fn told<T: Debug + Drop>(text: &mut String, answer: T) -> Result<bool, AllocError> {
     write!(text, "{answer:?}")?;
     Ok(true)
 }
 
-/// Writes an answer, if there was memory for it.
+/// Writes a result, if there was memory for it.
 pub fn made<T: Debug + Drop>(
     text: &mut String,
     answer: Result<T, AllocError>,

@@ -5,22 +5,22 @@ use nonempty_collections::NEVec;
 use std::alloc::{AllocError, Global};
 use std::num::NonZeroUsize;
 
-/// A call. Where a line has no number, the number is 0.
+/// A call. If a line has no number, the number is 0.
 #[derive(Drop)]
 pub struct Call<'t> {
     /// Which call it is.
     pub name: &'t str,
-    /// The closure that it takes; where none is named, the one that answers what it is shown.
+    /// The closure that it takes. If none is named, it is the one that returns what it is passed.
     pub closure: Closure,
     /// All its numbers.
     pub numbers: Vec<u32>,
-    /// The first of them.
+    /// The first of its numbers.
     pub first: u32,
-    /// The last of them.
+    /// The last of its numbers.
     pub last: u32,
-    /// The first of them as a place.
+    /// The first of its numbers as an index.
     pub place: usize,
-    /// The first of them as a size, which is at least 1.
+    /// The first of its numbers as a size, which is at least 1.
     pub size: NonZeroUsize,
 }
 
@@ -58,7 +58,7 @@ impl<'t> Call<'t> {
         Vec::from_slice(alloc, self.numbers.as_slice())
     }
 
-    /// The first of its numbers, which is 0 where it has none, and then the others.
+    /// The first of its numbers, which is 0 if it has none, and then the others.
     pub fn vector(&self, alloc: Global) -> Result<NEVec<u32>, AllocError> {
         let rest = self.numbers.as_slice().get(1..).unwrap_or(&[]);
         NEVec::from_parts(self.first, Vec::from_slice(alloc, rest)?)

@@ -8,7 +8,7 @@ use nonempty_collections::{IntoNonEmptyIterator, NEVec, NonEmptyIterator};
 use std::alloc::{AllocError, Global};
 use user_towers::{parted, runs_of_answers, spread, spread_pairs};
 
-/// Adapters of references, and those that answer numbers.
+/// Adapters of references, and those that return numbers.
 pub fn answered(
     alloc: Global,
     items: &NEVec<u32>,
@@ -55,7 +55,7 @@ fn alone(
     }
 }
 
-// What is looked at, and written there.
+// Peeks at an item, and writes there.
 fn looked(
     alloc: Global,
     items: &NEVec<u32>,
@@ -78,7 +78,7 @@ fn paired(items: &NEVec<u32>, other: NEVec<u32>, text: &mut String) -> Result<bo
     Ok(true)
 }
 
-// Towers, and adapters that part what comes in runs.
+// Towers, and adapters that split the items into runs.
 fn towering(
     alloc: Global,
     items: &NEVec<u32>,

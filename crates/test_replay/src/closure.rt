@@ -3,8 +3,8 @@
 use std::cell::Cell;
 use std::cmp::Ordering;
 
-/// A named closure on numbers. It counts its calls and adds up the numbers that it was shown, so
-/// that some answer by state.
+/// A named closure on numbers. It counts its calls and adds up the numbers that it was passed. What
+/// some closures return depends on this state.
 #[derive(Drop)]
 pub struct Closure {
     rule: Rule,
@@ -32,7 +32,7 @@ impl Default for Closure {
 }
 
 impl Closure {
-    /// The closure of this name, before its first call; `None` where there is none.
+    /// Returns the closure of this name, before its first call, or `None` if there is none.
     pub fn named(name: &str) -> Option<Closure> {
         let rule = match name {
             "same" => Rule::Same,
@@ -67,7 +67,7 @@ impl Closure {
         self.calls.get()
     }
 
-    /// What it answers at `x`.
+    /// What it returns for `x`.
     pub fn of(&self, x: u32) -> u32 {
         let calls = self.calls.get();
         self.calls.set(calls.wrapping_add(1));
@@ -85,12 +85,12 @@ impl Closure {
         }
     }
 
-    /// Whether what it answers at `x` is even.
+    /// Whether what it returns for `x` is even.
     pub fn holds(&self, x: u32) -> bool {
         self.of(x) % 2 == 0
     }
 
-    /// How what it answers at `x` and what it then answers at `y` compare.
+    /// How what it returns for `x` compares with what it then returns for `y`.
     pub fn order(&self, x: u32, y: u32) -> Ordering {
         let first = self.of(x);
         first.cmp(&self.of(y))

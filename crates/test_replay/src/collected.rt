@@ -37,7 +37,7 @@ pub fn answered(
     }
 }
 
-// A hashed map is told by its size and what is found in it, since its order is its own.
+// A hashed map is shown by its size and by what is found in it, because its order is its own.
 fn found(
     text: &mut String,
     map: Result<HashMap<u32, (usize, u32)>, AllocError>,
@@ -54,7 +54,7 @@ fn found(
     Ok(true)
 }
 
-// A hashed set likewise.
+// A hashed set is shown by its size and by what is found in it, because its order is its own.
 fn held(
     text: &mut String,
     set: Result<HashSet<u32>, AllocError>,
@@ -117,7 +117,7 @@ fn letters(x: u32) -> &'static str {
     }
 }
 
-// A text is told as it is.
+// A text is written as it is.
 fn spelled(text: &mut String, joined: Result<String, AllocError>) -> Result<bool, AllocError> {
     let joined = joined?;
     write!(text, "{joined}")?;

@@ -18,7 +18,7 @@ fn parts<T: Debug + Drop, U: Debug + Drop>(
     Ok(true)
 }
 
-/// Consumers that ask for an item, or for how many there are.
+/// Consumers that return an item, or how many there are.
 pub fn answered(
     alloc: Global,
     items: &NEVec<u32>,
@@ -44,7 +44,7 @@ pub fn answered(
     }
 }
 
-// Consumers that answer a total.
+// Consumers that return a total.
 fn totalled(
     alloc: Global,
     items: &NEVec<u32>,
@@ -70,7 +70,7 @@ fn totalled(
     }
 }
 
-// Consumers that answer a greatest or a least item. The items are shown with their places, so that
+// Consumers that return a greatest or a least item. The items are shown with their indices, so that
 // equal ones are told apart.
 fn extreme(
     alloc: Global,
@@ -119,7 +119,7 @@ fn extreme(
     }
 }
 
-// Consumers that answer an iterator, which may be empty.
+// Consumers that return an iterator, which may be empty.
 fn parted(
     alloc: Global,
     items: &NEVec<u32>,

@@ -1,4 +1,5 @@
-//! Lists of calls on a vector, each item with each of another vector, and whether items differ.
+//! Lists of calls on a vector, each item with each of another vector, and whether items are
+//! distinct.
 
 use crate::answer::{done, made, told};
 use crate::call::Call;
@@ -7,7 +8,8 @@ use nonempty_collections::{IntoNonEmptyIterator, NEVec, NonEmptyIterator, NonEmp
 use std::alloc::{AllocError, Global};
 use std::num::NonZeroUsize;
 
-/// A list of calls: each is written by two numbers, which call it is and its place, length or item.
+/// A list of calls. Each is written by two numbers: which call it is, and its index, length or
+/// item.
 pub fn answered(
     alloc: Global,
     items: &mut NEVec<u32>,
@@ -58,7 +60,7 @@ fn replied(text: &mut String, replies: Vec<VecReply<u32>>) -> Result<bool, Alloc
     done(())
 }
 
-// What is made of the items and others, and whether the items differ.
+// The pairs of the items with others, and whether the items are distinct.
 fn paired(
     alloc: Global,
     items: &NEVec<u32>,

@@ -1,9 +1,9 @@
-//! Replays a script of calls: reads it from standard input, a call a line, and prints a line for
-//! each call.
+//! Replays a script of calls: reads it from standard input, one call per line, and prints a line
+//! for each call.
 //!
-//! The line has the answer, or the name of the refusal, then the vector as it is after the call,
-//! and how often the call's closure was called. A twin in Rust does the same over the Rust crate:
-//! see `compare/replay`.
+//! The line has the result, or the name of the error, then the vector as it is after the call, and
+//! how often the call's closure was called. A twin in Rust does the same with the Rust crate: see
+//! `compare/replay`.
 #![tactic(auto)]
 
 mod answer;

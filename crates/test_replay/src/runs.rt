@@ -7,8 +7,8 @@ use std::alloc::{AllocError, Global};
 
 type Runs = Result<NEVec<NEVec<u32>>, AllocError>;
 
-/// Runs, whole and stopped. That the closure is called once for each item drawn shows how many
-/// were.
+/// Runs, all of them or only the first. The closure is called once for each item drawn, so the
+/// number of its calls shows how many were drawn.
 pub fn answered(
     alloc: Global,
     items: &NEVec<u32>,

@@ -28,7 +28,7 @@ pub fn read(
     }
 }
 
-// Walks over the slice of the whole vector, which is taken by value and by reference.
+// Iterators over the slice of the whole vector, which is taken by value and by reference.
 fn walked(
     alloc: Global,
     items: &NEVec<u32>,
@@ -84,7 +84,7 @@ fn chunked(
     }
 }
 
-// Calls on the slice of the call's numbers, which may be none.
+// Calls on the slice of the call's numbers, of which there may be none.
 fn tried(items: &NEVec<u32>, call: &Call, text: &mut String) -> Result<bool, AllocError> {
     match call.name {
         "slice_try_from" | "slice_eq" | "slice_cmp" | "slice_partial_cmp" | "slice_hash" => {

@@ -9,7 +9,7 @@ use nonempty_collections::{
 use std::alloc::{AllocError, Global};
 
 /// Calls on an array of three items, by value and by reference: the call's first number, its last,
-/// and the first again. Then one item, and what the call's numbers give, which may be nothing.
+/// and the first again. Then one item, and an iterator over the call's numbers, which may be empty.
 pub fn read(alloc: Global, call: &Call, text: &mut String) -> Result<bool, AllocError> {
     let array = [call.first, call.last, call.first];
     match call.name {

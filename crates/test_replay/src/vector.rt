@@ -6,13 +6,13 @@ use nonempty_collections::{IntoNonEmptyIterator, NEVec, NonEmptyIterator, Single
 use std::alloc::{AllocError, Global};
 use std::hash::{DefaultHasher, Hash, Hasher};
 
-// The vector that was made stands in the place of the one that there is.
+// The vector that was made replaces the current one.
 fn put(items: &mut NEVec<u32>, made: Result<NEVec<u32>, AllocError>) -> Result<bool, AllocError> {
     *items = made?;
     Ok(true)
 }
 
-/// Calls that make a vector, in the place of the one that there is, and then those that change it.
+/// Calls that make a vector, which replaces the current one, and then those that change it.
 pub fn changed(
     alloc: Global,
     items: &mut NEVec<u32>,
@@ -34,7 +34,7 @@ pub fn changed(
     }
 }
 
-// What was made of what may be empty. Where it is, the vector that there is stays.
+// Puts what was made from something that may be empty. If it is empty, the current vector stays.
 fn put_some(
     items: &mut NEVec<u32>,
     text: &mut String,
@@ -60,7 +60,7 @@ fn by_try_from(
     }
 }
 
-// Calls that make a vector of what may be empty.
+// Calls that make a vector from something that may be empty.
 fn tried(
     alloc: Global,
     items: &mut NEVec<u32>,
@@ -86,7 +86,7 @@ fn write_at(items: &mut NEVec<u32>, call: &Call, text: &mut String) -> Result<bo
     }
 }
 
-// Calls that write items where they stand.
+// Calls that write items in place.
 fn written(
     alloc: Global,
     items: &mut NEVec<u32>,
@@ -126,7 +126,7 @@ fn by_for_mut(items: &mut NEVec<u32>, call: &Call) {
     }
 }
 
-// A call that takes memory and has no other answer.
+// A call that allocates and has no other result.
 fn grown(made: Result<(), AllocError>) -> Result<bool, AllocError> {
     made?;
     Ok(true)
@@ -168,7 +168,7 @@ fn edited(
     }
 }
 
-// What a call kept; where it kept nothing, the vector that there is stays.
+// Puts what a call kept. If it kept nothing, the current vector stays.
 fn put_kept(
     items: &mut NEVec<u32>,
     text: &mut String,
@@ -206,7 +206,7 @@ fn kept(items: &mut NEVec<u32>, call: &Call, text: &mut String) -> Result<bool, 
     }
 }
 
-// Calls that sort. How often a closure is called is std's affair.
+// Calls that sort. How often a closure is called is up to std.
 fn sorted(items: &mut NEVec<u32>, call: &Call) -> Result<bool, AllocError> {
     let closure = call.closure.anew();
     match call.name {
@@ -243,7 +243,7 @@ pub fn read(
     }
 }
 
-// Walks over the vector, which is taken by value and by reference.
+// Iterators over the vector, which is taken by value and by reference.
 fn walked(
     alloc: Global,
     items: &NEVec<u32>,
@@ -262,14 +262,14 @@ fn walked(
     }
 }
 
-/// What a hasher answers of a value.
+/// What a hasher returns for a value.
 pub fn hashed<T: Hash>(value: &T) -> u64 {
     let mut hasher = DefaultHasher::new();
     value.hash(&mut hasher);
     hasher.finish()
 }
 
-// The greater text of the vector, with a line for each item.
+// The longer text of the vector, with a line for each item.
 fn lines(alloc: Global, items: &NEVec<u32>) -> Result<String, AllocError> {
     format!(in alloc; "{items:#?}")
 }
@@ -292,7 +292,7 @@ fn compared(
     }
 }
 
-// Searches. How often a closure is called is std's affair.
+// Searches. How often a closure is called is up to std.
 fn searched(items: &NEVec<u32>, call: &Call, text: &mut String) -> Result<bool, AllocError> {
     let (closure, x) = (call.closure.anew(), call.first);
     match call.name {
