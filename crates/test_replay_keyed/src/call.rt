@@ -1,6 +1,6 @@
-//! A call, as a line of a script writes it: a name and numbers. A word `COUNT*STEP` stands for
-//! COUNT numbers, the multiples of STEP from 0 on, each modulo COUNT: so a short line has many
-//! keys, which rise, fall or come in a scrambled order.
+//! A call, as a line of a script writes it: a name and numbers. A word `COUNT*STEP` means COUNT
+//! numbers, the multiples of STEP from 0 on, each modulo COUNT. So a short line has many keys, in
+//! rising, falling or scrambled order.
 
 use crate::key::Key;
 use ne_laws::map_calls::MapCall;
@@ -8,12 +8,12 @@ use nonempty_collections::NEVec;
 use std::alloc::{AllocError, Global};
 use std::num::NonZeroUsize;
 
-// The number that a word writes, and 0 where it writes none.
+// The number that a word writes, or 0 if it writes none.
 fn number_of(word: &str) -> u32 {
     word.parse().unwrap_or(0)
 }
 
-// Adds the numbers that `count*step` stands for.
+// Adds the numbers that `count*step` means.
 fn put_multiples(numbers: &mut Vec<u32>, count: &str, step: &str) -> Result<(), AllocError> {
     let (count, step) = (number_of(count), number_of(step));
     for place in 0..count {
@@ -45,12 +45,12 @@ impl<'t> Call<'t> {
         Ok(Call { name, numbers })
     }
 
-    /// Its number at a place, which is 0 where it has none.
+    /// Its number at an index, or 0 if it has none there.
     pub fn number(&self, place: usize) -> u32 {
         self.numbers.get(place).copied().unwrap_or(0)
     }
 
-    /// The key of its number at a place.
+    /// The key of its number at an index.
     pub fn key(&self, place: usize) -> Key {
         Key::new(self.number(place))
     }
@@ -74,7 +74,7 @@ impl<'t> Call<'t> {
         Ok(items)
     }
 
-    /// Its numbers as keys, and the key of 0 where it has none.
+    /// Its numbers as keys, or the key of 0 if it has none.
     pub fn some_items(&self, alloc: Global) -> Result<NEVec<Key>, AllocError> {
         match NEVec::try_from_vec(self.items(alloc)?) {
             Some(items) => Ok(items),
@@ -93,7 +93,7 @@ impl<'t> Call<'t> {
         Ok(pairs)
     }
 
-    /// Its numbers two by two as keys and values, and the key and the value 0 where it has none.
+    /// Its numbers two by two as keys and values, or the key and the value 0 if it has none.
     pub fn some_pairs(&self, alloc: Global) -> Result<NEVec<(Key, u32)>, AllocError> {
         match NEVec::try_from_vec(self.pairs(alloc)?) {
             Some(pairs) => Ok(pairs),

@@ -1,4 +1,4 @@
-//! Keys of which equality, order and hash look at a part alone.
+//! Keys whose equality, order and hash look only at a part.
 
 ghost use Rattle.std.proofs.Common.{rules};
 ghost use Rattle.std.specs.Cmp.{partial_order_from_own_ties};
@@ -11,8 +11,8 @@ use std::cmp::Ordering;
 use std::fmt::{self, Debug};
 use std::hash::{Hash, Hasher};
 
-/// A number that equals another where their halves are the same, and is ordered and hashed by its
-/// half. So a script shows which of two equal keys stands.
+/// A number that equals another if their halves are the same. It is ordered and hashed by its half.
+/// So a script shows which of two equal keys is there.
 #[derive(Clone, Copy)]
 pub struct Key {
     half: u32,

@@ -1,10 +1,10 @@
-//! Replays a script of calls on maps and sets: reads it from standard input, a call a line, and
+//! Replays a script of calls on maps and sets: reads it from standard input, one call per line, and
 //! prints a line for each call.
 //!
-//! A line that names a kind of map or set makes one of its numbers, which the lines after it call.
-//! The line that is printed has the answer, and then the map or the set as it is after the call, or
-//! its length where it is long.
-//! A twin in Rust does the same over the Rust crate: see `compare/replay`.
+//! A line that names a kind of map or set makes one of its numbers, on which the following lines
+//! call. The line that is printed has the result, and then the map or set as it is after the call,
+//! or its length if it is long. A twin in Rust does the same with the Rust crate: see
+//! `compare/replay`.
 #![tactic(auto)]
 
 mod call;
@@ -61,7 +61,7 @@ fn replay(subject: &mut Subject, call: &Call, out: &mut Transcript) -> Result<()
     Ok(())
 }
 
-// Makes what is called, or the call, and reports whether there is one of its name.
+// Makes the map or set, or the call, and reports whether there is one of its name.
 fn answered(subject: &mut Subject, call: &Call, out: &mut Transcript) -> Answered {
     let alloc = out.alloc;
     match call.name {
@@ -81,7 +81,7 @@ fn answered(subject: &mut Subject, call: &Call, out: &mut Transcript) -> Answere
     }
 }
 
-// The map or the set that is called.
+// The map or set on which the calls are made.
 #[derive(Drop)]
 enum Subject {
     TreeMap(TreeMap),
@@ -93,7 +93,7 @@ enum Subject {
 }
 
 impl Subject {
-    // Whether the order of its walks is open.
+    // Whether its order of iteration is unspecified.
     fn is_hashed(&self) -> bool {
         matches!(self, Subject::HashedMap(_) | Subject::HashedSet(_))
     }

@@ -17,13 +17,13 @@ use std::alloc::{AllocError, Global};
 use std::collections::{BTreeMap, HashMap, btree_map, hash_map};
 use std::hash::BuildHasherDefault;
 
-/// The map that walks in ascending order.
+/// The map that iterates in ascending order.
 pub type TreeMap = NEBTreeMap<Key, u32>;
 
-/// The map whose order is open.
+/// The map whose order is unspecified.
 pub type HashedMap = NEMap<Key, u32>;
 
-/// The map that walks in the order of insertion.
+/// The map that iterates in the order of insertion.
 pub type IndexedMap = NEIndexMap<Key, u32>;
 
 /// The tree map that is collected from the call's pairs.
@@ -41,7 +41,7 @@ pub fn indexed(alloc: Global, call: &Call) -> Result<IndexedMap, AllocError> {
     call.some_pairs(alloc)?.into_nonempty_iter().collect(alloc)
 }
 
-// Calls that make a map of one pair or two, in the place of the one that there is.
+// Calls that make a map of one pair or two, which replaces the current one.
 macro_rules! written_out {
     ($Map:ident, $written:ident, $map:expr, $call:expr, $alloc:expr, $next:expr) => {{
         let (key, value) = ($call.key(0), $call.number(1));
@@ -58,7 +58,7 @@ macro_rules! written_out {
     }};
 }
 
-// Calls that make a map with room, or by a hasher.
+// Calls that make a map with room, or with a hasher.
 macro_rules! with_room {
     ($Map:ident, $map:expr, $call:expr, $alloc:expr, $next:expr) => {{
         let (key, value) = ($call.key(0), $call.number(1));
@@ -75,7 +75,7 @@ macro_rules! with_room {
     }};
 }
 
-// Calls that put pairs in, or write a value.
+// Calls that insert pairs, or write a value.
 macro_rules! changed {
     ($map:expr, $call:expr, $out:expr, $next:expr) => {
         match $call.name {
@@ -89,7 +89,7 @@ macro_rules! changed {
     };
 }
 
-// Carries out a list of calls.
+// Makes a list of calls.
 fn run<M: NonEmptyMap<Key, u32>>(map: &mut M, call: &Call, out: &mut Transcript) -> Answered {
     let calls = call.calls(out.alloc)?;
     out.made(run_map(out.alloc, map, calls))
@@ -106,7 +106,7 @@ fn write(place: Option<&mut u32>, value: u32, out: &mut Transcript) -> Answered 
     }
 }
 
-// Walks that write values.
+// Iterators that write values.
 macro_rules! rewritten {
     ($map:expr, $call:expr, $next:expr) => {
         match $call.name {
@@ -118,7 +118,7 @@ macro_rules! rewritten {
     };
 }
 
-// Writes to each value what makes it depend on the old one and on the number.
+// Changes each value to one that depends on the old one and on the number.
 fn rewrite<'a, I: IntoIterator<Item = (&'a Key, &'a mut u32)>>(walk: I, number: u32) -> Answered
     requires { IsFiniteIterable I.into_iter_gives I.IntoIter.can_next I.IntoIter.remaining walk }
 {
@@ -128,7 +128,7 @@ fn rewrite<'a, I: IntoIterator<Item = (&'a Key, &'a mut u32)>>(walk: I, number: 
     Ok(true)
 }
 
-// Looks at one key, or at none.
+// Looks up one key, or none.
 macro_rules! looked {
     ($map:expr, $call:expr, $out:expr, $next:expr) => {
         match $call.name {
@@ -143,8 +143,8 @@ macro_rules! looked {
     };
 }
 
-// Walks by reference: `shown` writes what they give. So each arm hands a walk of std's or of
-// `indexmap`'s on, and what the walks of one type need is proved once.
+// Iterators by reference. `shown` writes what they give. So each arm passes on an iterator of std's
+// or of `indexmap`'s, and what the iterators of one type need is proved once.
 macro_rules! walked {
     ($shown:ident, $map:expr, $call:expr, $out:expr, $next:expr) => {
         match $call.name {
@@ -159,7 +159,8 @@ macro_rules! walked {
     };
 }
 
-// What takes a copy of the map, and comparisons: `given` writes what a walk by value gives.
+// Calls that take a copy of the map, and comparisons. `given` writes what an iterator by value
+// gives.
 macro_rules! taken {
     ($Std:ident, $given:ident, $other:expr, $map:expr, $call:expr, $out:expr, $next:expr) => {
         match $call.name {
@@ -173,7 +174,7 @@ macro_rules! taken {
     };
 }
 
-/// Calls on a tree map, those that make one in front.
+/// Calls on a tree map. Those that make one come first.
 pub fn tree_made(map: &mut TreeMap, call: &Call, out: &mut Transcript) -> Answered {
     let alloc = out.alloc;
     written_out!(TreeMap, nebtm, map, call, alloc, tree_tried(map, call, out))
@@ -208,7 +209,7 @@ fn tree_looked(map: &TreeMap, call: &Call, out: &mut Transcript) -> Answered {
     looked!(map, call, out, tree_walked(map, call, out))
 }
 
-/// Writes what a walk over a tree map shows.
+/// Writes what an iterator over a tree map shows.
 pub fn tree_shown(walk: btree_map::Iter<Key, u32>, out: &mut Transcript) -> Answered {
     out.walked(walk)
 }
@@ -217,7 +218,7 @@ fn tree_walked(map: &TreeMap, call: &Call, out: &mut Transcript) -> Answered {
     walked!(tree_shown, map, call, out, tree_taken(map, call, out))
 }
 
-// Writes what a walk over a tree map gives.
+// Writes what an iterator over a tree map gives.
 fn tree_given(walk: btree_map::IntoIter<Key, u32>, out: &mut Transcript) -> Answered {
     out.walked(walk)
 }
@@ -234,7 +235,7 @@ fn tree_taken(map: &TreeMap, call: &Call, out: &mut Transcript) -> Answered {
     )
 }
 
-/// Calls on a hashed map, those that make one in front.
+/// Calls on a hashed map. Those that make one come first.
 pub fn hashed_made(map: &mut HashedMap, call: &Call, out: &mut Transcript) -> Answered {
     let alloc = out.alloc;
     written_out!(
@@ -293,7 +294,7 @@ fn hashed_looked(map: &HashedMap, call: &Call, out: &mut Transcript) -> Answered
     looked!(map, call, out, hashed_walked(map, call, out))
 }
 
-/// Writes what a walk over a hashed map shows.
+/// Writes what an iterator over a hashed map shows.
 pub fn hashed_shown(walk: hash_map::Iter<Key, u32>, out: &mut Transcript) -> Answered {
     out.walked(walk)
 }
@@ -302,7 +303,7 @@ fn hashed_walked(map: &HashedMap, call: &Call, out: &mut Transcript) -> Answered
     walked!(hashed_shown, map, call, out, hashed_taken(map, call, out))
 }
 
-// Writes what a walk over a hashed map gives.
+// Writes what an iterator over a hashed map gives.
 fn hashed_given(walk: hash_map::IntoIter<Key, u32>, out: &mut Transcript) -> Answered {
     out.walked(walk)
 }
@@ -319,7 +320,7 @@ fn hashed_taken(map: &HashedMap, call: &Call, out: &mut Transcript) -> Answered 
     )
 }
 
-/// Calls on an index map, those that make one in front.
+/// Calls on an index map. Those that make one come first.
 pub fn indexed_made(map: &mut IndexedMap, call: &Call, out: &mut Transcript) -> Answered {
     let alloc = out.alloc;
     written_out!(
@@ -373,7 +374,7 @@ fn indexed_sized(map: &mut IndexedMap, call: &Call, out: &mut Transcript) -> Ans
     }
 }
 
-// Exchanges the pairs at two places, if they are there.
+// Swaps the pairs at two indices, if they are in range.
 fn swapped(map: &mut IndexedMap, a: usize, b: usize, out: &mut Transcript) -> Answered {
     let len = map.len().get();
     if a < len && b < len {
@@ -383,7 +384,7 @@ fn swapped(map: &mut IndexedMap, a: usize, b: usize, out: &mut Transcript) -> An
     out.said("out of range")
 }
 
-// The value at a place, if it is there.
+// The value at an index, if it is in range.
 fn placed(map: &IndexedMap, place: usize, out: &mut Transcript) -> Answered {
     if place < map.len().get() {
         return out.told(map[place]);
@@ -408,7 +409,7 @@ fn indexed_looked(map: &IndexedMap, call: &Call, out: &mut Transcript) -> Answer
     looked!(map, call, out, indexed_walked(map, call, out))
 }
 
-/// Writes what a walk over an index map shows.
+/// Writes what an iterator over an index map shows.
 pub fn indexed_shown(walk: map::Iter<Key, u32>, out: &mut Transcript) -> Answered {
     out.walked(walk)
 }
@@ -417,7 +418,7 @@ fn indexed_walked(map: &IndexedMap, call: &Call, out: &mut Transcript) -> Answer
     walked!(indexed_shown, map, call, out, indexed_taken(map, call, out))
 }
 
-// Writes what a walk over an index map gives.
+// Writes what an iterator over an index map gives.
 fn indexed_given(walk: map::IntoIter<Key, u32>, out: &mut Transcript) -> Answered {
     out.walked(walk)
 }

@@ -1,4 +1,4 @@
-//! A map or a set that a call made stands in the place of the one that there is.
+//! A map or a set that a call made replaces the current one.
 
 use crate::transcript::{Answered, Transcript};
 use nonempty_collections::Error;
@@ -10,8 +10,8 @@ pub fn put<C: Drop>(there: &mut C, made: Result<C, AllocError>) -> Answered {
     Ok(true)
 }
 
-/// Puts what was made of what may be empty. Where it is, writes `None`, and the one that there is
-/// stays.
+/// Puts what was made from something that may be empty. If it is empty, writes `None`, and the
+/// current one stays.
 pub fn put_some<C: Drop>(there: &mut C, out: &mut Transcript, made: Option<C>) -> Answered {
     match made {
         Some(made) => put(there, Ok(made)),
@@ -19,8 +19,8 @@ pub fn put_some<C: Drop>(there: &mut C, out: &mut Transcript, made: Option<C>) -
     }
 }
 
-/// Puts what was made of what may be empty. Where it is, writes the error, and the one that there
-/// is stays.
+/// Puts what was made from something that may be empty. If it is empty, writes the error, and the
+/// current one stays.
 pub fn put_ok<C: Drop>(there: &mut C, out: &mut Transcript, made: Result<C, Error>) -> Answered {
     match made {
         Ok(made) => put(there, Ok(made)),

@@ -14,13 +14,13 @@ use std::alloc::{AllocError, Global};
 use std::collections::{BTreeSet, HashSet, btree_set, hash_set};
 use std::hash::BuildHasherDefault;
 
-/// The set that walks in ascending order.
+/// The set that iterates in ascending order.
 pub type TreeSet = NEBTreeSet<Key>;
 
-/// The set whose order is open.
+/// The set whose order is unspecified.
 pub type HashedSet = NESet<Key>;
 
-/// The set that walks in the order of insertion.
+/// The set that iterates in the order of insertion.
 pub type IndexedSet = NEIndexSet<Key>;
 
 /// The tree set that is collected from the call's keys.
@@ -38,7 +38,7 @@ pub fn indexed(alloc: Global, call: &Call) -> Result<IndexedSet, AllocError> {
     call.some_items(alloc)?.into_nonempty_iter().collect(alloc)
 }
 
-// Calls that make a set of one item or two, in the place of the one that there is.
+// Calls that make a set of one item or two, which replaces the current one.
 macro_rules! written_out {
     ($Set:ident, $written:ident, $set:expr, $call:expr, $alloc:expr, $next:expr) => {
         match $call.name {
@@ -51,7 +51,7 @@ macro_rules! written_out {
     };
 }
 
-// Calls that make a set of what may be empty.
+// Calls that make a set from something that may be empty.
 macro_rules! tried {
     ($Set:ident, $Std:ident, $collected:expr, $set:expr, $call:expr, $out:expr, $next:expr) => {{
         let alloc = $out.alloc;
@@ -71,7 +71,7 @@ macro_rules! tried {
     }};
 }
 
-// Calls that make a set with room, or by a hasher, and those on its room.
+// Calls that make a set with room, or with a hasher, and calls on its room.
 macro_rules! sized {
     ($Set:ident, $set:expr, $call:expr, $out:expr, $next:expr) => {{
         let alloc = $out.alloc;
@@ -96,7 +96,7 @@ macro_rules! sized {
     }};
 }
 
-// Calls that put items in.
+// Calls that insert items.
 macro_rules! changed {
     ($set:expr, $call:expr, $out:expr, $next:expr) => {
         match $call.name {
@@ -109,7 +109,7 @@ macro_rules! changed {
     };
 }
 
-// Looks at one item, or at none.
+// Looks up one item, or none.
 macro_rules! looked {
     ($set:expr, $call:expr, $out:expr, $next:expr) => {
         match $call.name {
@@ -123,8 +123,9 @@ macro_rules! looked {
     };
 }
 
-// Walks, by reference and by value: `shown` and `given` write what they give. So each arm hands a
-// walk of std's or of `indexmap`'s on, and what the walks of one type need is proved once.
+// Iterators by reference and by value. `shown` and `given` write what they give. So each arm passes
+// on an iterator of std's or of `indexmap`'s, and what the iterators of one type need is proved
+// once.
 macro_rules! walked {
     ($Std:ident, $shown:ident, $given:ident, $set:expr, $call:expr, $out:expr, $next:expr) => {
         match $call.name {
@@ -141,7 +142,7 @@ macro_rules! walked {
     };
 }
 
-// The set and another one.
+// Calls with another set.
 macro_rules! compared {
     ($other:expr, $set:expr, $call:expr, $out:expr) => {{
         let other = $other;
@@ -162,7 +163,7 @@ macro_rules! compared {
     }};
 }
 
-/// Calls on a tree set, those that make one in front.
+/// Calls on a tree set. Those that make one come first.
 pub fn tree_made(set: &mut TreeSet, call: &Call, out: &mut Transcript) -> Answered {
     let alloc = out.alloc;
     written_out!(TreeSet, nebts, set, call, alloc, tree_tried(set, call, out))
@@ -188,12 +189,12 @@ fn tree_looked(set: &TreeSet, call: &Call, out: &mut Transcript) -> Answered {
     looked!(set, call, out, tree_walked(set, call, out))
 }
 
-/// Writes what a walk over a tree set shows.
+/// Writes what an iterator over a tree set shows.
 pub fn tree_shown(walk: btree_set::Iter<Key>, out: &mut Transcript) -> Answered {
     out.walked(walk)
 }
 
-// Writes what a walk over a tree set gives.
+// Writes what an iterator over a tree set gives.
 fn tree_given(walk: btree_set::IntoIter<Key>, out: &mut Transcript) -> Answered {
     out.walked(walk)
 }
@@ -214,7 +215,7 @@ fn tree_compared(set: &TreeSet, call: &Call, out: &mut Transcript) -> Answered {
     compared!(tree(out.alloc, call)?, set, call, out)
 }
 
-/// Calls on a hashed set, those that make one in front.
+/// Calls on a hashed set. Those that make one come first.
 pub fn hashed_made(set: &mut HashedSet, call: &Call, out: &mut Transcript) -> Answered {
     let alloc = out.alloc;
     written_out!(
@@ -251,12 +252,12 @@ fn hashed_looked(set: &HashedSet, call: &Call, out: &mut Transcript) -> Answered
     looked!(set, call, out, hashed_walked(set, call, out))
 }
 
-/// Writes what a walk over a hashed set shows.
+/// Writes what an iterator over a hashed set shows.
 pub fn hashed_shown(walk: hash_set::Iter<Key>, out: &mut Transcript) -> Answered {
     out.walked(walk)
 }
 
-// Writes what a walk over a hashed set gives.
+// Writes what an iterator over a hashed set gives.
 fn hashed_given(walk: hash_set::IntoIter<Key>, out: &mut Transcript) -> Answered {
     out.walked(walk)
 }
@@ -277,7 +278,7 @@ fn hashed_compared(set: &HashedSet, call: &Call, out: &mut Transcript) -> Answer
     compared!(hashed(out.alloc, call)?, set, call, out)
 }
 
-/// Calls on an index set, those that make one in front.
+/// Calls on an index set. Those that make one come first.
 pub fn indexed_made(set: &mut IndexedSet, call: &Call, out: &mut Transcript) -> Answered {
     let alloc = out.alloc;
     written_out!(
@@ -314,12 +315,12 @@ fn indexed_looked(set: &IndexedSet, call: &Call, out: &mut Transcript) -> Answer
     looked!(set, call, out, indexed_walked(set, call, out))
 }
 
-/// Writes what a walk over an index set shows.
+/// Writes what an iterator over an index set shows.
 pub fn indexed_shown(walk: set::Iter<Key>, out: &mut Transcript) -> Answered {
     out.walked(walk)
 }
 
-// Writes what a walk over an index set gives.
+// Writes what an iterator over an index set gives.
 fn indexed_given(walk: set::IntoIter<Key>, out: &mut Transcript) -> Answered {
     out.walked(walk)
 }

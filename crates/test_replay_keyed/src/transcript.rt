@@ -1,7 +1,7 @@
-//! How answers are written. Each function reports that there is such a call.
+//! How results are written. Each function reports that there is such a call.
 //!
-//! A call's arm ends in one of these, so that no arm goes on after it: the check then has one way
-//! an arm to follow, and no values to drop where they join.
+//! A call's arm ends in one of these, so no arm continues after it. The check then has one path for
+//! each arm to follow, and no values to drop where the arms join.
 ghost use Rattle.std.specs.Iterator.{IsFiniteIterable};
 
 use std::alloc::{AllocError, Global};
@@ -10,16 +10,16 @@ use std::fmt::Debug;
 /// Whether there is a call of the name, if there was memory for it.
 pub type Answered = Result<bool, AllocError>;
 
-/// What has been written, and how walks are.
+/// What has been written, and how iterators are written.
 #[derive(Drop)]
 pub struct Transcript {
-    /// Where memory comes from.
+    /// The allocator.
     pub alloc: Global,
     /// All that has been written.
     pub text: String,
-    /// Whether walks are written sorted, since their order is open.
+    /// Whether iterators are written sorted, because their order is unspecified.
     pub is_sorted: bool,
-    /// Whether of a long walk its length alone is written.
+    /// Whether only the length of a long iterator is written.
     pub is_brief: bool,
 }
 
@@ -34,13 +34,13 @@ impl Transcript {
         }
     }
 
-    /// Writes an answer.
+    /// Writes a result.
     pub fn told<T: Debug + Drop>(&mut self, answer: T) -> Answered {
         write!(self.text, "{answer:?}")?;
         Ok(true)
     }
 
-    /// Writes an answer, if there was memory for it.
+    /// Writes a result, if there was memory for it.
     pub fn made<T: Debug + Drop>(&mut self, answer: Result<T, AllocError>) -> Answered {
         self.told(answer?)
     }
@@ -51,14 +51,14 @@ impl Transcript {
         Ok(true)
     }
 
-    /// Reports that a call without an answer was made, if there was memory for it.
+    /// Reports that a call without a result was made, if there was memory for it.
     pub fn did(&mut self, done: Result<(), AllocError>) -> Answered {
         done?;
         Ok(true)
     }
 
-    /// Writes what a walk gives: of more than a hundred items how many there are, the first, the
-    /// last and a checksum of all.
+    /// Writes what an iterator gives. For more than a hundred items it writes their number, the
+    /// first, the last and a checksum of all.
     pub fn walked<T: Ord + Debug + Drop, I: IntoIterator<Item = T>>(&mut self, walk: I) -> Answered
         requires { IsFiniteIterable I.into_iter_gives I.IntoIter.can_next I.IntoIter.remaining
             walk }
@@ -67,7 +67,7 @@ impl Transcript {
         self.listed(list, walk)
     }
 
-    /// Writes a first item and what a walk gives behind it.
+    /// Writes a first item and what an iterator gives after it.
     pub fn walked_from<T: Ord + Debug + Drop, I: IntoIterator<Item = T> + Drop>(
         &mut self,
         first: T,
@@ -81,7 +81,7 @@ impl Transcript {
         self.listed(list, walk)
     }
 
-    // Writes a list, and what a walk gives behind it.
+    // Writes a list, and what an iterator gives after it.
     fn listed<T: Ord + Debug + Drop, I: IntoIterator<Item = T>>(
         &mut self,
         mut list: Vec<T>,
@@ -109,8 +109,8 @@ impl Transcript {
         ))
     }
 
-    /// Writes what a value prints, where it is short and its order is not open; and the lines that
-    /// it prints in its long form within a list.
+    /// Writes what a value prints, if that is short and its order is specified, and then the lines
+    /// that it prints in its long form within a list.
     pub fn printed<T: Debug>(&mut self, value: &T) -> Answered {
         let short = format!(in self.alloc; "{value:?}")?;
         if short.len() <= MOST && !(self.is_sorted && short.as_str().contains(',')) {
@@ -121,10 +121,11 @@ impl Transcript {
     }
 }
 
-// Of more items than these a walk writes how many there are, the first, the last and a checksum.
+// For more items than these, an iterator is written by their number, the first, the last and a
+// checksum.
 const MOST: usize = 100;
 
-// A number that tells texts apart.
+// A checksum that tells texts apart.
 fn checksum(text: &str) -> u32 {
     let mut sum = 0u32;
     for byte in text.bytes() {
