@@ -27,7 +27,7 @@ pub use closures::{
 };
 pub use collected::{
     interspersed_lists_are_joined, interspersed_lists_have_their_places, results_are_read_whole,
-    results_make_a_vector,
+    results_make_a_vector, vectors_one_by_one_are_collected,
 };
 pub use ends::{
     chain_ends, cloned_ends, copied_ends, enumerate_ends, flat_map_ends, flatten_ends,

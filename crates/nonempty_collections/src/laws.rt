@@ -106,6 +106,7 @@ pub use ne_iter::laws::std_vectors_give_their_items;
 pub use ne_iter::laws::stopped_grouping_has_the_first_runs;
 pub use ne_iter::laws::take_ends;
 pub use ne_iter::laws::vectors_give_their_items;
+pub use ne_iter::laws::vectors_one_by_one_are_collected;
 pub use ne_iter::laws::whole_reading_gives_the_division;
 pub use ne_iter::laws::writing_walks_show_their_items;
 pub use ne_iter::laws::zip_ends;

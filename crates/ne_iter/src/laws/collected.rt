@@ -1,5 +1,6 @@
 //! Laws about collecting, and about lists with separators.
-ghost use Rattle.std.specs.Prelude.{◌≡◌, ◌+◌, ◌-◌, ◌*◌, ℕ, true, List, [], ◌∷◌, ◌++◌, Option, Some};
+ghost use Rattle.std.specs.Prelude.{◌≡◌, ◌↔◌, ◌+◌, ◌-◌, ◌*◌, ℕ, true, List, [], ◌∷◌, ◌++◌};
+ghost use Rattle.std.specs.Prelude.{Option, Some};
 ghost use Rattle.std.specs.Prelude.{Result, Ok, Err, is_ok, MatchResult, IsSomeAnd, IfOk, length};
 ghost use Rattle.std.specs.Prelude.{map, slice_get};
 ghost use Rattle.std.specs.List.{flat_map, join_by, list_all};
@@ -7,8 +8,20 @@ ghost use Rattle.ne_iter.specs.Clones.{TriesClone};
 ghost use Rattle.ne_iter.specs.Interspersed.{Interspersed, interspersed};
 
 use crate::iter::{FromNonEmptyIterator, SourceWords};
-use ne_vec::NEVec;
+use ne_vec::{NEVec, Singleton};
 use std::alloc::AllocError;
+
+/// Items that are added one by one, by `singleton` and then `extend_one`, make what they make when
+/// they are collected. Two vectors made from the same items are the same list.
+pub fn vectors_one_by_one_are_collected<T: Drop>()
+    ensures same_word { (items v : List T)
+        → ⟦<NEVec<T> as Singleton>⟧.collected items v
+        ↔ ⟦<NEVec<T> as FromNonEmptyIterator<T>>⟧.collected items v }
+    ensures same_list { (items v w : List T)
+        → ⟦<NEVec<T> as Singleton>⟧.collected items v
+        → ⟦<NEVec<T> as FromNonEmptyIterator<T>>⟧.collected items w
+        → v ≡ w }
+{}
 
 /// A vector collected from results holds the values if all results are `Ok`; otherwise the first
 /// `Err` is returned, and it came last.
