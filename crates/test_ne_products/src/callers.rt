@@ -1,11 +1,14 @@
 //! Products, distinct items, and sources that are one of two.
-ghost use Rattle.std.specs.Prelude.{◌≡◌, ◌/◌, ◌↔◌, IfOk, IsTrue, Ok, map, nat_eq};
+ghost use Rattle.std.specs.Prelude.{◌≡◌, ◌/◌, ◌↔◌, ℕ, List, IfOk, IsTrue, Ok, map, nat_eq};
 ghost use Rattle.std.specs.List.{IsDistinct};
+ghost use Rattle.ne_iter.specs.Gives.{GivesList};
 ghost use Rattle.ne_products.specs.Pairs.{cartesian_product};
+ghost use Rattle.ne_products.specs.Restarts.{ClonesAgain, NeverRefuses};
 ghost use Rattle.ne_products.specs.Sides.{by_side};
 
+use nonempty_collections::iter::SourceWords;
 use nonempty_collections::{
-    IntoNonEmptyIterator, NEEither, NEVec, NonEmptyIterator, NonEmptyItertools,
+    IntoNonEmptyIterator, NEEither, NEVec, NonEmptyIterator, NonEmptyItertools, laws,
 };
 use std::alloc::{AllocError, Global};
 
@@ -49,4 +52,33 @@ pub fn halves_of_either(
     ensures { IfOk result (λ v. v ≡ map (λ x. x / 2) (by_side (λ l. l) (λ r. r) source)) }
 {
     source.into_nonempty_iter().map(|x| x / 2).collect(alloc)
+}
+
+/// Returns each item of one source paired with each item of another, for any types of source.
+///
+/// A generic function knows nothing of its sources but their bounds, so it calls the law of the
+/// product, and two lines of its proof name the lists.
+pub fn pairs_of_any_sources<S, U>(
+    alloc: Global,
+    rows: S,
+    columns: U,
+) -> Result<NEVec<Result<(u32, u32), AllocError>>, AllocError>
+where
+    S: NonEmptyIterator<Item = u32>,
+    U: NonEmptyIterator<Item = u32>,
+    U::IntoIter: Clone,
+    requires rows_end { ⟦<S as SourceWords>⟧.ends rows }
+    requires columns_end { ⟦<U as SourceWords>⟧.ends columns }
+    requires again { ClonesAgain U.into_iter_gives U.IntoIter.remaining U.IntoIter.is_clone
+        columns }
+    requires certain { NeverRefuses U.into_iter_gives U.IntoIter.is_infallible columns }
+    ensures { IfOk result (λ v. (xs ys : List ℕ)
+        → GivesList (⟦<S as SourceWords>⟧.reads) rows xs
+        → GivesList (⟦<U as SourceWords>⟧.reads) columns ys
+        → v ≡ map Ok (cartesian_product xs ys)) }
+{
+    laws::list_of_cartesian_product(&rows, &columns);
+    let product = rows.cartesian_product(columns);
+    laws::lists_are_read_whole(&product);
+    product.collect(alloc)
 }
