@@ -41,12 +41,17 @@ def write(path, text):
         it.write(text)
 
 
-def copy_into(folder):
-    """Copies the repository's files into the folder."""
+def files():
+    """Returns the paths of the repository's files."""
     listed = subprocess.run(
         ["git", "ls-files", "-z"], cwd=ROOT, capture_output=True, text=True, check=True
     )
-    for file in filter(None, listed.stdout.split("\0")):
+    return [it for it in listed.stdout.split("\0") if it]
+
+
+def copy_into(folder):
+    """Copies the repository's files into the folder."""
+    for file in files():
         to = os.path.join(folder, file)
         os.makedirs(os.path.dirname(to), exist_ok=True)
         shutil.copy(os.path.join(ROOT, file), to)

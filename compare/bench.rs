@@ -1,7 +1,8 @@
 // The workloads of `crates/test_bench` on the Rust crate `nonempty-collections`. The port's speed
 // is compared with them. The steps and the numbers are those of the port.
 use nonempty_collections::{
-    IntoNonEmptyIterator, NEBTreeMap, NEBTreeSet, NEIndexMap, NEIndexSet, NEMap, NESet, NEVec, NonEmptyIterator, NonEmptyItertools,
+    IntoNonEmptyIterator, NEBTreeMap, NEBTreeSet, NEIndexMap, NEIndexSet, NEMap, NESet, NEVec,
+    NonEmptyIterator, NonEmptyItertools,
 };
 use std::collections::{BTreeMap, HashMap};
 use std::hash::{BuildHasherDefault, Hasher, RandomState};
@@ -39,9 +40,7 @@ fn sized(word: &str) -> Option<NonZeroUsize> {
 }
 
 fn next(state: u64) -> u64 {
-    state
-        .wrapping_mul(6_364_136_223_846_793_005)
-        .wrapping_add(1_442_695_040_888_963_407)
+    state.wrapping_mul(6_364_136_223_846_793_005).wrapping_add(1_442_695_040_888_963_407)
 }
 
 fn mixed(checksum: u64, x: u64) -> u64 {
@@ -189,11 +188,7 @@ fn chunks(n: NonZeroUsize) -> u64 {
 
 fn chain(n: NonZeroUsize) -> u64 {
     let items = scrambled(n).into_nonempty_iter();
-    let kept: Vec<u64> = items
-        .map(|x| x.wrapping_mul(3))
-        .take(n)
-        .filter(|x| *x % 4 != 0)
-        .collect();
+    let kept: Vec<u64> = items.map(|x| x.wrapping_mul(3)).take(n).filter(|x| *x % 4 != 0).collect();
     let mut checksum = 0u64;
     for x in &kept {
         checksum = mixed(checksum, *x);
@@ -284,7 +279,6 @@ fn scan(n: NonZeroUsize) -> u64 {
     checksum
 }
 
-
 fn hash_map(n: NonZeroUsize) -> u64 {
     let items = paired(n).into_nonempty_iter();
     let map: HashMap<u64, u64> = items.collect();
@@ -316,8 +310,12 @@ fn listed(name: &str, n: NonZeroUsize) -> Option<u64> {
         "vector_run" | "vector_directly" => vector_directly(vector_calls(n)),
         "map_calls" => map_calls(n).len() as u64,
         "tree_run" | "tree_directly" => map_directly(NEBTreeMap::new(0, 0), map_calls(n)),
-        "hash_run" | "hash_directly" => map_directly(NEMap::with_hasher(Folding::default(), 0, 0), map_calls(n)),
-        "index_run" | "index_directly" => map_directly(NEIndexMap::with_hasher(Folding::default(), 0, 0), map_calls(n)),
+        "hash_run" | "hash_directly" => {
+            map_directly(NEMap::with_hasher(Folding::default(), 0, 0), map_calls(n))
+        }
+        "index_run" | "index_directly" => {
+            map_directly(NEIndexMap::with_hasher(Folding::default(), 0, 0), map_calls(n))
+        }
         _ => return None,
     })
 }
@@ -396,9 +394,13 @@ fn made_directly(items: &mut NEVec<u64>, call: VecCall) -> VecReply {
         VecCall::Push(x) => items.push(x),
         VecCall::Pop => return VecReply::Taken(items.pop()),
         VecCall::Remove(i) if len == 1 || i < len => return VecReply::Taken(items.remove(i)),
-        VecCall::SwapRemove(i) if len == 1 || i < len => return VecReply::Taken(items.swap_remove(i)),
+        VecCall::SwapRemove(i) if len == 1 || i < len => {
+            return VecReply::Taken(items.swap_remove(i))
+        }
         VecCall::Insert(i, x) if i <= len => items.insert(i, x),
-        VecCall::Remove(_) | VecCall::SwapRemove(_) | VecCall::Insert(_, _) => return VecReply::Refused,
+        VecCall::Remove(_) | VecCall::SwapRemove(_) | VecCall::Insert(_, _) => {
+            return VecReply::Refused
+        }
         VecCall::Truncate(n) => items.truncate(n),
         VecCall::Len => return VecReply::Len(items.len()),
     }
@@ -478,7 +480,8 @@ impl Hasher for Fold {
     fn write(&mut self, bytes: &[u8]) {
         let mut word = [0; 8];
         word.copy_from_slice(bytes);
-        let product = u128::from(self.0 ^ u64::from_le_bytes(word)) * u128::from(0x9e37_79b9_7f4a_7c15 ^ 16u64);
+        let product = u128::from(self.0 ^ u64::from_le_bytes(word))
+            * u128::from(0x9e37_79b9_7f4a_7c15 ^ 16u64);
         self.0 = product as u64 ^ (product >> 64) as u64;
     }
 }
@@ -490,7 +493,9 @@ fn keyed(name: &str, n: NonZeroUsize) -> Option<u64> {
         ("hash", None) => of::<NEMap<u64, u64, Folding>, NESet<u64, Folding>>(step, n),
         ("hash", Some(step)) => of::<NEMap<u64, u64>, NESet<u64>>(step, n),
         ("index", None) => of::<NEIndexMap<u64, u64, Folding>, NEIndexSet<u64, Folding>>(step, n),
-        ("index", Some(step)) => of::<NEIndexMap<u64, u64, RandomState>, NEIndexSet<u64, RandomState>>(step, n),
+        ("index", Some(step)) => {
+            of::<NEIndexMap<u64, u64, RandomState>, NEIndexSet<u64, RandomState>>(step, n)
+        }
         _ => None,
     }
 }
@@ -620,7 +625,11 @@ table!(NEBTreeMap<u64, u64>, NEBTreeMap::new, pair_in_order);
 table!(NEMap<u64, u64>, NEMap::new, pair_in_any);
 table!(NEMap<u64, u64, Folding>, |k, v| NEMap::with_hasher(Folding::default(), k, v), pair_in_any);
 table!(NEIndexMap<u64, u64, RandomState>, NEIndexMap::new, pair_in_order);
-table!(NEIndexMap<u64, u64, Folding>, |k, v| NEIndexMap::with_hasher(Folding::default(), k, v), pair_in_order);
+table!(
+    NEIndexMap<u64, u64, Folding>,
+    |k, v| NEIndexMap::with_hasher(Folding::default(), k, v),
+    pair_in_order
+);
 
 macro_rules! bag {
     ($set:ty, $item:expr) => {

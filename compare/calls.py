@@ -11,7 +11,15 @@ from program import HERE
 
 CRATE, TWIN = "test_replay", "replay"
 GREATEST = 2**32 - 1
-EDGES = sorted({x for power in range(33) for x in (2**power - 1, 2**power, 2**power + 1) if x <= GREATEST} | {0})
+EDGES = sorted(
+    {
+        x
+        for power in range(33)
+        for x in (2**power - 1, 2**power, 2**power + 1)
+        if x <= GREATEST
+    }
+    | {0}
+)
 # The closures, the simplest first. What those of PURE return depends only on the number that they
 # are passed; what the others return depends on their state too.
 PURE = ["same", "zero", "half", "tens", "digit", "falling"]
@@ -22,7 +30,11 @@ READS, CHANGES, MAKES = range(3)
 
 
 def lists(shortest, longest, values):
-    return [it for length in range(shortest, longest + 1) for it in itertools.product(values, repeat=length)]
+    return [
+        it
+        for length in range(shortest, longest + 1)
+        for it in itertools.product(values, repeat=length)
+    ]
 
 
 def single(values):
@@ -32,7 +44,16 @@ def single(values):
 def an_item(chance, items):
     """Returns a number that is often one of the vector's items, or next to one."""
     beside = min(GREATEST, chance.choice(items) + 1)
-    return chance.choice([chance.choice(items), chance.choice(items), beside, chance.randrange(10), chance.choice(EDGES), GREATEST])
+    return chance.choice(
+        [
+            chance.choice(items),
+            chance.choice(items),
+            beside,
+            chance.randrange(10),
+            chance.choice(EDGES),
+            GREATEST,
+        ]
+    )
 
 
 def a_place(chance, items):
@@ -50,32 +71,74 @@ def like_vector(chance, items):
     """Returns the vector's items, or nearly the same items."""
     at = chance.randrange(len(items))
     changed = (*items[:at], an_item(chance, items), *items[at + 1 :])
-    return chance.choice([items, items[: at + 1], (*items, an_item(chance, items)), changed, (an_item(chance, items),)])
+    return chance.choice(
+        [
+            items,
+            items[: at + 1],
+            (*items, an_item(chance, items)),
+            changed,
+            (an_item(chance, items),),
+        ]
+    )
 
 
 def some_calls(chance, items):
     """Returns a list of calls, each as the number of its kind and its own number."""
     turns = range(chance.choice([0, 1, 2, 5, 12]))
-    return tuple(x for _ in turns for x in (chance.randrange(8), chance.choice([a_place, an_item])(chance, items)))
+    return tuple(
+        x
+        for _ in turns
+        for x in (chance.randrange(8), chance.choice([a_place, an_item])(chance, items))
+    )
 
 
 # What the numbers of a call may be: the values in small scripts, in pairs of calls and in the
 # sample, and the random values for a vector.
 Kind = namedtuple("Kind", "small few telling random")
 KINDS = {
-    "item": Kind(single(range(4)), single([1]), single([5, 8]), lambda chance, items: (an_item(chance, items),)),
-    "pair": Kind(lists(2, 2, range(4)), [(1, 2)], [(1, 4), (3, 9)], lambda chance, items: (an_item(chance, items), an_item(chance, items))),
-    "place": Kind(single(range(5)), single([0, 2]), single([2, 7]), lambda chance, items: (a_place(chance, items),)),
-    "size": Kind(single(range(1, 5)), single([1, 2]), single([3, 9]), lambda chance, items: (a_place(chance, items),)),
+    "item": Kind(
+        single(range(4)),
+        single([1]),
+        single([5, 8]),
+        lambda chance, items: (an_item(chance, items),),
+    ),
+    "pair": Kind(
+        lists(2, 2, range(4)),
+        [(1, 2)],
+        [(1, 4), (3, 9)],
+        lambda chance, items: (an_item(chance, items), an_item(chance, items)),
+    ),
+    "place": Kind(
+        single(range(5)),
+        single([0, 2]),
+        single([2, 7]),
+        lambda chance, items: (a_place(chance, items),),
+    ),
+    "size": Kind(
+        single(range(1, 5)),
+        single([1, 2]),
+        single([3, 9]),
+        lambda chance, items: (a_place(chance, items),),
+    ),
     # a size of what is made, or how often something is done; never far above the length, see
     # EXCUSED
-    "count": Kind(single(range(1, 5)), single([2]), single([3, 9]), lambda chance, items: (chance.randrange(len(items) + 2),)),
+    "count": Kind(
+        single(range(1, 5)),
+        single([2]),
+        single([3, 9]),
+        lambda chance, items: (chance.randrange(len(items) + 2),),
+    ),
     "items": Kind(lists(0, 2, range(2)), [(), (0, 2)], [(5, 9, 2), ()], some_items),
-    "other": Kind(lists(1, 3, range(3)), [(1, 0)], [(3, 1, 4, 1, 5, 9, 2, 6), (7, 7, 0, 13)], like_vector),
+    "other": Kind(
+        lists(1, 3, range(3)), [(1, 0)], [(3, 1, 4, 1, 5, 9, 2, 6), (7, 7, 0, 13)], like_vector
+    ),
 }
 
 KINDS["calls"] = Kind(
-    [(*one, *other) for one, other in itertools.product(lists(2, 2, range(8)), [(), (2, 1), (7, 0)])],
+    [
+        (*one, *other)
+        for one, other in itertools.product(lists(2, 2, range(8)), [(), (2, 1), (7, 0)])
+    ],
     [(0, 5, 3, 0, 1, 0)],
     [(0, 7, 4, 2, 2, 1, 7, 0, 1, 0), (6, 0, 3, 0, 5, 3, 2, 9, 4, 9, 7, 0)],
     some_calls,
@@ -96,11 +159,21 @@ ROWS = [
     ("truncate", NONE, "size", CHANGES),
     ("run_vec", NONE, "calls", CHANGES),
     ("as_mut_slice reverse pop dedup sort", NONE, "", CHANGES),
-    ("iter_mut nonempty_iter_mut for_mut retain retain_mut dedup_by dedup_by_key", ANY, "", CHANGES),
+    (
+        "iter_mut nonempty_iter_mut for_mut retain retain_mut dedup_by dedup_by_key",
+        ANY,
+        "",
+        CHANGES,
+    ),
     ("sort_by sort_by_key", PURE, "", CHANGES),
     ("binary_search", NONE, "item", READS),
     ("binary_search_by binary_search_by_key partition_point", PURE, "item", READS),
-    ("first last len is_empty capacity as_ref split_first split clone into_vec debug", NONE, "", READS),
+    (
+        "first last len is_empty capacity as_ref split_first split clone into_vec debug",
+        NONE,
+        "",
+        READS,
+    ),
     ("iter nonempty_iter nonempty_iter_clone into_iter ref_into_iter", NONE, "", READS),
     ("into_nonempty_iter ref_into_nonempty_iter", NONE, "", READS),
     ("get index", NONE, "place", READS),
@@ -159,23 +232,30 @@ EXCUSED = [
         "Rust's sorts may panic, and leave the order open, where a closure makes no total order",
     ),
     (
-        "binary_search, binary_search_by, binary_search_by_key, partition_point: closures with state, and vectors in another order",
+        "binary_search, binary_search_by, binary_search_by_key, partition_point: closures with "
+        "state, and vectors in another order",
         "Rust leaves the answer open, so the matching sort stands before each",
     ),
     (
         "how often the closure of a sort or a search is called",
-        "the standard library's affair, and no part of what either says; both programs call a copy, which is not counted",
+        "the standard library's affair, and no part of what either says; both programs call a "
+        "copy, which is not counted",
     ),
     (
         "from_elem, with_capacity, nev_many: sizes far above the length",
         "where there is no memory the Rust crate ends the process, and the port answers AllocError",
     ),
     (
-        "remove, swap_remove, insert, index, index_mut: places out of range, but for the removals at length one",
-        "the Rust crate panics; in the port that they are in range is a condition of the call. Both programs say so and make no call",
+        "remove, swap_remove, insert, index, index_mut: places out of range, but for the removals "
+        "at length one",
+        "the Rust crate panics; in the port that they are in range is a condition of the call. "
+        "Both programs say so and make no call",
     ),
     ("capacity: how much", "the standard library's affair; told is that it is at least the length"),
-    ("collect_hash_map, collect_hash_set: the order", "it is open in both; told are the size and what is found"),
+    (
+        "collect_hash_map, collect_hash_set: the order",
+        "it is open in both; told are the size and what is found",
+    ),
     ("shuffle, choose, serde", "features of the Rust crate that ask for crates besides"),
     ("group_by_stopped: far more turns than there are runs", "no difference: each turn is written"),
 ]
@@ -194,7 +274,9 @@ def prepared(call):
 def is_allowed(script):
     """Returns whether a script begins with its vector, and has each search right after its sort."""
     behind = zip(script, script[1:])
-    searches = all(first[:2] == (SORTS[name], closure) for first, (name, closure, _) in behind if name in SORTS)
+    searches = all(
+        first[:2] == (SORTS[name], closure) for first, (name, closure, _) in behind if name in SORTS
+    )
     return script[0][0] == "try_from_vec" and bool(script[0][2]) and searches
 
 
@@ -211,7 +293,12 @@ def small_scripts():
     single_calls = [call for name in NAMES for call in each_call(name, lambda kind: kind.small)]
     for items in lists(1, 3, range(3)):
         yield from ([setting(items), *prepared(call)] for call in single_calls)
-    changes = [call for name in NAMES if CALLS[name].does != READS for call in each_call(name, lambda kind: kind.few)]
+    changes = [
+        call
+        for name in NAMES
+        if CALLS[name].does != READS
+        for call in each_call(name, lambda kind: kind.few)
+    ]
     for items, *pair in itertools.product(lists(1, 2, range(3)), changes, changes):
         yield [setting(items), *pair]
 
@@ -219,7 +306,9 @@ def small_scripts():
 def a_vector(chance, length):
     """Returns a vector with few or many different items."""
     few = chance.sample(range(10), chance.randint(1, 4))
-    pool = chance.choice([few, range(10), range(100), EDGES, [chance.randrange(2**32) for _ in range(30)]])
+    pool = chance.choice(
+        [few, range(10), range(100), EDGES, [chance.randrange(2**32) for _ in range(30)]]
+    )
     items = chance.choices(pool, k=length)
     return tuple(sorted(items) if chance.random() < 0.2 else items)
 
@@ -356,11 +445,18 @@ def parsed(table):
     """Returns the script that the rows of a table write."""
     split = [row.split() for row in table.strip().splitlines()]
     named = [(name, [it for it in words if not it.isdigit()], words) for name, *words in split]
-    return [(name, "".join(closure), tuple(it for it in words if it.isdigit())) for name, closure, words in named]
+    return [
+        (name, "".join(closure), tuple(it for it in words if it.isdigit()))
+        for name, closure, words in named
+    ]
 
 
 def scripts(chance, count):
-    return {"small": small_scripts(), "random": random_scripts(chance, count), "long": long_scripts(chance)}
+    return {
+        "small": small_scripts(),
+        "random": random_scripts(chance, count),
+        "long": long_scripts(chance),
+    }
 
 
 def counted(script):
@@ -375,8 +471,14 @@ def sample():
     for turn, items in enumerate([(3, 1, 4, 1, 5, 9, 2, 6), (7, 7, 0, 12, 12, 35, GREATEST)]):
         is_set = False
         for name, row in CALLS.items():
-            closure = {1: "", len(PURE): ["half", "falling"][turn], len(ANY): ["half", "pairs"][turn]}[len(row.closures)]
-            calls = prepared((name, closure, tuple(itertools.chain(*(kind.telling[turn] for kind in row.kinds)))))
+            closure = {
+                1: "",
+                len(PURE): ["half", "falling"][turn],
+                len(ANY): ["half", "pairs"][turn],
+            }[len(row.closures)]
+            calls = prepared(
+                (name, closure, tuple(itertools.chain(*(kind.telling[turn] for kind in row.kinds))))
+            )
             script += calls if is_set or row.does == MAKES else [setting(items), *calls]
             is_set = all(CALLS[it].does == READS for it, _, _ in calls)
     return script

@@ -5,7 +5,20 @@ values in turn. Two keys are equal if their halves are equal."""
 import itertools
 from collections import namedtuple
 
-from calls import CHANGES, EDGES, GREATEST, MAKES, READS, Kind, a_place, an_item, arms, lists, parsed, single
+from calls import (
+    CHANGES,
+    EDGES,
+    GREATEST,
+    MAKES,
+    READS,
+    Kind,
+    a_place,
+    an_item,
+    arms,
+    lists,
+    parsed,
+    single,
+)
 
 CRATE, TWIN = "test_replay_keyed", "replay_keyed"
 MAPS = ["tree_map", "hashed_map", "indexed_map"]
@@ -27,7 +40,9 @@ def some_keys(chance, keys):
 def like_keys(chance, keys):
     """Returns all keys, or nearly all, or the first of them, or some, in any order. Each is as it
     is, or is replaced by the key that equals it."""
-    keys = chance.choice([keys, keys[: len(keys) // 2 + 1], (*keys, an_item(chance, keys)), some_keys(chance, keys)])
+    keys = chance.choice(
+        [keys, keys[: len(keys) // 2 + 1], (*keys, an_item(chance, keys)), some_keys(chance, keys)]
+    )
     keys = [key ^ chance.choice([0, 0, 1]) for key in keys] or [an_item(chance, [0])]
     return tuple(chance.sample(keys, len(keys)) if chance.random() < 0.5 else keys)
 
@@ -36,34 +51,71 @@ def same_pairs(chance, keys):
     """Returns pairs that make the same map, or nearly the same."""
     pairs = list(enumerate(keys, 1))
     chance.shuffle(pairs)
-    pairs = pairs if chance.random() < 0.5 else pairs[1:] + [(chance.randrange(9), an_item(chance, keys))]
+    pairs = (
+        pairs
+        if chance.random() < 0.5
+        else pairs[1:] + [(chance.randrange(9), an_item(chance, keys))]
+    )
     return tuple(itertools.chain(*((key, value) for value, key in pairs)))
 
 
 def some_calls(chance, keys):
     """Returns a list of calls, each as the number of its kind, its key and its value."""
     turns = range(chance.choice([0, 1, 2, 5, 12]))
-    return tuple(x for _ in turns for x in (chance.randrange(4), an_item(chance, keys), chance.randrange(9)))
+    return tuple(
+        x for _ in turns for x in (chance.randrange(4), an_item(chance, keys), chance.randrange(9))
+    )
 
 
 SMALL_MAPS = [valued(it) for it in lists(0, 2, range(3))]
 # What the numbers of a call may be, as in `calls.py`; the random values are made from the keys.
 KINDS = {
-    "key": Kind(single(range(4)), single([0, 3]), single([8, 5]), lambda chance, keys: (an_item(chance, keys),)),
-    "value": Kind(single([7]), single([7]), single([50, 60]), lambda chance, keys: (chance.choice([0, 1, 7, GREATEST]),)),
-    "place": Kind(single(range(3)), single([0, 1]), single([1, 7]), lambda chance, keys: (a_place(chance, keys),)),
+    "key": Kind(
+        single(range(4)),
+        single([0, 3]),
+        single([8, 5]),
+        lambda chance, keys: (an_item(chance, keys),),
+    ),
+    "value": Kind(
+        single([7]),
+        single([7]),
+        single([50, 60]),
+        lambda chance, keys: (chance.choice([0, 1, 7, GREATEST]),),
+    ),
+    "place": Kind(
+        single(range(3)),
+        single([0, 1]),
+        single([1, 7]),
+        lambda chance, keys: (a_place(chance, keys),),
+    ),
     # a size of what is made; never far above the length, see EXCUSED
-    "size": Kind(single(range(1, 3)), single([2]), single([3, 9]), lambda chance, keys: (chance.randrange(len(keys) + 2),)),
+    "size": Kind(
+        single(range(1, 3)),
+        single([2]),
+        single([3, 9]),
+        lambda chance, keys: (chance.randrange(len(keys) + 2),),
+    ),
     "keys": Kind(lists(0, 2, range(3)), [(), (1, 4)], [(9, 4, 20), (5, 11)], some_keys),
-    "pairs": Kind(SMALL_MAPS, [(), (1, 8, 4, 9)], [(9, 1, 4, 2, 20, 3), (5, 1, 11, 2)], lambda *made: valued(some_keys(*made))),
+    "pairs": Kind(
+        SMALL_MAPS,
+        [(), (1, 8, 4, 9)],
+        [(9, 1, 4, 2, 20, 3), (5, 1, 11, 2)],
+        lambda *made: valued(some_keys(*made)),
+    ),
     "calls": Kind(
-        [(kind, key, 7, *other) for kind, key in lists(2, 2, range(4)) for other in [(), (0, 2, 8), (2, 2, 0)]],
+        [
+            (kind, key, 7, *other)
+            for kind, key in lists(2, 2, range(4))
+            for other in [(), (0, 2, 8), (2, 2, 0)]
+        ],
         [(0, 1, 7, 1, 4, 8, 3, 0, 0)],
         [(0, 8, 50, 1, 5, 60, 2, 9, 0, 3, 0, 0), (1, 5, 1, 1, 4, 2, 0, 30, 3, 2, 31, 0, 3, 0, 0)],
         some_calls,
     ),
     "other": Kind(lists(1, 2, range(4)), [(1, 4)], [(3, 1, 4, 15, 9), (13, 0, 2, 9, 7)], like_keys),
-    "map": Kind(SMALL_MAPS[1:], [(1, 8)], [(9, 2, 3, 1), (13, 6, 0, 4, 2, 2, 9, 7, 7, 5)], same_pairs),
+    "map": Kind(
+        SMALL_MAPS[1:], [(1, 8)], [(9, 2, 3, 1), (13, 6, 0, 4, 2, 2, 9, 7, 7, 5)], same_pairs
+    ),
 }
 
 # Names of calls, the kinds of maps and sets that have them, the kinds of their numbers, and what
@@ -83,7 +135,12 @@ ROWS = [
     ("shrink_to_fit", MAPS[1:] + SETS[1:], "", CHANGES),
     ("len as_ref debug clone", SUBJECTS, "", READS),
     ("is_empty capacity", MAPS[1:] + SETS[1:], "", READS),
-    ("iter nonempty_iter ref_into_iter ref_into_nonempty_iter into_iter into_nonempty_iter", SUBJECTS, "", READS),
+    (
+        "iter nonempty_iter ref_into_iter ref_into_nonempty_iter into_iter into_nonempty_iter",
+        SUBJECTS,
+        "",
+        READS,
+    ),
     ("keys values into_map", MAPS, "", READS),
     ("contains_key get get_key_value", MAPS, "key", READS),
     ("eq", MAPS, "map", READS),
@@ -100,7 +157,12 @@ ROWS = [
     ("reserve", SETS[1:], "size", CHANGES),
     ("into_set", SETS, "", READS),
     ("contains get", SETS, "key", READS),
-    ("eq is_disjoint is_subset is_superset difference intersection union union_next", SETS, "other", READS),
+    (
+        "eq is_disjoint is_subset is_superset difference intersection union union_next",
+        SETS,
+        "other",
+        READS,
+    ),
 ]
 Row = namedtuple("Row", "kinds does")
 CALLS = {
@@ -117,16 +179,28 @@ EXCUSED = [
     ),
     (
         "index, swap_indices: places out of range",
-        "the Rust crate panics; in the port that they are in range is a condition of the call. Both programs say so and make no call",
+        "the Rust crate panics; in the port that they are in range is a condition of the call. "
+        "Both programs say so and make no call",
     ),
     (
-        "intersection of tree sets, where one has 16 times the items of the other, or its set is not known",
-        "where the first set is so much larger Rust's std may give the second set's one of two equal items; the port gives the first set's",
+        "intersection of tree sets, where one has 16 times the items of the other, or its set is "
+        "not known",
+        "where the first set is so much larger Rust's std may give the second set's one of two "
+        "equal items; the port gives the first set's",
     ),
     ("capacity: how much", "the standard library's affair; told is that it is at least the length"),
-    ("hashed maps and sets: the order of walks and of what is printed", "it is open in both; told is what they give, sorted"),
-    ("hasher", "a hasher has no equality; tests of the crates hold that the one that was given is kept"),
-    ("as_mut, values_mut and writing walks of index maps, Debug of walks", "the port leaves them out"),
+    (
+        "hashed maps and sets: the order of walks and of what is printed",
+        "it is open in both; told is what they give, sorted",
+    ),
+    (
+        "hasher",
+        "a hasher has no equality; tests of the crates hold that the one that was given is kept",
+    ),
+    (
+        "as_mut, values_mut and writing walks of index maps, Debug of walks",
+        "the port leaves them out",
+    ),
 ]
 
 
@@ -149,7 +223,11 @@ def is_open(script, call):
 def is_allowed(script):
     """Returns whether a script begins with its map or set, and makes only calls that it has, none
     of which is open."""
-    if script[0][0] not in SUBJECTS or not script[0][2] or not all(call in CALLS for call in counted(script)):
+    if (
+        script[0][0] not in SUBJECTS
+        or not script[0][2]
+        or not all(call in CALLS for call in counted(script))
+    ):
         return False
     return not any(is_open(script[:place], script[place]) for place in range(1, len(script)))
 
@@ -159,7 +237,11 @@ def setting(subject, keys):
 
 
 def names_of(subject, *does):
-    return [name for (it, name), row in CALLS.items() if it == subject and (row.does in does or not does)]
+    return [
+        name
+        for (it, name), row in CALLS.items()
+        if it == subject and (row.does in does or not does)
+    ]
 
 
 def each_call(subject, name, values):
@@ -172,16 +254,28 @@ def small_scripts():
     """Yields each call on each map and set of one to three small keys, and each pair of calls that
     change it on each map and set of one or two."""
     for subject in SUBJECTS:
-        single_calls = [call for name in names_of(subject) for call in each_call(subject, name, lambda kind: kind.small)]
+        single_calls = [
+            call
+            for name in names_of(subject)
+            for call in each_call(subject, name, lambda kind: kind.small)
+        ]
         for keys, call in itertools.product(lists(1, 3, range(4)), single_calls):
             yield [setting(subject, keys), call]
-        changes = [call for name in names_of(subject, CHANGES, MAKES) for call in each_call(subject, name, lambda kind: kind.few)]
+        changes = [
+            call
+            for name in names_of(subject, CHANGES, MAKES)
+            for call in each_call(subject, name, lambda kind: kind.few)
+        ]
         for keys, *pair in itertools.product(lists(1, 2, range(3)), changes, changes):
             yield [setting(subject, keys), *pair]
 
 
 def a_call(chance, subject, name, keys):
-    return name, "", tuple(itertools.chain(*(kind.random(chance, keys) for kind in CALLS[subject, name].kinds)))
+    return (
+        name,
+        "",
+        tuple(itertools.chain(*(kind.random(chance, keys) for kind in CALLS[subject, name].kinds))),
+    )
 
 
 def random_scripts(chance, count):
@@ -190,7 +284,15 @@ def random_scripts(chance, count):
         left, names = count, names_of(subject)
         while left > 0:
             size = min(left, chance.randint(1, 12))
-            pool = chance.choice([range(10), range(10), range(100), EDGES, [chance.randrange(2**32) for _ in range(30)]])
+            pool = chance.choice(
+                [
+                    range(10),
+                    range(10),
+                    range(100),
+                    EDGES,
+                    [chance.randrange(2**32) for _ in range(30)],
+                ]
+            )
             keys = tuple(chance.choices(pool, k=chance.randint(1, 40)))
             script = [setting(subject, keys)]
             while len(script) <= size:
@@ -215,7 +317,11 @@ def long_scripts(chance):
 
 
 def scripts(chance, count):
-    return {"small": small_scripts(), "random": random_scripts(chance, count), "long": long_scripts(chance)}
+    return {
+        "small": small_scripts(),
+        "random": random_scripts(chance, count),
+        "long": long_scripts(chance),
+    }
 
 
 # Worked rows, at the front of the sample. Each is a small example of its call. Keys are even,
@@ -295,7 +401,10 @@ eq 3
 # Rows for some kinds of maps and sets only. Those with room are hashed or indexed.
 TRIED_ROWS = "try_from\ntry_from 4 1 2 2"
 WRITTEN_ROWS = "collect 2 0 4 1\niter_mut 1\nnonempty_iter_mut 2\nmut_into_iter 3"
-ROOM_ROWS = "with_capacity {numbers} 9\ncapacity 9\nwith_capacity_and_hasher {numbers} 8\ncapacity 8\nshrink_to_fit\nis_empty"
+ROOM_ROWS = (
+    "with_capacity {numbers} 9\ncapacity 9\nwith_capacity_and_hasher {numbers} 8\ncapacity 8\n"
+    "shrink_to_fit\nis_empty"
+)
 RESERVE_ROWS = "new 2\nreserve 20\ncapacity 21\nextend 4 3\nshrink_to_fit\nlen"
 PLACE_ROWS = """
 collect 0 1 2 2 4 3 6 4 8 5 10 6
@@ -326,7 +435,9 @@ def rows():
     for subject in SUBJECTS:
         tables = [MAP_ROWS if subject in MAPS else SET_ROWS]
         tables += [TRIED_ROWS, WRITTEN_ROWS] * (subject in MAPS[:2])
-        tables += [ROOM_ROWS.format(numbers="2 1" if subject in MAPS else "2")] * (subject not in ("tree_map", "tree_set"))
+        tables += [ROOM_ROWS.format(numbers="2 1" if subject in MAPS else "2")] * (
+            subject not in ("tree_map", "tree_set")
+        )
         tables += [RESERVE_ROWS] * (subject in SETS[1:]) + [PLACE_ROWS] * (subject == "indexed_map")
         script += [setting(subject, (2,)), *parsed("\n".join(map(str.strip, tables)))]
     subsets = [keys for length in (1, 2, 3) for keys in itertools.combinations((0, 2, 4), length)]
@@ -339,9 +450,18 @@ def large(count):
     """Returns the numbers of each kind for a call on so many keys: a known key and another one, and
     half as many keys again. The programs write out `COUNT*STEP`."""
     keys = f"{3 * count}*7919"
-    values = {"key": (count, 2 * count), "value": (7, 8), "place": (0, count - 1), "size": (count, 2), "map": (f"{2 * count}*7919", keys)}
+    values = {
+        "key": (count, 2 * count),
+        "value": (7, 8),
+        "place": (0, count - 1),
+        "size": (count, 2),
+        "map": (f"{2 * count}*7919", keys),
+    }
     values |= {"keys": (keys,) * 2, "pairs": (keys,) * 2, "other": (keys, f"{2 * count}*1")}
-    values["calls"] = (f"0 {count} 7 1 {4 * count} 8 2 0 0 3 0 0", f"0 {4 * count} 7 1 {count} 8 2 {9 * count} 0")
+    values["calls"] = (
+        f"0 {count} 7 1 {4 * count} 8 2 0 0 3 0 0",
+        f"0 {4 * count} 7 1 {count} 8 2 {9 * count} 0",
+    )
     return {id(KINDS[kind]): [(number,) for number in numbers] for kind, numbers in values.items()}
 
 
@@ -354,7 +474,10 @@ def each(subject, turn, begin, values):
             is_single = sum(it == name for _, it in CALLS) == 1
             for again in range(1 + is_single):
                 kinds = CALLS[subject, name].kinds
-                numbers = (values(it)[(turn + again + kinds[:place].count(it)) % 2] for place, it in enumerate(kinds))
+                numbers = (
+                    values(it)[(turn + again + kinds[:place].count(it)) % 2]
+                    for place, it in enumerate(kinds)
+                )
                 script.append((name, "", tuple(itertools.chain(*numbers))))
                 is_whole = any(it in (KINDS["keys"], KINDS["pairs"]) for it in kinds)
                 script += [WALK] * (is_whole or name.endswith("iter_mut") or name == "swap_indices")
@@ -366,11 +489,15 @@ def sample():
     These keys are in scrambled order, and at last in rising and in falling order."""
     script = rows()
     for turn, subject in enumerate(SUBJECTS):
-        script += each(subject, turn, setting(subject, (6, 3, 8, 1, 7, 12, 9)), lambda kind: kind.telling)
+        script += each(
+            subject, turn, setting(subject, (6, 3, 8, 1, 7, 12, 9)), lambda kind: kind.telling
+        )
     for count in 1, 2, 10, 10_000:
         values, twice = large(count), 2 * count
         for turn, subject in enumerate(SUBJECTS):
-            script += each(subject, turn, (subject, "", (f"{twice}*7919",)), lambda kind: values[id(kind)])
+            script += each(
+                subject, turn, (subject, "", (f"{twice}*7919",)), lambda kind: values[id(kind)]
+            )
             for step in 1, twice - 1:
                 script += [(subject, "", (f"{twice}*{step}",)), WALK]
     return script

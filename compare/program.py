@@ -24,11 +24,19 @@ def build(name="ne_runs", status=2):
     """Proves and builds the program of the crate of this name, and returns its path. `status` is
     the exit status of a run without words and without input."""
     crate = os.path.join(HERE, os.pardir, "crates", name)
-    how = {"cwd": crate, "stdin": subprocess.DEVNULL, "stdout": subprocess.DEVNULL, "stderr": subprocess.PIPE}
+    how = {
+        "cwd": crate,
+        "stdin": subprocess.DEVNULL,
+        "stdout": subprocess.DEVNULL,
+        "stderr": subprocess.PIPE,
+    }
     # without words, a program that takes one prints its usage and ends with status 2
     ran = subprocess.run(["rt", "run"], **how)
     if ran.returncode != status or status == 2 and f"usage: {name} ".encode() not in ran.stderr:
-        sys.exit(f"the program is not proved, or not built:\n{ran.stderr.decode(errors='replace')[-2000:]}")
+        sys.exit(
+            "the program is not proved, or not built:\n"
+            + ran.stderr.decode(errors="replace")[-2000:]
+        )
     return os.path.abspath(os.path.join(crate, "out", name))
 
 
@@ -39,7 +47,11 @@ def built_twin(folder, name):
     programs = os.path.join(folder, "src", "bin")
     os.makedirs(programs, exist_ok=True)
     shutil.copy(os.path.join(HERE, f"{name}.rs"), os.path.join(programs, f"{name}.rs"))
-    subprocess.run(["cargo", "build", "--release", "--offline", "--quiet", "--bin", name], cwd=folder, check=True)
+    subprocess.run(
+        ["cargo", "build", "--release", "--offline", "--quiet", "--bin", name],
+        cwd=folder,
+        check=True,
+    )
     return os.path.abspath(os.path.join(folder, "target", "release", name))
 
 

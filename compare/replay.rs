@@ -3,7 +3,8 @@
 #![allow(deprecated)]
 use nonempty_collections::iter::once;
 use nonempty_collections::{
-    nev, IntoIteratorExt, IntoNonEmptyIterator, NESlice, NEVec, NonEmptyArrayExt, NonEmptyIterator, NonEmptyItertools, Singleton,
+    nev, IntoIteratorExt, IntoNonEmptyIterator, NESlice, NEVec, NonEmptyArrayExt, NonEmptyIterator,
+    NonEmptyItertools, Singleton,
 };
 use std::borrow::Cow;
 use std::cell::Cell;
@@ -37,7 +38,10 @@ fn replayed(script: &str) -> Result<String, fmt::Error> {
 }
 
 fn answered(items: &mut NEVec<u32>, call: &Call, text: &mut String) -> Result<bool, fmt::Error> {
-    Ok(changed(items, call, text)? || read(items, call, text)? || consumed(items, call, text)? || chained(items, call, text)?)
+    Ok(changed(items, call, text)?
+        || read(items, call, text)?
+        || consumed(items, call, text)?
+        || chained(items, call, text)?)
 }
 
 fn changed(items: &mut NEVec<u32>, call: &Call, text: &mut String) -> Result<bool, fmt::Error> {
@@ -227,7 +231,11 @@ fn vector_made(items: &mut NEVec<u32>, call: &Call) -> Result<bool, fmt::Error> 
     Ok(true)
 }
 
-fn vector_tried(items: &mut NEVec<u32>, call: &Call, text: &mut String) -> Result<bool, fmt::Error> {
+fn vector_tried(
+    items: &mut NEVec<u32>,
+    call: &Call,
+    text: &mut String,
+) -> Result<bool, fmt::Error> {
     let numbers = call.numbers.clone();
     let made = match call.name {
         "try_from_vec" => NEVec::try_from_vec(numbers),
@@ -304,7 +312,11 @@ fn hashed<T: Hash>(value: &T) -> u64 {
     hasher.finish()
 }
 
-fn vector_written(items: &mut NEVec<u32>, call: &Call, text: &mut String) -> Result<bool, fmt::Error> {
+fn vector_written(
+    items: &mut NEVec<u32>,
+    call: &Call,
+    text: &mut String,
+) -> Result<bool, fmt::Error> {
     let closure = &call.closure;
     match call.name {
         "first_mut" => *items.first_mut() = call.last,
@@ -337,7 +349,11 @@ fn vector_written(items: &mut NEVec<u32>, call: &Call, text: &mut String) -> Res
     Ok(true)
 }
 
-fn vector_edited(items: &mut NEVec<u32>, call: &Call, text: &mut String) -> Result<bool, fmt::Error> {
+fn vector_edited(
+    items: &mut NEVec<u32>,
+    call: &Call,
+    text: &mut String,
+) -> Result<bool, fmt::Error> {
     match call.name {
         "push" => items.push(call.first),
         "pop" => write!(text, "{:?}", items.pop())?,
@@ -393,7 +409,8 @@ fn listed_paired(items: &NEVec<u32>, call: &Call, text: &mut String) -> Result<b
     match call.name {
         "cartesian_product" => {
             let other = NEVec::from((call.first, call.rest().to_vec()));
-            let pairs: NEVec<(u32, u32)> = source.cartesian_product(other.nonempty_iter().copied()).collect();
+            let pairs: NEVec<(u32, u32)> =
+                source.cartesian_product(other.nonempty_iter().copied()).collect();
             write!(text, "{pairs:?}")?;
         }
         "all_unique" => write!(text, "{:?}", source.all_unique())?,
@@ -431,15 +448,23 @@ fn vector_kept(items: &mut NEVec<u32>, call: &Call, text: &mut String) -> Result
     Ok(true)
 }
 
-fn vector_ordered(items: &mut NEVec<u32>, call: &Call, text: &mut String) -> Result<bool, fmt::Error> {
+fn vector_ordered(
+    items: &mut NEVec<u32>,
+    call: &Call,
+    text: &mut String,
+) -> Result<bool, fmt::Error> {
     let (closure, x) = (call.closure.anew(), call.first);
     match call.name {
         "sort" => items.sort(),
         "sort_by" => items.sort_by(|x, y| closure.order(*x, *y)),
         "sort_by_key" => items.sort_by_key(|x| closure.of(*x)),
         "binary_search" => write!(text, "{:?}", items.binary_search(&x))?,
-        "binary_search_by" => write!(text, "{:?}", items.binary_search_by(|y| closure.of(*y).cmp(&x)))?,
-        "binary_search_by_key" => write!(text, "{:?}", items.binary_search_by_key(&x, |y| closure.of(*y)))?,
+        "binary_search_by" => {
+            write!(text, "{:?}", items.binary_search_by(|y| closure.of(*y).cmp(&x)))?
+        }
+        "binary_search_by_key" => {
+            write!(text, "{:?}", items.binary_search_by_key(&x, |y| closure.of(*y)))?
+        }
         "partition_point" => write!(text, "{:?}", items.partition_point(|y| closure.of(*y) < x))?,
         _ => return Ok(false),
     }
@@ -482,7 +507,9 @@ fn slice_tried(items: &NEVec<u32>, call: &Call, text: &mut String) -> Result<boo
     let items = items.as_nonempty_slice();
     let Some(slice) = NESlice::try_from_slice(call.numbers.as_slice()) else {
         match call.name {
-            "slice_try_from" | "slice_eq" | "slice_cmp" | "slice_partial_cmp" | "slice_hash" => write!(text, "None")?,
+            "slice_try_from" | "slice_eq" | "slice_cmp" | "slice_partial_cmp" | "slice_hash" => {
+                write!(text, "None")?
+            }
             _ => return Ok(false),
         }
         return Ok(true);
@@ -527,7 +554,9 @@ fn sources_arrayed(call: &Call, text: &mut String) -> Result<bool, fmt::Error> {
         "array_slice" => write!(text, "{:?}", array.as_nonempty_slice())?,
         "array_vec" => write!(text, "{:?}", array.into_nonempty_vec())?,
         "array_iter" => write!(text, "{:?}", array.into_nonempty_iter().collect::<NEVec<u32>>())?,
-        "array_ref_iter" => write!(text, "{:?}", (&array).into_nonempty_iter().collect::<NEVec<&u32>>())?,
+        "array_ref_iter" => {
+            write!(text, "{:?}", (&array).into_nonempty_iter().collect::<NEVec<&u32>>())?
+        }
         _ => return Ok(false),
     }
     Ok(true)
@@ -566,16 +595,22 @@ fn consumers_asked(items: &NEVec<u32>, call: &Call, text: &mut String) -> Result
     Ok(true)
 }
 
-fn consumers_totalled(items: &NEVec<u32>, call: &Call, text: &mut String) -> Result<bool, fmt::Error> {
+fn consumers_totalled(
+    items: &NEVec<u32>,
+    call: &Call,
+    text: &mut String,
+) -> Result<bool, fmt::Error> {
     let source = items.clone().into_nonempty_iter();
     let closure = &call.closure;
     match call.name {
         "fold" => {
-            let folded = source.fold(call.first, |total, x| total.wrapping_mul(31).wrapping_add(closure.of(x)));
+            let folded = source
+                .fold(call.first, |total, x| total.wrapping_mul(31).wrapping_add(closure.of(x)));
             write!(text, "{folded}")?;
         }
         "reduce" => {
-            let reduced = source.reduce(|total, x| total.wrapping_mul(31).wrapping_add(closure.of(x)));
+            let reduced =
+                source.reduce(|total, x| total.wrapping_mul(31).wrapping_add(closure.of(x)));
             write!(text, "{reduced}")?;
         }
         "sum" => write!(text, "{}", source.map(Wrapping).sum::<Wrapping<u32>>())?,
@@ -585,7 +620,11 @@ fn consumers_totalled(items: &NEVec<u32>, call: &Call, text: &mut String) -> Res
     Ok(true)
 }
 
-fn consumers_extreme(items: &NEVec<u32>, call: &Call, text: &mut String) -> Result<bool, fmt::Error> {
+fn consumers_extreme(
+    items: &NEVec<u32>,
+    call: &Call,
+    text: &mut String,
+) -> Result<bool, fmt::Error> {
     let items = items.clone().into_nonempty_iter();
     let order = |x: &(usize, u32), y: &(usize, u32)| call.closure.order(x.1, y.1);
     let key = |x: &(usize, u32)| call.closure.of(x.1);
@@ -601,7 +640,11 @@ fn consumers_extreme(items: &NEVec<u32>, call: &Call, text: &mut String) -> Resu
     Ok(true)
 }
 
-fn consumers_parted(items: &NEVec<u32>, call: &Call, text: &mut String) -> Result<bool, fmt::Error> {
+fn consumers_parted(
+    items: &NEVec<u32>,
+    call: &Call,
+    text: &mut String,
+) -> Result<bool, fmt::Error> {
     let source = items.clone().into_nonempty_iter();
     let closure = &call.closure;
     let holds = |x: &u32| closure.holds(*x);
@@ -612,7 +655,8 @@ fn consumers_parted(items: &NEVec<u32>, call: &Call, text: &mut String) -> Resul
         "skip_while" => source.skip_while(holds).collect(),
         "take_while" => source.take_while(holds).collect(),
         "unzip" => {
-            let (answers, items): (NEVec<u32>, NEVec<u32>) = source.map(|x| (closure.of(x), x)).unzip();
+            let (answers, items): (NEVec<u32>, NEVec<u32>) =
+                source.map(|x| (closure.of(x), x)).unzip();
             write!(text, "{answers:?} {items:?}")?;
             return Ok(true);
         }
@@ -628,7 +672,11 @@ fn consumers_parted(items: &NEVec<u32>, call: &Call, text: &mut String) -> Resul
     Ok(true)
 }
 
-fn collected_listed(items: &NEVec<u32>, call: &Call, text: &mut String) -> Result<bool, fmt::Error> {
+fn collected_listed(
+    items: &NEVec<u32>,
+    call: &Call,
+    text: &mut String,
+) -> Result<bool, fmt::Error> {
     let source = items.nonempty_iter();
     let closure = &call.closure;
     match call.name {
@@ -651,11 +699,13 @@ fn collected_keyed(items: &NEVec<u32>, call: &Call, text: &mut String) -> Result
     let closure = &call.closure;
     match call.name {
         "collect_tree_map" => {
-            let map: BTreeMap<u32, (usize, u32)> = source.enumerate().map(|x| (closure.of(x.1), x)).collect();
+            let map: BTreeMap<u32, (usize, u32)> =
+                source.enumerate().map(|x| (closure.of(x.1), x)).collect();
             write!(text, "{map:?}")?;
         }
         "collect_hash_map" => {
-            let map: HashMap<u32, (usize, u32)> = source.enumerate().map(|x| (closure.of(x.1), x)).collect();
+            let map: HashMap<u32, (usize, u32)> =
+                source.enumerate().map(|x| (closure.of(x.1), x)).collect();
             write!(text, "{} {:?} {:?}", map.len(), map.get(&call.first), map.get(&call.last))?;
         }
         _ => return Ok(false),
@@ -663,14 +713,26 @@ fn collected_keyed(items: &NEVec<u32>, call: &Call, text: &mut String) -> Result
     Ok(true)
 }
 
-fn collected_gathered(items: &NEVec<u32>, call: &Call, text: &mut String) -> Result<bool, fmt::Error> {
+fn collected_gathered(
+    items: &NEVec<u32>,
+    call: &Call,
+    text: &mut String,
+) -> Result<bool, fmt::Error> {
     let source = items.nonempty_iter().copied();
     let closure = &call.closure;
     match call.name {
-        "collect_tree_set" => write!(text, "{:?}", source.map(|x| closure.of(x)).collect::<BTreeSet<u32>>())?,
+        "collect_tree_set" => {
+            write!(text, "{:?}", source.map(|x| closure.of(x)).collect::<BTreeSet<u32>>())?
+        }
         "collect_hash_set" => {
             let set: HashSet<u32> = source.map(|x| closure.of(x)).collect();
-            write!(text, "{} {} {}", set.len(), set.contains(&call.first), set.contains(&call.last))?;
+            write!(
+                text,
+                "{} {} {}",
+                set.len(),
+                set.contains(&call.first),
+                set.contains(&call.last)
+            )?;
         }
         _ => return Ok(false),
     }
@@ -696,7 +758,11 @@ fn letters(x: u32) -> &'static str {
     }
 }
 
-fn collected_joined(items: &NEVec<u32>, call: &Call, text: &mut String) -> Result<bool, fmt::Error> {
+fn collected_joined(
+    items: &NEVec<u32>,
+    call: &Call,
+    text: &mut String,
+) -> Result<bool, fmt::Error> {
     let source = items.nonempty_iter().copied();
     let joined: String = match call.name {
         "collect_chars" => source.map(letter).collect(),
@@ -718,7 +784,11 @@ fn collected_joined(items: &NEVec<u32>, call: &Call, text: &mut String) -> Resul
     Ok(true)
 }
 
-fn chains_referring(items: &NEVec<u32>, call: &Call, text: &mut String) -> Result<bool, fmt::Error> {
+fn chains_referring(
+    items: &NEVec<u32>,
+    call: &Call,
+    text: &mut String,
+) -> Result<bool, fmt::Error> {
     let source = items.nonempty_iter();
     let given: NEVec<u32> = match call.name {
         "cloned" => source.cloned().collect(),
@@ -772,18 +842,28 @@ fn chains_paired(items: &NEVec<u32>, call: &Call, text: &mut String) -> Result<b
     Ok(true)
 }
 
-fn chains_flattened(items: &NEVec<u32>, call: &Call, text: &mut String) -> Result<bool, fmt::Error> {
+fn chains_flattened(
+    items: &NEVec<u32>,
+    call: &Call,
+    text: &mut String,
+) -> Result<bool, fmt::Error> {
     let source = items.clone().into_nonempty_iter();
     let other = NEVec::from((call.first, call.rest().to_vec()));
     let of = |x: u32| call.closure.of(x);
     match call.name {
         "flat_map_peekable_take_enumerate" => {
-            let given: NEVec<(usize, u32)> = source.flat_map(|x| [x, of(x)]).peekable().take(call.size).enumerate().collect();
+            let given: NEVec<(usize, u32)> =
+                source.flat_map(|x| [x, of(x)]).peekable().take(call.size).enumerate().collect();
             write!(text, "{given:?}")?;
         }
         "zip_flat_map_peekable_take_enumerate" => {
-            let given: NEVec<(usize, u32)> =
-                source.zip(other).flat_map(|(x, y)| [x, of(y)]).peekable().take(call.size).enumerate().collect();
+            let given: NEVec<(usize, u32)> = source
+                .zip(other)
+                .flat_map(|(x, y)| [x, of(y)])
+                .peekable()
+                .take(call.size)
+                .enumerate()
+                .collect();
             write!(text, "{given:?}")?;
         }
         _ => return Ok(false),

@@ -3,8 +3,8 @@
 #![allow(deprecated)]
 use indexmap::{IndexMap, IndexSet};
 use nonempty_collections::{
-    nebtm, nebts, neim, neis, nem, nes, Error, IntoNonEmptyIterator, NEBTreeMap, NEBTreeSet, NEIndexMap, NEIndexSet, NEMap, NESet, NEVec,
-    NonEmptyIterator, Singleton,
+    nebtm, nebts, neim, neis, nem, nes, Error, IntoNonEmptyIterator, NEBTreeMap, NEBTreeSet,
+    NEIndexMap, NEIndexSet, NEMap, NESet, NEVec, NonEmptyIterator, Singleton,
 };
 use std::cmp::Ordering;
 use std::collections::hash_map::RandomState;
@@ -189,7 +189,10 @@ impl<'t> Call<'t> {
     }
 
     fn pairs(&self) -> Vec<(Key, u32)> {
-        self.numbers.chunks(2).map(|pair| (Key::new(pair[0]), pair.get(1).copied().unwrap_or(0))).collect()
+        self.numbers
+            .chunks(2)
+            .map(|pair| (Key::new(pair[0]), pair.get(1).copied().unwrap_or(0)))
+            .collect()
     }
 
     fn some_pairs(&self) -> NEVec<(Key, u32)> {
@@ -295,7 +298,10 @@ macro_rules! any_map {
             "written_one" => put(map, $written![key => value]),
             "written_two" => put(map, $written![key => value, call.key(2) => call.number(3)]),
             "collect" => put(map, collected(call.some_pairs())),
-            "try_from_map" => put_some(map, out, $Map::try_from_map(call.pairs().into_iter().collect())),
+            "try_from_map" => {
+                let made = $Map::try_from_map(call.pairs().into_iter().collect());
+                put_some(map, out, made)
+            }
             "insert" => out.told(map.insert(key, value)),
             "extend_one" => {
                 map.extend([(key, value)]);
@@ -310,7 +316,10 @@ macro_rules! any_map {
                     let value = three.get(2).copied().unwrap_or(0);
                     replies.push(match three[0] % 4 {
                         0 => MapReply::Old(map.insert(key, value)),
-                        1 => MapReply::Old(map.get_mut(&key).map(|place| std::mem::replace(place, value))),
+                        1 => {
+                            let place = map.get_mut(&key);
+                            MapReply::Old(place.map(|place| std::mem::replace(place, value)))
+                        }
                         2 => MapReply::Has(map.contains_key(&key)),
                         _ => MapReply::Len(map.len()),
                     });
@@ -358,12 +367,17 @@ macro_rules! roomy_map {
         match call.name {
             "with_capacity" => put(map, $Map::with_capacity(call.room(), key, value)),
             "with_hasher" => put(map, $Map::with_hasher(RandomState::new(), key, value)),
-            "with_capacity_and_hasher" => put(map, $Map::with_capacity_and_hasher(call.room(), RandomState::new(), key, value)),
+            "with_capacity_and_hasher" => put(
+                map,
+                $Map::with_capacity_and_hasher(call.room(), RandomState::new(), key, value),
+            ),
             "shrink_to_fit" => {
                 map.shrink_to_fit();
                 true
             }
-            "capacity" => out.told((map.capacity() >= map.len(), map.capacity().get() >= call.size())),
+            "capacity" => {
+                out.told((map.capacity() >= map.len(), map.capacity().get() >= call.size()))
+            }
             "is_empty" => out.told(map.is_empty()),
             _ => false,
         }
@@ -391,14 +405,22 @@ fn rewrite<'a, I: IntoIterator<Item = (&'a Key, &'a mut u32)>>(walk: I, number: 
 
 fn tree_map(map: &mut TreeMap, call: &Call, out: &mut Transcript) -> bool {
     match call.name {
-        "try_from" => put_ok(map, out, TreeMap::try_from(call.pairs().into_iter().collect::<BTreeMap<Key, u32>>())),
+        "try_from" => put_ok(
+            map,
+            out,
+            TreeMap::try_from(call.pairs().into_iter().collect::<BTreeMap<Key, u32>>()),
+        ),
         _ => rewritten!(map, call) || any_map!(TreeMap, BTreeMap, nebtm, map, call, out),
     }
 }
 
 fn hashed_map(map: &mut HashedMap, call: &Call, out: &mut Transcript) -> bool {
     match call.name {
-        "try_from" => put_ok(map, out, HashedMap::try_from(call.pairs().into_iter().collect::<HashMap<Key, u32>>())),
+        "try_from" => put_ok(
+            map,
+            out,
+            HashedMap::try_from(call.pairs().into_iter().collect::<HashMap<Key, u32>>()),
+        ),
         _ => {
             rewritten!(map, call)
                 || roomy_map!(HashedMap, &mut *map, call, &mut *out)
@@ -423,7 +445,10 @@ fn indexed_map(map: &mut IndexedMap, call: &Call, out: &mut Transcript) -> bool 
         "nonempty_iter_clone" => out.walked(map.nonempty_iter().clone()),
         "keys_clone" => out.walked(map.keys().clone()),
         "values_clone" => out.walked(map.values().clone()),
-        _ => roomy_map!(IndexedMap, &mut *map, call, &mut *out) || any_map!(IndexedMap, IndexMap, neim, map, call, out),
+        _ => {
+            roomy_map!(IndexedMap, &mut *map, call, &mut *out)
+                || any_map!(IndexedMap, IndexMap, neim, map, call, out)
+        }
     }
 }
 
@@ -443,8 +468,12 @@ macro_rules! any_set {
             "written_one" => put(set, $written![item]),
             "written_two" => put(set, $written![item, call.key(1)]),
             "collect" => put(set, other()),
-            "try_from_set" => put_some(set, out, $Set::try_from_set(call.items().into_iter().collect())),
-            "try_from" => put_ok(set, out, $Set::try_from(call.items().into_iter().collect::<$Std<Key>>())),
+            "try_from_set" => {
+                put_some(set, out, $Set::try_from_set(call.items().into_iter().collect()))
+            }
+            "try_from" => {
+                put_ok(set, out, $Set::try_from(call.items().into_iter().collect::<$Std<Key>>()))
+            }
             "insert" => out.told(set.insert(item)),
             "replace" => out.told(set.replace(item)),
             "extend_one" => {
@@ -493,7 +522,9 @@ macro_rules! roomy_set {
         match call.name {
             "with_capacity" => put(set, $Set::with_capacity(call.room(), item)),
             "with_hasher" => put(set, $Set::with_hasher(RandomState::new(), item)),
-            "with_capacity_and_hasher" => put(set, $Set::with_capacity_and_hasher(call.room(), RandomState::new(), item)),
+            "with_capacity_and_hasher" => {
+                put(set, $Set::with_capacity_and_hasher(call.room(), RandomState::new(), item))
+            }
             "reserve" => {
                 set.reserve(call.size());
                 true
@@ -502,7 +533,9 @@ macro_rules! roomy_set {
                 set.shrink_to_fit();
                 true
             }
-            "capacity" => out.told((set.capacity() >= set.len(), set.capacity().get() >= call.size())),
+            "capacity" => {
+                out.told((set.capacity() >= set.len(), set.capacity().get() >= call.size()))
+            }
             "is_empty" => out.told(set.is_empty()),
             _ => false,
         }
@@ -514,9 +547,11 @@ fn tree_set(set: &mut TreeSet, call: &Call, out: &mut Transcript) -> bool {
 }
 
 fn hashed_set(set: &mut HashedSet, call: &Call, out: &mut Transcript) -> bool {
-    roomy_set!(HashedSet, &mut *set, call, &mut *out) || any_set!(HashedSet, HashSet, nes, set, call, out)
+    roomy_set!(HashedSet, &mut *set, call, &mut *out)
+        || any_set!(HashedSet, HashSet, nes, set, call, out)
 }
 
 fn indexed_set(set: &mut IndexedSet, call: &Call, out: &mut Transcript) -> bool {
-    roomy_set!(IndexedSet, &mut *set, call, &mut *out) || any_set!(IndexedSet, IndexSet, neis, set, call, out)
+    roomy_set!(IndexedSet, &mut *set, call, &mut *out)
+        || any_set!(IndexedSet, IndexSet, neis, set, call, out)
 }

@@ -26,7 +26,9 @@ def valgrind(tool, pattern, words, file):
     """Returns what a tool of valgrind counts in one run."""
     with open(file, "rb") as given:
         traced = ["valgrind", f"--tool={tool}", f"--{tool}-out-file={os.devnull}", *words]
-        said = subprocess.run(traced, stdin=given, stdout=subprocess.DEVNULL, stderr=subprocess.PIPE, check=True).stderr
+        said = subprocess.run(
+            traced, stdin=given, stdout=subprocess.DEVNULL, stderr=subprocess.PIPE, check=True
+        ).stderr
     return int(re.search(pattern, said)[1].replace(b",", b""))
 
 
