@@ -20,6 +20,10 @@ use std::fmt;
 pub use vector::NEVec;
 
 /// Why a value could not be made.
+///
+/// ```
+/// let none = NEVec::try_from(Vec::<u32>::new(alloc)); // Err(Error::Empty)
+/// ```
 #[derive(Debug, Clone, Copy, Drop)]
 pub enum Error {
     /// The given collection has no items.
@@ -42,6 +46,11 @@ impl fmt::Display for Error {
 /// `c` is the list `xs`. The clauses of the two methods are laws, which each implementation proves
 /// for its own `collected`. In the Rust crate the trait has no `extend_one`, and code that adds
 /// items requires `Extend` as well.
+///
+/// ```
+/// let mut two: NEVec<u32> = Singleton::singleton(alloc, 1)?;
+/// two.extend_one(2)?; // [1, 2]
+/// ```
 pub trait Singleton: Sized {
     /// The type of the items; for a map, pairs of a key and a value.
     type Item;

@@ -10,8 +10,9 @@
 /// compile.
 ///
 /// ```
-/// let three = nev![alloc; 1, 2, 3]?;
-/// let same = nev![alloc; 1; 3]?;
+/// let three = nev![alloc; 7, 5, 9]?; // [7, 5, 9]
+/// let one = nev![alloc; 7]?; // [7]
+/// let same = nev![alloc; 7; 4]?; // [7, 7, 7, 7]
 /// ```
 #[macro_export]
 macro_rules! nev {

@@ -25,6 +25,12 @@ use std::{fmt, slice};
 /// A borrowed slice that holds at least one item.
 ///
 /// In contracts its value is the list of its items. None of its methods allocates.
+///
+/// ```
+/// let items = nev![alloc; 4, 6, 8]?;
+/// let slice = items.as_nonempty_slice();
+/// let (first, last) = (*slice.first(), *slice.last()); // 4 and 8
+/// ```
 #[derive(Drop)]
 pub struct NESlice<'a, T> {
     pub(crate) inner: &'a [T],
@@ -48,6 +54,11 @@ impl<'a, T> NESlice<'a, T> {
     ghost use Rattle.ne_vec.specs.SliceRuns.{RunsGive};
 
     /// Returns the first item.
+    ///
+    /// ```
+    /// let items = nev![alloc; 4, 6, 8]?;
+    /// let first = *items.as_nonempty_slice().first(); // 4
+    /// ```
     pub fn first(&self) -> &T
         ensures { slice_get self.now 0 ≡ Some result.now }
     {
@@ -55,6 +66,11 @@ impl<'a, T> NESlice<'a, T> {
     }
 
     /// Returns the last item, which is also the first one if it is the only one.
+    ///
+    /// ```
+    /// let items = nev![alloc; 4, 6, 8]?;
+    /// let last = *items.as_nonempty_slice().last(); // 8
+    /// ```
     pub fn last(&self) -> &T
         ensures { slice_get self.now (length self.now - 1) ≡ Some result.now }
     {
@@ -62,6 +78,13 @@ impl<'a, T> NESlice<'a, T> {
     }
 
     /// Returns `slice` as a non-empty slice, or `None` if it is empty.
+    ///
+    /// ```
+    /// let numbers = [5, 9, 2];
+    /// let some = NESlice::try_from_slice(&numbers); // Some([5, 9, 2])
+    /// let nothing: [u8; 0] = [];
+    /// let none = NESlice::try_from_slice(&nothing); // None
+    /// ```
     pub fn try_from_slice(slice: &'a [T]) -> Option<Self>
         ensures empty { (result ≡ None) ↔ (slice.now ≡ []) }
         ensures same { IfSome result (λ s. s ≡ slice.now) }
@@ -74,6 +97,11 @@ impl<'a, T> NESlice<'a, T> {
     }
 
     /// Returns the number of items.
+    ///
+    /// ```
+    /// let items = nev![alloc; 3, 1, 4, 1, 5, 9, 2, 6]?;
+    /// let len = items.as_nonempty_slice().len().get(); // 8
+    /// ```
     pub fn len(&self) -> NonZeroUsize
         ensures { non_zero_usize_get result ≡ length self.now }
     {
@@ -99,6 +127,12 @@ impl<'a, T> NESlice<'a, T> {
     }
 
     /// Returns a non-empty iterator over the items, in order.
+    ///
+    /// ```
+    /// let items = nev![alloc; 3, 1, 4, 1, 5, 9, 2, 6]?;
+    /// let slice = items.as_nonempty_slice();
+    /// let same: Vec<u32> = slice.nonempty_iter().copied().collect(alloc)?; // the same items
+    /// ```
     pub fn nonempty_iter(&self) -> Iter<'_, T>
         ensures items { result ≡ self.now }
         ensures shows { WalkShows result self.now }
@@ -108,6 +142,12 @@ impl<'a, T> NESlice<'a, T> {
 
     /// Returns the chunks of `chunk_size` items, in order; the last chunk may be shorter. They are
     /// parts of the slice, so nothing is copied.
+    ///
+    /// ```
+    /// let items = nev![alloc; 3, 1, 4, 1, 5, 9, 2, 6]?;
+    /// let (slice, size) = (items.as_nonempty_slice(), NonZeroUsize::new(3).unwrap());
+    /// let chunks = slice.nonempty_chunks(size); // [3, 1, 4], [1, 5, 9] and [2, 6]
+    /// ```
     pub fn nonempty_chunks(&'a self, chunk_size: NonZeroUsize) -> NEChunks<'a, T>
         ensures items { result ≡ chunks (non_zero_usize_get chunk_size) self.now }
         ensures lists { ChunksGive result (chunks (non_zero_usize_get chunk_size) self.now) }
@@ -128,7 +168,11 @@ impl<'a, T> NESlice<'a, T> {
     ///
     /// The Rust crate has no such method. Std's `chunk_by` compares neighbours.
     ///
-    /// With `|a, b| a.abs_diff(*b) < 2` the runs of 1, 2 and 3 are `[1, 2]` and `[3]`.
+    /// ```
+    /// let items = nev![alloc; 1u32, 2, 3]?;
+    /// let slice = items.as_nonempty_slice();
+    /// let runs = slice.runs_by(|a, b| a.abs_diff(*b) < 2); // [1, 2] and [3]
+    /// ```
     pub fn runs_by<F: Fn(&T, &T) -> bool>(&'a self, same: F) -> SliceRuns<'a, T, F>
         ensures holds { result ≡ record { left = self.now; closure = same } }
         ensures ends { F.IsAlwaysCallable same
@@ -153,7 +197,11 @@ impl<'a, T> NESlice<'a, T> {
     /// The Rust crate has no such method. It does what `chunk_by` of std's slices does, and its
     /// runs are non-empty slices.
     ///
-    /// With `|a, b| a.abs_diff(*b) < 2` the numbers 1, 2 and 3 are one run.
+    /// ```
+    /// let items = nev![alloc; 1u32, 2, 3]?;
+    /// let slice = items.as_nonempty_slice();
+    /// let runs = slice.adjacent_runs(|a, b| a.abs_diff(*b) < 2); // [1, 2, 3]
+    /// ```
     pub fn adjacent_runs<F: Fn(&T, &T) -> bool>(&'a self, same: F) -> AdjacentRuns<'a, T, F>
         ensures holds { result ≡ record { left = self.now; closure = same } }
         ensures ends { F.IsAlwaysCallable same
@@ -211,6 +259,11 @@ impl<'a, T> IntoIterator for &'a NESlice<'a, T> {
 
 /// Returns the item at `index`, which must be at most the last index; 0 is always allowed. The Rust
 /// crate panics otherwise.
+///
+/// ```
+/// let items = nev![alloc; 3, 1, 4, 1, 5, 9, 2, 6]?;
+/// let third = items.as_nonempty_slice()[2]; // 4
+/// ```
 impl<'a, T> Index<usize> for NESlice<'a, T> {
     type Output = T;
 

@@ -38,11 +38,9 @@ pub use walks::{IntoIter, Iter, IterMut};
 /// don't allocate.
 ///
 /// ```
-/// let mut words = nev![alloc; "one"]?;
-/// words.push("two")?;
-/// let (first, last) = (*words.first(), *words.last()); // "one" and "two"
-/// let two = words.pop(); // Some("two")
-/// let none = words.pop(); // None: the last item stays
+/// let mut items = nev![alloc; 4, 6, 8]?;
+/// items.push(9)?;
+/// let (first, last) = (*items.first(), *items.last()); // 4 and 9
 /// ```
 #[derive(Drop)]
 pub struct NEVec<T> {
@@ -71,6 +69,10 @@ impl<T> NEVec<T> {
     /// Returns a vector of one item, `head`.
     ///
     /// Returns `AllocError` if the allocation fails; `head` is then dropped.
+    ///
+    /// ```
+    /// let items = NEVec::new(alloc, 7)?; // [7]
+    /// ```
     pub fn new(alloc: Global, head: T) -> Result<Self, AllocError>
     where
         T: Drop,
@@ -85,6 +87,11 @@ impl<T> NEVec<T> {
     ///
     /// Returns `AllocError` if the allocation fails, or if cloning `elem` fails. The items are all
     /// the same if a clone equals its original.
+    ///
+    /// ```
+    /// let n = NonZeroUsize::new(2).unwrap();
+    /// let items = NEVec::from_elem(alloc, 7, n)?; // [7, 7]
+    /// ```
     pub fn from_elem(alloc: Global, elem: T, n: NonZeroUsize) -> Result<Self, AllocError>
     where
         T: Clone + Drop,
@@ -101,6 +108,11 @@ impl<T> NEVec<T> {
     ///
     /// Returns `AllocError` if the allocation fails; `head` is then dropped. The capacity of the
     /// result is not specified.
+    ///
+    /// ```
+    /// let capacity = NonZeroUsize::new(5).unwrap();
+    /// let items = NEVec::with_capacity(alloc, capacity, 1)?; // [1]
+    /// ```
     pub fn with_capacity(alloc: Global, capacity: NonZeroUsize, head: T) -> Result<Self, AllocError>
     where
         T: Drop,
@@ -116,6 +128,10 @@ impl<T> NEVec<T> {
     ///
     /// Returns `AllocError` if `tail` has to grow and the allocation fails; all items are then
     /// dropped. The Rust crate has `From<(T, Vec<T>)>` instead.
+    ///
+    /// ```
+    /// let items = NEVec::from_parts(1, vec![in alloc; 2, 3, 4, 5]?)?; // [1, 2, 3, 4, 5]
+    /// ```
     pub fn from_parts(head: T, tail: Vec<T>) -> Result<Self, AllocError>
     where
         T: Drop,
@@ -127,6 +143,11 @@ impl<T> NEVec<T> {
     }
 
     /// Returns the first item.
+    ///
+    /// ```
+    /// let names = nev![alloc; "Österreich", "Schweiz", "Italia"]?;
+    /// let first = *names.first(); // "Österreich"
+    /// ```
     pub fn first(&self) -> &T
         ensures { slice_get self.now 0 ≡ Some result.now }
     {
@@ -134,6 +155,11 @@ impl<T> NEVec<T> {
     }
 
     /// Returns a mutable reference to the first item. The other items stay unchanged.
+    ///
+    /// ```
+    /// let mut items = nev![alloc; 4, 6, 8]?;
+    /// *items.first_mut() *= 10; // [40, 6, 8]
+    /// ```
     pub fn first_mut(&mut self) -> &mut T
         ensures* writes_back { sem 𝓛 (LendsItem T.row self.entry 0 result) }
         ensures value { slice_get self.old 0 ≡ Some result.now }
@@ -145,6 +171,11 @@ impl<T> NEVec<T> {
     ///
     /// Returns `AllocError` if the vector has to grow and the allocation fails; the vector is then
     /// unchanged, and `e` is dropped.
+    ///
+    /// ```
+    /// let mut items = NEVec::new(alloc, 7)?;
+    /// items.push(8)?; // [7, 8]
+    /// ```
     pub fn push(&mut self, e: T) -> Result<(), AllocError>
     where
         T: Drop,
@@ -157,6 +188,12 @@ impl<T> NEVec<T> {
 
     /// Removes the last item and returns it, or returns `None` if it is the only one, which then
     /// stays.
+    ///
+    /// ```
+    /// let mut items = nev![alloc; 4, 6]?;
+    /// let popped = items.pop(); // Some(6)
+    /// let none = items.pop(); // None: the only item stays
+    /// ```
     pub fn pop(&mut self) -> Option<T>
         ensures { TakesUnlessLast self.old self.new result (λ x. self.old ≡ self.new ++ x ∷ []) }
     {
@@ -172,6 +209,11 @@ impl<T> NEVec<T> {
     ///
     /// If there is more than one item, `index` must be less than the length; the Rust crate panics
     /// otherwise.
+    ///
+    /// ```
+    /// let mut items = nev![alloc; 4, 6, 8]?;
+    /// let removed = items.remove(0); // Some(4), and items is [6, 8]
+    /// ```
     pub fn remove(&mut self, index: usize) -> Option<T>
         requires { 1 < length self.old → index < length self.old }
         ensures { TakesUnlessLast self.old self.new result (λ x.
@@ -189,6 +231,11 @@ impl<T> NEVec<T> {
     ///
     /// If there is more than one item, `index` must be less than the length; the Rust crate panics
     /// otherwise.
+    ///
+    /// ```
+    /// let mut items = nev![alloc; 4, 6, 8, 9]?;
+    /// let removed = items.swap_remove(0); // Some(4), and items is [9, 6, 8]
+    /// ```
     pub fn swap_remove(&mut self, index: usize) -> Option<T>
         requires { 1 < length self.old → index < length self.old }
         ensures { TakesUnlessLast self.old self.new result (λ x.
@@ -207,6 +254,11 @@ impl<T> NEVec<T> {
     /// `f` is called once for each item, in order. It must be callable with any value of the items'
     /// type. The clause `kept` covers an `f` whose result depends on the item alone; `asked` covers
     /// any `f`.
+    ///
+    /// ```
+    /// let even = nev![alloc; 4, 5, 6, 7]?.retain(|x| *x % 2 == 0); // Ok([4, 6])
+    /// let none = nev![alloc; 1, 3]?.retain(|x| *x % 2 == 0); // Err([])
+    /// ```
     pub fn retain<F: FnMut(&T) -> bool>(self, f: F) -> Result<Self, Vec<T>>
     where
         T: Drop,
@@ -227,6 +279,14 @@ impl<T> NEVec<T> {
     /// `f` is called once for each item, in order. It must be callable with any value of the items'
     /// type. The clause `kept` covers an `f` whose result and changes depend on the item alone;
     /// `asked` covers any `f`.
+    ///
+    /// ```
+    /// let items = nev![alloc; 3, 1, 4, 1, 5, 9, 2, 6]?;
+    /// let even_halves = items.retain_mut(|x| {
+    ///     *x /= 2;
+    ///     *x % 2 == 0
+    /// }); // Ok([0, 2, 0, 2, 4])
+    /// ```
     pub fn retain_mut<F: FnMut(&mut T) -> bool>(self, f: F) -> Result<Self, Vec<T>>
     where
         T: Drop,
@@ -258,6 +318,13 @@ impl<T> NEVec<T> {
     /// `index` must be at most the length; the Rust crate panics otherwise. Returns `AllocError` if
     /// the vector has to grow and the allocation fails; the vector is then unchanged, and `element`
     /// is dropped.
+    ///
+    /// ```
+    /// let mut items = nev![alloc; 4, 6]?;
+    /// items.insert(2, 3)?;
+    /// items.insert(1, 2)?;
+    /// items.insert(0, 1)?; // [1, 4, 2, 6, 3]
+    /// ```
     pub fn insert(&mut self, index: usize, element: T) -> Result<(), AllocError>
     where
         T: Drop,
@@ -270,6 +337,10 @@ impl<T> NEVec<T> {
     }
 
     /// Returns the number of items.
+    ///
+    /// ```
+    /// let len = nev![alloc; 3, 1, 4, 1, 5, 9, 2, 6]?.len().get(); // 8
+    /// ```
     pub fn len(&self) -> NonZeroUsize
         ensures { non_zero_usize_get result ≡ length self.now }
     {
@@ -299,6 +370,11 @@ impl<T> NEVec<T> {
     }
 
     /// Returns the last item, which is also the first one if it is the only one.
+    ///
+    /// ```
+    /// let names = nev![alloc; "Österreich", "Schweiz", "Italia"]?;
+    /// let last = *names.last(); // "Italia"
+    /// ```
     pub fn last(&self) -> &T
         ensures { slice_get self.now (length self.now - 1) ≡ Some result.now }
     {
@@ -306,6 +382,11 @@ impl<T> NEVec<T> {
     }
 
     /// Returns a mutable reference to the last item. The other items stay unchanged.
+    ///
+    /// ```
+    /// let mut items = nev![alloc; 11, 20, 30]?;
+    /// *items.last_mut() = 31; // [11, 20, 31]
+    /// ```
     pub fn last_mut(&mut self) -> &mut T
         ensures* writes_back { sem 𝓛 (LendsItem T.row self.entry (length self.old - 1) result) }
         ensures value { slice_get self.old (length self.old - 1) ≡ Some result.now }
@@ -315,6 +396,11 @@ impl<T> NEVec<T> {
     }
 
     /// Returns whether an item equals `x`.
+    ///
+    /// ```
+    /// let items = nev![alloc; 4, 6, 8]?;
+    /// let (there, absent) = (items.contains(&6), items.contains(&7)); // true and false
+    /// ```
     pub fn contains(&self, x: &T) -> bool
     where
         T: PartialEq,
@@ -324,6 +410,11 @@ impl<T> NEVec<T> {
     }
 
     /// Returns the item at `index`, or `None` if `index` is not less than the length.
+    ///
+    /// ```
+    /// let items = nev![alloc; 10, 20, 30]?;
+    /// let (last, none) = (items.get(2), items.get(3)); // Some(&30) and None
+    /// ```
     pub fn get(&self, index: usize) -> Option<&T>
         ensures there { IsSome result ↔ (index < length self.now) }
         ensures nonempty { 0 < length self.now }
@@ -334,6 +425,13 @@ impl<T> NEVec<T> {
 
     /// Returns a mutable reference to the item at `index`, or `None` if `index` is not less than
     /// the length. The other items stay unchanged.
+    ///
+    /// ```
+    /// let mut items = nev![alloc; 11, 21, 31]?;
+    /// if let Some(item) = items.get_mut(1) {
+    ///     *item = 22; // [11, 22, 31]
+    /// }
+    /// ```
     pub fn get_mut(&mut self, index: usize) -> Option<&mut T>
         ensures* writes_back { sem 𝓛 (LendsItemIf T.row self.entry index result) }
         ensures there { IsSome result ↔ (index < length self.old) }
@@ -348,6 +446,11 @@ impl<T> NEVec<T> {
     ///
     /// It replaces the Rust crate's `AsMut<Vec<T>>`, through which a caller could remove the last
     /// item.
+    ///
+    /// ```
+    /// let mut items = nev![alloc; 11, 22, 31]?;
+    /// items.as_mut_slice().reverse(); // [31, 22, 11]
+    /// ```
     pub fn as_mut_slice(&mut self) -> &mut [T]
         ensures* writes_back { sem 𝓛 (LendsItems T.row self.entry result) }
         ensures value { result.now ≡ self.old }
@@ -357,6 +460,11 @@ impl<T> NEVec<T> {
     }
 
     /// Returns std's iterator over the items, in order.
+    ///
+    /// ```
+    /// let items = nev![alloc; 3, 4, 5, 6]?;
+    /// let halves: Vec<u32> = items.iter().map(|x| *x / 2).collect(alloc)?; // [1, 2, 2, 3]
+    /// ```
     pub fn iter(&self) -> slice::Iter<'_, T>
         ensures { Walks self.now result }
     {
@@ -364,6 +472,13 @@ impl<T> NEVec<T> {
     }
 
     /// Returns std's mutable iterator over the items, in order.
+    ///
+    /// ```
+    /// let mut items = nev![alloc; 0u32, 1, 2, 3]?;
+    /// for x in items.iter_mut() {
+    ///     *x = x.wrapping_add(1);
+    /// } // [1, 2, 3, 4]
+    /// ```
     pub fn iter_mut(&mut self) -> slice::IterMut<'_, T>
         ensures* writes_back { sem 𝓛 (LendsWalk T.row self.entry result) }
         ensures rest { WalksMut self.old result }
@@ -372,6 +487,11 @@ impl<T> NEVec<T> {
     }
 
     /// Returns a non-empty iterator over the items, in order.
+    ///
+    /// ```
+    /// let items = nev![alloc; 6, 8, 4]?;
+    /// let greatest = items.nonempty_iter().copied().max(); // 8
+    /// ```
     pub fn nonempty_iter(&self) -> Iter<'_, T>
         ensures items { result ≡ self.now }
         ensures shows { WalkShows result self.now }
@@ -382,6 +502,13 @@ impl<T> NEVec<T> {
     }
 
     /// Returns a non-empty mutable iterator over the items, in order.
+    ///
+    /// ```
+    /// let mut items = nev![alloc; 1u32, 2, 3, 4]?;
+    /// for x in items.nonempty_iter_mut() {
+    ///     *x = x.wrapping_add(1);
+    /// } // [2, 3, 4, 5]
+    /// ```
     pub fn nonempty_iter_mut(&mut self) -> IterMut<'_, T>
         ensures* writes_back { sem 𝓛 (LendsWalk T.row self.entry (std_walk result)) }
         ensures rest { WalksMut self.old (std_walk result) }
@@ -392,6 +519,11 @@ impl<T> NEVec<T> {
     }
 
     /// Reverses the items in place.
+    ///
+    /// ```
+    /// let mut items = nev![alloc; 4, 6, 8]?;
+    /// items.reverse(); // [8, 6, 4]
+    /// ```
     pub fn reverse(&mut self)
         ensures { self.new ≡ reverse self.old }
     {
@@ -399,6 +531,11 @@ impl<T> NEVec<T> {
     }
 
     /// Keeps the first `len` items and drops the others, or keeps all if there are fewer.
+    ///
+    /// ```
+    /// let mut items = nev![alloc; 1, 2, 3, 4, 5, 6]?;
+    /// items.truncate(NonZeroUsize::new(2).unwrap()); // [1, 2]
+    /// ```
     pub fn truncate(&mut self, len: NonZeroUsize)
     where
         T: Drop,
@@ -412,6 +549,11 @@ impl<T> NEVec<T> {
     ///
     /// Returns `AllocError` if the allocation fails, or if cloning an item fails. The items are the
     /// same if a clone equals its original.
+    ///
+    /// ```
+    /// let some = NEVec::try_from_slice(alloc, &[4, 6, 8])?; // Some([4, 6, 8])
+    /// let none: Option<NEVec<u32>> = NEVec::try_from_slice(alloc, &[])?; // None
+    /// ```
     pub fn try_from_slice(alloc: Global, slice: &[T]) -> Result<Option<NEVec<T>>, AllocError>
     where
         T: Clone + Drop,
@@ -429,6 +571,11 @@ impl<T> NEVec<T> {
 
     /// Returns a vector of the items of `vec` in the same memory, or `None` if `vec` is empty. It
     /// doesn't allocate.
+    ///
+    /// ```
+    /// let some = NEVec::try_from_vec(vec![in alloc; 4, 6, 8]?); // Some([4, 6, 8])
+    /// let none = NEVec::try_from_vec(Vec::<u32>::new(alloc)); // None
+    /// ```
     pub fn try_from_vec(vec: Vec<T>) -> Option<NEVec<T>>
         ensures empty { (result ≡ None) ↔ (vec.items ≡ []) }
         ensures same { IfSome result (λ v. v ≡ vec.items) }
@@ -445,6 +592,11 @@ impl<T> NEVec<T> {
     ///
     /// Returns `AllocError` if the allocation fails, or if cloning an item fails. The items are the
     /// same if a clone equals its original. `Clone` calls this method.
+    ///
+    /// ```
+    /// let items = nev![alloc; 3, 1, 4, 1, 5, 9, 2, 6]?;
+    /// let same = items.clone()?; // [3, 1, 4, 1, 5, 9, 2, 6]
+    /// ```
     pub fn clone(&self) -> Result<Self, AllocError>
     where
         T: Clone,
@@ -457,6 +609,11 @@ impl<T> NEVec<T> {
     }
 
     /// Returns the first item, and a slice of the others, which may be empty.
+    ///
+    /// ```
+    /// let items = nev![alloc; 4, 6, 8]?;
+    /// let (first, rest) = items.split_first(); // &4 and &[6, 8]
+    /// ```
     pub fn split_first(&self) -> (&T, &[T])
         ensures { self.now ≡ result.0.now ∷ result.1.now }
     {
@@ -465,6 +622,11 @@ impl<T> NEVec<T> {
 
     /// Returns the first item, a slice of those in the middle, which may be empty, and the last
     /// item. If there is only one item, it is both the first and the last.
+    ///
+    /// ```
+    /// let items = nev![alloc; 4, 6, 8, 9]?;
+    /// let (first, middle, last) = items.split(); // &4, &[6, 8] and &9
+    /// ```
     pub fn split(&self) -> (&T, &[T], &T)
         ensures first { slice_get self.now 0 ≡ Some result.0.now }
         ensures middle { result.1.now ≡ drop 1 (take (length self.now - 1) self.now) }
@@ -482,6 +644,12 @@ impl<T> NEVec<T> {
     ///
     /// Returns `AllocError` if the vector has to grow and the allocation fails; both vectors are
     /// then unchanged.
+    ///
+    /// ```
+    /// let mut items = nev![alloc; 4]?;
+    /// let mut others = vec![in alloc; 6, 8]?;
+    /// items.append(&mut others)?; // [4, 6, 8]
+    /// ```
     pub fn append(&mut self, other: &mut Vec<T>) -> Result<(), AllocError>
         ensures added { OnOk result ((self.new ≡ self.old ++ other.old.items)
             × (other.new.items ≡ [])) }
@@ -496,6 +664,11 @@ impl<T> NEVec<T> {
     /// `iter` must be finite. Returns `AllocError` if the vector has to grow and the allocation
     /// fails; the items taken from `iter` before that are then appended, and the item that had no
     /// room is dropped. `Extend` calls this method.
+    ///
+    /// ```
+    /// let mut items = nev![alloc; 1, 2, 3]?;
+    /// items.extend([4, 5, 6])?; // [1, 2, 3, 4, 5, 6]
+    /// ```
     pub fn extend<I: IntoIterator<Item = T>>(&mut self, iter: I) -> Result<(), AllocError>
     where
         T: Drop,
@@ -508,6 +681,12 @@ impl<T> NEVec<T> {
     }
 
     /// Returns all items as a non-empty slice.
+    ///
+    /// ```
+    /// let items = nev![alloc; 4, 6, 8]?;
+    /// let slice = items.as_nonempty_slice();
+    /// let (first, last) = (*slice.first(), *slice.last()); // 4 and 8
+    /// ```
     pub fn as_nonempty_slice(&self) -> NESlice<'_, T>
         ensures { result ≡ self.now }
     {
@@ -518,6 +697,12 @@ impl<T> NEVec<T> {
 
     /// Returns the chunks of `chunk_size` items, in order; the last chunk may be shorter. They are
     /// parts of the vector, so nothing is copied.
+    ///
+    /// ```
+    /// let items = nev![alloc; 3, 1, 4, 1, 5, 9, 2, 6]?;
+    /// let size = NonZeroUsize::new(3).unwrap();
+    /// let chunks = items.nonempty_chunks(size); // [3, 1, 4], [1, 5, 9] and [2, 6]
+    /// ```
     pub fn nonempty_chunks(&self, chunk_size: NonZeroUsize) -> NEChunks<'_, T>
         ensures items { result ≡ chunks (non_zero_usize_get chunk_size) self.now }
         ensures lists { ChunksGive result (chunks (non_zero_usize_get chunk_size) self.now) }

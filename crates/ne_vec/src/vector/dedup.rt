@@ -15,6 +15,11 @@ impl<T: Drop> NEVec<T> {
     /// any value of the items' type. The clause `firsts` covers a `key` whose result depends on the
     /// item alone and that changes nothing; `asked` covers any `key`. At least one item stays,
     /// whatever `key` does.
+    ///
+    /// ```
+    /// let mut items = nev![alloc; 41, 43, 60, 69, 40]?;
+    /// items.dedup_by_key(|x| *x / 10); // [41, 60, 40]
+    /// ```
     pub fn dedup_by_key<K: PartialEq + Drop, F: FnMut(&mut T) -> K>(&mut self, key: F)
         requires { F.IsAlwaysCallable key }
         ensures stays { 0 < length self.new }
@@ -32,6 +37,11 @@ impl<T: Drop> NEVec<T> {
     /// `same_bucket` must be callable with any two values of the items' type. The clause `firsts`
     /// covers one whose result depends on the two items alone and that changes nothing; `asked`
     /// covers any. At least one item stays, whatever `same_bucket` does.
+    ///
+    /// ```
+    /// let mut items = nev![alloc; 4, 6, 5, 3]?;
+    /// items.dedup_by(|later, kept| *later < *kept); // [4, 6]
+    /// ```
     pub fn dedup_by<F: FnMut(&mut T, &mut T) -> bool>(&mut self, same_bucket: F)
         requires { F.IsAlwaysCallable same_bucket }
         ensures stays { 0 < length self.new }
@@ -44,6 +54,11 @@ impl<T: Drop> NEVec<T> {
 
     /// Drops each item that equals the last item kept. So of each run of items that equal the run's
     /// first item, the first item stays.
+    ///
+    /// ```
+    /// let mut items = nev![alloc; 7, 7, 0, 12, 12, 35, 4294967295]?;
+    /// items.dedup(); // [7, 0, 12, 35, 4294967295]
+    /// ```
     pub fn dedup(&mut self)
     where
         T: PartialEq,

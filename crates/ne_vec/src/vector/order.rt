@@ -25,6 +25,11 @@ impl<T> NEVec<T> {
     ///
     /// The index in `Err` has this meaning only if the vector is sorted; otherwise it is some index
     /// up to the length. An `Ok` is right in either case.
+    ///
+    /// ```
+    /// let found = nev![alloc; 1, 1, 2, 3, 4, 5, 6, 9]?.binary_search(&5); // Ok(5)
+    /// let place = nev![alloc; 0, 7, 7, 12, 12, 35, 4294967295]?.binary_search(&8); // Err(3)
+    /// ```
     pub fn binary_search(&self, x: &T) -> Result<usize, usize>
     where
         T: Ord,
@@ -42,6 +47,11 @@ impl<T> NEVec<T> {
     /// `f` must be callable with the vector's items, in any order. The indices have this meaning if
     /// what `f` returns depends on the item alone. For `Err` the vector must also be sorted by `f`:
     /// first `Less`, then `Equal`, then `Greater`.
+    ///
+    /// ```
+    /// let items = nev![alloc; 500u32, 100, 10]?;
+    /// let place = items.binary_search_by(|x| (1000 / *x).cmp(&10)); // Ok(1)
+    /// ```
     pub fn binary_search_by<F: FnMut(&T) -> Ordering>(&self, f: F) -> Result<usize, usize>
         requires { CallableAtItems F.FnMut f self.now }
         ensures bound { IsSearchInRange result (length self.now) }
@@ -57,6 +67,11 @@ impl<T> NEVec<T> {
     ///
     /// `f` must be callable with the vector's items, in any order. The indices have this meaning if
     /// the key depends on the item alone. For `Err` the vector must also be sorted by the key.
+    ///
+    /// ```
+    /// let items = nev![alloc; 500u32, 100, 10]?;
+    /// let place = items.binary_search_by_key(&10, |x| 1000 / *x); // Ok(1)
+    /// ```
     pub fn binary_search_by_key<B: Ord + Drop, F: FnMut(&T) -> B>(
         &self,
         b: &B,
@@ -74,6 +89,11 @@ impl<T> NEVec<T> {
     ///
     /// Returns `AllocError` if the allocation of working memory fails; the vector is then
     /// unchanged. Up to 20 items need no such memory.
+    ///
+    /// ```
+    /// let mut items = nev![alloc; 3, 1, 4, 1, 5, 9, 2, 6]?;
+    /// items.sort()?; // [1, 1, 2, 3, 4, 5, 6, 9]
+    /// ```
     pub fn sort(&mut self) -> Result<(), AllocError>
     where
         T: Ord,
@@ -92,6 +112,11 @@ impl<T> NEVec<T> {
     /// `f` must be callable with any two values of the items' type. The items are sorted if the
     /// results of `f` are a total preorder; otherwise they are in some order. Returns `AllocError`
     /// as `sort` does.
+    ///
+    /// ```
+    /// let mut items = nev![alloc; 3, 1, 4, 1, 5, 9, 2, 6]?;
+    /// items.sort_by(|x, y| (*x / 2).cmp(&(*y / 2)))?; // [1, 1, 3, 2, 4, 5, 6, 9]
+    /// ```
     pub fn sort_by<F: FnMut(&T, &T) -> Ordering>(&mut self, f: F) -> Result<(), AllocError>
         requires { F.IsAlwaysCallable f }
         ensures permutation { IsPermutation self.old self.new }
@@ -109,6 +134,11 @@ impl<T> NEVec<T> {
     /// `f` must be callable with any value of the items' type. The items are sorted if the key
     /// depends on the item alone; otherwise they are in some order. Returns `AllocError` as `sort`
     /// does.
+    ///
+    /// ```
+    /// let mut items = nev![alloc; 3, 1, 4, 1, 5, 9, 2, 6]?;
+    /// items.sort_by_key(|x| *x / 2)?; // [1, 1, 3, 2, 4, 5, 6, 9]
+    /// ```
     pub fn sort_by_key<K: Ord + Drop, F: FnMut(&T) -> K>(&mut self, f: F) -> Result<(), AllocError>
         requires { F.IsAlwaysCallable f }
         ensures permutation { IsPermutation self.old self.new }
@@ -125,6 +155,11 @@ impl<T> NEVec<T> {
     /// `pred` must be callable with the vector's items, in any order. The result has this meaning
     /// if what `pred` returns depends on the item alone, and no item that meets `pred` comes after
     /// one that doesn't. In any case it is at most the length.
+    ///
+    /// ```
+    /// let items = nev![alloc; 1, 1, 3, 2, 4, 5, 6, 9]?;
+    /// let count = items.partition_point(|x| *x / 2 < 5); // 8
+    /// ```
     pub fn partition_point<P: FnMut(&T) -> bool>(&self, pred: P) -> usize
         requires { CallableAtItems P.FnMut pred self.now }
         ensures bound { result ≤ length self.now }
@@ -151,6 +186,11 @@ impl<T> NEVec<T> {
     ///
     /// In the Rust crate this is `IndexedRandom::choose`, which has the same return type. It is not
     /// promised that all items are equally likely.
+    ///
+    /// ```
+    /// let mut small = SmallRng::seed_from_u64(7);
+    /// let only = nev![alloc; 7]?.choose(&mut small).copied(); // Some(7)
+    /// ```
     pub fn choose<G: Rng>(&self, rng: &mut G) -> Option<&T>
         ensures some { IsSome result }
         ensures member { IfSome result (λ x. Contains self.now x.now) }

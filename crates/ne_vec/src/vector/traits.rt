@@ -18,6 +18,10 @@ use std::hash::{Hash, Hasher};
 use std::ops::{Index, IndexMut};
 
 /// Returns the inner `Vec`, which no longer guarantees an item.
+///
+/// ```
+/// let vec: Vec<u32> = nev![alloc; 4, 6, 8]?.into(); // [4, 6, 8]
+/// ```
 impl<T> From<NEVec<T>> for Vec<T> {
     ghost from_gives = { λ v w. w.items ≡ v };
 
@@ -51,6 +55,11 @@ impl<T> AsSlice<T> for NEVec<T> {
 
 /// Returns the item at `index`, which must be at most the last index; 0 is always allowed. The Rust
 /// crate panics otherwise, and also takes ranges.
+///
+/// ```
+/// let items = nev![alloc; 4, 6, 8, 9]?;
+/// let (first, last) = (items[0], items[3]); // 4 and 9
+/// ```
 impl<T> Index<usize> for NEVec<T> {
     type Output = T;
 
@@ -68,6 +77,11 @@ impl<T> Index<usize> for NEVec<T> {
 
 /// Returns a mutable reference to the item at `index`, which must be at most the last index; 0 is
 /// always allowed. The other items stay unchanged.
+///
+/// ```
+/// let mut items = nev![alloc; 11, 20, 31]?;
+/// items[1] = 21; // [11, 21, 31]
+/// ```
 impl<T> IndexMut<usize> for NEVec<T> {
     ghost use Rattle.std.specs.Borrow.{sem};
     ghost use Rattle.ne_vec.specs.Lends.{LendsItem};
@@ -159,6 +173,10 @@ impl<T: Debug> Debug for NEVec<T> {
 
 /// Returns the vector that `try_from_vec` returns, or `Error::Empty` if `vec` is empty. It doesn't
 /// allocate.
+///
+/// ```
+/// let some = NEVec::try_from(vec![in alloc; 1, 2]?); // Ok([1, 2])
+/// ```
 impl<T> TryFrom<Vec<T>> for NEVec<T> {
     ghost use Rattle.std.specs.Prelude.{Result};
     ghost use Rattle.ne_vec.specs.declared.Error.{Error};
