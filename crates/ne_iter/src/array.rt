@@ -16,15 +16,28 @@ pub trait NonEmptyArrayExt<T> {
     ghost items: { Self → List T };
 
     /// Returns the items as a slice, without copying them.
+    ///
+    /// ```
+    /// let items = [1u32, 4, 1];
+    /// let slice = items.as_nonempty_slice(); // [1, 4, 1]
+    /// ```
     fn as_nonempty_slice(&self) -> NESlice<'_, T>
         ensures { result ≡ items self.now };
 
     /// Returns the number of items.
+    ///
+    /// ```
+    /// let len = [4u32, 6].nonzero_len().get(); // 2
+    /// ```
     fn nonzero_len(&self) -> NonZeroUsize
         ensures { non_zero_usize_get result ≡ length (items self.now) };
 
     /// Returns the items as a vector. Returns `AllocError` if the allocation fails; the items are
     /// then dropped.
+    ///
+    /// ```
+    /// let items: NEVec<u32> = [4, 6].into_nonempty_vec(alloc)?; // [4, 6]
+    /// ```
     fn into_nonempty_vec(self, alloc: Global) -> Result<NEVec<T>, AllocError>
         ensures { IfOk result (λ v. v ≡ items self) };
 }

@@ -28,6 +28,10 @@ pub use scan::{Scan, ScanIter};
 pub use sources::{FromNonEmptyIterator, IntoNonEmptyIterator, SourceWords};
 
 /// Returns a source of one item, `value`.
+///
+/// ```
+/// let one: NEVec<u32> = once(5).collect(alloc)?; // [5]
+/// ```
 pub fn once<T: Drop>(value: T) -> Once<T>
     ensures holds { once_item result ≡ value }
     ensures gives { GivesList (⟦<Once<T> as SourceWords>⟧.reads) result (value ∷ []) }

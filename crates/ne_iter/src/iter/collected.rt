@@ -26,6 +26,10 @@ impl FromNonEmptyIterator<()> for () {
 }
 
 /// Makes a vector of the items, in order.
+///
+/// ```
+/// let list: Vec<u32> = [1u32, 1, 2].into_nonempty_iter().collect(alloc)?; // [1, 1, 2]
+/// ```
 impl<T: Drop> FromNonEmptyIterator<T> for Vec<T> {
     ghost use Rattle.std.specs.Prelude.{◌≡◌};
 
@@ -42,6 +46,12 @@ impl<T: Drop> FromNonEmptyIterator<T> for Vec<T> {
 /// Makes `Ok` of what the values make, or the first `Err`; no item after that is taken.
 ///
 /// The values are first collected in an [`NEVec`], which is allocated separately.
+///
+/// ```
+/// let items = nev![alloc; 3, 1, 4, 1, 5, 9, 2, 6]?.into_nonempty_iter();
+/// let checked = items.map(|x| if x / 2 % 2 == 0 { Ok(x) } else { Err(x) });
+/// let first_err: Result<NEVec<u32>, u32> = checked.collect(alloc)?; // Err(3)
+/// ```
 impl<T: Drop, E: Drop, V: FromNonEmptyIterator<T>> FromNonEmptyIterator<Result<T, E>>
     for Result<V, E> {
     ghost collected = { ResultsMake V.collected V.is_complete };

@@ -70,6 +70,11 @@ pub trait IntoIteratorExt {
 
     /// Takes the first item to see whether there is one, and returns a non-empty source of all
     /// items, with the one that was taken; returns `None` if there is no item.
+    ///
+    /// ```
+    /// let some = vec![in alloc; 5, 9, 2]?.try_into_nonempty_iter(); // Some: 5, 9 and 2
+    /// let none = Vec::<u8>::new(alloc).try_into_nonempty_iter(); // None
+    /// ```
     fn try_into_nonempty_iter(self) -> Option<Self::IntoIter>
         requires { can_look self }
         ensures looks { looks self result }

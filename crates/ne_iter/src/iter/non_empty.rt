@@ -80,11 +80,22 @@ use std::num::NonZeroUsize;
 /// The methods that use up the source require that it ends. A closure is called with the items in
 /// order, once for each item taken, and may have state. Only methods that return `AllocError`
 /// allocate.
+///
+/// ```
+/// let halves = [3u32, 1, 2].into_nonempty_iter().map(|x| x / 2);
+/// let halves: NEVec<u32> = halves.collect(alloc)?; // [1, 0, 1]
+/// ```
 pub trait NonEmptyIterator: IntoIterator {
     /// Returns the first item, which always exists, and the iterator over the others.
     ///
     /// Unlike the other methods this one is not final: the toolchain rejects a trait with only
     /// final methods if an implementation requires a closure. The contract allows no other result.
+    ///
+    /// ```
+    /// let items = nev![alloc; 4, 6]?;
+    /// let (first, mut rest) = items.nonempty_iter().next(); // &4
+    /// let (second, end) = (rest.next(), rest.next()); // Some(&6) and None
+    /// ```
     fn next(self) -> (Self::Item, Self::IntoIter)
     where
         Self: Sized,
@@ -103,6 +114,11 @@ pub trait NonEmptyIterator: IntoIterator {
 
     /// Returns a source of the same items whose first item can be read and changed. The first item
     /// is taken immediately.
+    ///
+    /// ```
+    /// let items = nev![alloc; 4, 6, 8]?.into_nonempty_iter().peekable();
+    /// let first = *items.peek(); // 4
+    /// ```
     final fn peekable(self) -> Peekable<Self::IntoIter>
     where
         Self: Sized,
@@ -125,6 +141,10 @@ pub trait NonEmptyIterator: IntoIterator {
 
     /// Returns whether `f` returns `true` for every item. It stops at the first item for which `f`
     /// returns `false`.
+    ///
+    /// ```
+    /// let even = nev![alloc; 4, 6, 8]?.nonempty_iter().all(|x| *x % 2 == 0); // true
+    /// ```
     final fn all<F: FnMut(Self::Item) -> bool>(self, f: F) -> bool
     where
         Self: Sized,
@@ -143,6 +163,10 @@ pub trait NonEmptyIterator: IntoIterator {
     }
 
     /// Returns whether `f` returns `true` for any item. It stops at the first such item.
+    ///
+    /// ```
+    /// let found = nev![alloc; 4, 6, 8]?.nonempty_iter().any(|x| *x % 5 == 0); // false
+    /// ```
     final fn any<F: FnMut(Self::Item) -> bool>(self, f: F) -> bool
     where
         Self: Sized,
@@ -164,6 +188,11 @@ pub trait NonEmptyIterator: IntoIterator {
     ///
     /// In the Rust crate a [`Chain`] holds the iterators. Here it holds the two sources, and
     /// becomes std's iterator.
+    ///
+    /// ```
+    /// let items = nev![alloc; 4, 6]?.into_nonempty_iter();
+    /// let all: NEVec<u32> = items.chain(nev![alloc; 8, 9]?).collect(alloc)?; // [4, 6, 8, 9]
+    /// ```
     final fn chain<U: IntoIterator<Item = Self::Item>>(self, other: U) -> Chain<Self, U>
     where
         Self: Sized,
@@ -185,6 +214,11 @@ pub trait NonEmptyIterator: IntoIterator {
     ///
     /// What comes after an `Err` depends on the later clones. In the Rust crate the items are not
     /// in a `Result`.
+    ///
+    /// ```
+    /// let items = nev![alloc; 1, 2]?;
+    /// let clones = items.nonempty_iter().cloned(); // Ok(1) and Ok(2)
+    /// ```
     final fn cloned<'a, T: Clone + 'a>(self) -> Cloned<Self>
     where
         Self: Sized + IntoIterator<Item = &'a T>,
@@ -205,6 +239,11 @@ pub trait NonEmptyIterator: IntoIterator {
     /// Collects the items: see [`FromNonEmptyIterator`].
     ///
     /// Returns `AllocError` if the allocation fails; the items taken are then dropped.
+    ///
+    /// ```
+    /// let items = nev![alloc; 4, 6, 8]?;
+    /// let same: NEVec<u32> = items.into_nonempty_iter().collect(alloc)?; // [4, 6, 8]
+    /// ```
     final fn collect<B: FromNonEmptyIterator<Self::Item>>(
         self,
         alloc: Global,
@@ -227,6 +266,11 @@ pub trait NonEmptyIterator: IntoIterator {
     ///
     /// In the Rust crate a [`Copied`] holds the iterator. Here it holds the source, and becomes
     /// std's iterator.
+    ///
+    /// ```
+    /// let items = nev![alloc; 4, 6, 8]?;
+    /// let copies: NEVec<u32> = items.nonempty_iter().copied().collect(alloc)?; // [4, 6, 8]
+    /// ```
     final fn copied<'a, T: Copy + 'a>(self) -> Copied<Self>
     where
         Self: Sized + IntoIterator<Item = &'a T>,
@@ -241,6 +285,10 @@ pub trait NonEmptyIterator: IntoIterator {
     }
 
     /// Returns the number of items, which is at least 1. It must fit in a `usize`.
+    ///
+    /// ```
+    /// let count = nev![alloc; 4, 6, 8]?.nonempty_iter().count().get(); // 3
+    /// ```
     final fn count(self) -> NonZeroUsize
     where
         Self: Sized,
@@ -262,6 +310,10 @@ pub trait NonEmptyIterator: IntoIterator {
     }
 
     /// Returns a source of pairs of an index, from 0, and the item at that index.
+    ///
+    /// ```
+    /// let pairs = ['a', 'b'].into_nonempty_iter().enumerate(); // (0, 'a') and (1, 'b')
+    /// ```
     final fn enumerate(self) -> Enumerate<Self>
     where
         Self: Sized,
@@ -278,6 +330,11 @@ pub trait NonEmptyIterator: IntoIterator {
 
     /// Returns an iterator over the items for which `predicate` returns `true`. There may be none,
     /// so it is std's iterator.
+    ///
+    /// ```
+    /// let items = nev![alloc; 4, 6, 8]?.into_nonempty_iter();
+    /// let fours: Vec<u32> = items.filter(|x| *x % 4 == 0).collect(alloc)?; // [4, 8]
+    /// ```
     final fn filter<P: FnMut(&Self::Item) -> bool>(
         self,
         predicate: P,
@@ -304,6 +361,11 @@ pub trait NonEmptyIterator: IntoIterator {
 
     /// Returns an iterator over the values that `f` returns in `Some`. There may be none, so it is
     /// std's iterator.
+    ///
+    /// ```
+    /// let items = [2u32, 3, 4].into_nonempty_iter();
+    /// let halves = items.filter_map(|x| (x % 2 == 0).then_some(x / 2)); // 1 and 2
+    /// ```
     final fn filter_map<B, F: FnMut(Self::Item) -> Option<B>>(
         self,
         f: F,
@@ -328,6 +390,10 @@ pub trait NonEmptyIterator: IntoIterator {
 
     /// Returns the first item for which `predicate` returns `true`, or `None` if there is none. It
     /// stops at that item.
+    ///
+    /// ```
+    /// let even = nev![alloc; 1, 2, 3]?.into_nonempty_iter().find(|x| *x % 2 == 0); // Some(2)
+    /// ```
     final fn find<P: FnMut(&Self::Item) -> bool>(self, predicate: P) -> Option<Self::Item>
     where
         Self: Sized,
@@ -351,6 +417,12 @@ pub trait NonEmptyIterator: IntoIterator {
     ///
     /// In the Rust crate a [`FlatMap`] holds the iterator. Here it holds the source, and becomes
     /// std's iterator.
+    ///
+    /// ```
+    /// let items = nev![alloc; 3, 1, 4, 1, 5, 9, 2, 6]?.into_nonempty_iter();
+    /// let all: NEVec<u32> = items.flat_map(|x| [x, x / 2]).collect(alloc)?;
+    /// // [3, 1, 1, 0, 4, 2, 1, 0, 5, 2, 9, 4, 2, 1, 6, 3]
+    /// ```
     final fn flat_map<U: IntoNonEmptyIterator, F: FnMut(Self::Item) -> U>(
         self,
         f: F,
@@ -378,7 +450,11 @@ pub trait NonEmptyIterator: IntoIterator {
     /// It doesn't allocate, and takes the next inner source only when the one before it has ended.
     /// The Rust crate has no such method: it is like std's `flatten`, but stays non-empty.
     ///
-    /// `[[1, 2], [3]]` flattened is 1, 2 and 3.
+    /// ```
+    /// let mut lists = NEVec::new(alloc, nev![alloc; 1, 2]?)?;
+    /// lists.push(nev![alloc; 3]?)?;
+    /// let items = lists.into_nonempty_iter().flatten(); // 1, 2 and 3
+    /// ```
     final fn flatten(self) -> Flatten<Self>
     where
         Self: Sized,
@@ -397,6 +473,11 @@ pub trait NonEmptyIterator: IntoIterator {
 
     /// Folds the items into one value: starting from `init`, `f` takes the value so far and the
     /// next item, and returns the new value.
+    ///
+    /// ```
+    /// let digits = nev![alloc; 4, 6, 8]?.into_nonempty_iter();
+    /// let number = digits.fold(0, |n: u32, x| n.wrapping_mul(10).wrapping_add(x)); // 468
+    /// ```
     final fn fold<B, F: FnMut(B, Self::Item) -> B>(self, init: B, f: F) -> B
     where
         Self: Sized,
@@ -429,6 +510,11 @@ pub trait NonEmptyIterator: IntoIterator {
     /// yet. If an allocation for a run fails, `Err` is returned in its place. The items that were
     /// taken and not returned are then dropped, and `None` follows. In the Rust crate the runs are
     /// vectors without a `Result`.
+    ///
+    /// ```
+    /// let runs = [3u32, 2, 1].into_nonempty_iter().group_by(alloc, |x| *x / 2);
+    /// let runs: Result<NEVec<NEVec<u32>>, AllocError> = runs.collect(alloc)?; // Ok([[3, 2], [1]])
+    /// ```
     final fn group_by<K: PartialEq + Drop, F: FnMut(&Self::Item) -> K + Drop>(
         self,
         alloc: Global,
@@ -461,6 +547,11 @@ pub trait NonEmptyIterator: IntoIterator {
     ///
     /// The first item is taken immediately. In the Rust crate `into_iter` of the result takes it,
     /// and clones the separator once more; the items there are not in a `Result`.
+    ///
+    /// ```
+    /// let halves = [4u32, 6].into_nonempty_iter().map(|x| x / 2);
+    /// let items = halves.intersperse(0); // Ok(2), Ok(0) and Ok(3)
+    /// ```
     final fn intersperse(self, separator: Self::Item) -> Intersperse<Self::IntoIter>
     where
         Self: Sized,
@@ -493,6 +584,11 @@ pub trait NonEmptyIterator: IntoIterator {
     }
 
     /// Returns a source of what `f` returns for each item.
+    ///
+    /// ```
+    /// let items = nev![alloc; 4, 6, 8]?.into_nonempty_iter().map(|x: u32| x.wrapping_add(1));
+    /// let items: NEVec<u32> = items.collect(alloc)?; // [5, 7, 9]
+    /// ```
     final fn map<U, F: FnMut(Self::Item) -> U>(self, f: F) -> Map<Self, F>
     where
         Self: Sized,
@@ -510,6 +606,10 @@ pub trait NonEmptyIterator: IntoIterator {
 
     /// Returns the greatest item. If several are equally great, returns the first of them; std's
     /// `max` returns the last.
+    ///
+    /// ```
+    /// let greatest = nev![alloc; 6, 8, 4]?.nonempty_iter().copied().max(); // 8
+    /// ```
     final fn max(self) -> Self::Item
     where
         Self: Sized,
@@ -532,6 +632,11 @@ pub trait NonEmptyIterator: IntoIterator {
     /// `compare` is called with the greatest item so far and the next one, in this order. The
     /// result is the greatest item if what `compare` returns is a total preorder; otherwise it is
     /// some item.
+    ///
+    /// ```
+    /// let items = nev![alloc; 3, 1, 4, 1, 5, 9, 2, 6]?.into_nonempty_iter().enumerate();
+    /// let greatest = items.max_by(|x, y| (x.1 / 2).cmp(&(y.1 / 2))); // (5, 9)
+    /// ```
     final fn max_by<F: Fn(&Self::Item, &Self::Item) -> Ordering>(self, compare: F) -> Self::Item
     where
         Self: Sized,
@@ -554,6 +659,11 @@ pub trait NonEmptyIterator: IntoIterator {
 
     /// Returns the item with the greatest key. If several keys are equally great, returns the first
     /// such item; std's `max_by_key` returns the last. `key` is called once for each item.
+    ///
+    /// ```
+    /// let items = nev![alloc; 3, 1, 4, 1, 5, 9, 2, 6]?.into_nonempty_iter().enumerate();
+    /// let greatest = items.max_by_key(|x| x.1 / 2); // (5, 9)
+    /// ```
     final fn max_by_key<B: Ord + Drop, F: FnMut(&Self::Item) -> B>(self, key: F) -> Self::Item
     where
         Self: Sized,
@@ -570,6 +680,10 @@ pub trait NonEmptyIterator: IntoIterator {
     }
 
     /// Returns the least item. If several are equally small, returns the first of them.
+    ///
+    /// ```
+    /// let least = nev![alloc; 6, 8, 4]?.nonempty_iter().copied().min(); // 4
+    /// ```
     final fn min(self) -> Self::Item
     where
         Self: Sized,
@@ -591,6 +705,11 @@ pub trait NonEmptyIterator: IntoIterator {
     ///
     /// `compare` is called with the least item so far and the next one, in this order. The result
     /// is the least item if what `compare` returns is a total preorder; otherwise it is some item.
+    ///
+    /// ```
+    /// let items = nev![alloc; 3, 1, 4, 1, 5, 9, 2, 6]?.into_nonempty_iter().enumerate();
+    /// let least = items.min_by(|x, y| (x.1 / 2).cmp(&(y.1 / 2))); // (1, 1)
+    /// ```
     final fn min_by<F: Fn(&Self::Item, &Self::Item) -> Ordering>(self, compare: F) -> Self::Item
     where
         Self: Sized,
@@ -613,6 +732,11 @@ pub trait NonEmptyIterator: IntoIterator {
 
     /// Returns the item with the least key. If several keys are equally small, returns the first
     /// such item. `key` is called once for each item.
+    ///
+    /// ```
+    /// let items = nev![alloc; 3, 1, 4, 1, 5, 9, 2, 6]?.into_nonempty_iter().enumerate();
+    /// let least = items.min_by_key(|x| x.1 / 2); // (1, 1)
+    /// ```
     final fn min_by_key<B: Ord + Drop, F: FnMut(&Self::Item) -> B>(self, key: F) -> Self::Item
     where
         Self: Sized,
@@ -633,6 +757,12 @@ pub trait NonEmptyIterator: IntoIterator {
     /// `f` must be callable with any value of the items' type. The items are in order if the key
     /// depends on the item alone; otherwise they are some permutation. Returns `AllocError` if the
     /// allocation for the items or for sorting them fails; the items are then dropped.
+    ///
+    /// ```
+    /// let items = nev![alloc; 3, 1, 4, 1, 5, 9, 2, 6]?.into_nonempty_iter().enumerate();
+    /// let sorted = items.sorted_by_key(alloc, |x| x.1 / 2)?;
+    /// // (1, 1), (3, 1), (0, 3), (6, 2), (2, 4), (4, 5), (7, 6) and (5, 9)
+    /// ```
     final fn sorted_by_key<K: Ord + Drop, F: FnMut(&Self::Item) -> K>(
         self,
         alloc: Global,
@@ -661,6 +791,12 @@ pub trait NonEmptyIterator: IntoIterator {
     }
 
     /// Returns the item at index `n`, from 0, or `None` if there is no such item.
+    ///
+    /// ```
+    /// let items = nev![alloc; 4, 6, 8]?;
+    /// let third = items.nonempty_iter().copied().nth(2); // Some(8)
+    /// let fourth = items.nonempty_iter().copied().nth(3); // None
+    /// ```
     final fn nth(self, n: usize) -> Option<Self::Item>
     where
         Self: Sized,
@@ -684,7 +820,10 @@ pub trait NonEmptyIterator: IntoIterator {
     /// always returns an item, so no item is lost and the iterator ends only when its source does.
     /// In std `f` returns an `Option`, and `None` ends the iterator.
     ///
-    /// The running sums of 1, 2 and 3 are 1, 3 and 6.
+    /// ```
+    /// let add = |total: &mut u32, x: u32| { *total = total.wrapping_add(x); *total };
+    /// let sums = nev![alloc; 1, 2, 3]?.into_nonempty_iter().scan(0, add); // 1, 3 and 6
+    /// ```
     final fn scan<St: Drop, B, F: FnMut(&mut St, Self::Item) -> B>(
         self,
         init: St,
@@ -715,6 +854,11 @@ pub trait NonEmptyIterator: IntoIterator {
 
     /// Returns an iterator over all items but the first `n`. There may be none, so it is std's
     /// iterator.
+    ///
+    /// ```
+    /// let items = nev![alloc; 3, 1, 4, 1, 5, 9, 2, 6]?.into_nonempty_iter();
+    /// let rest: Vec<u32> = items.skip(2).collect(alloc)?; // [4, 1, 5, 9, 2, 6]
+    /// ```
     final fn skip(self, n: usize) -> iter::Skip<Self::IntoIter>
     where
         Self: Sized,
@@ -733,6 +877,11 @@ pub trait NonEmptyIterator: IntoIterator {
 
     /// Returns an iterator over the items from the first one for which `pred` returns `false`;
     /// `pred` is not called after that. There may be none, so it is std's iterator.
+    ///
+    /// ```
+    /// let items = nev![alloc; 2, 4, 7, 8, 9]?.into_nonempty_iter();
+    /// let rest: Vec<u32> = items.skip_while(|x| *x % 2 == 0).collect(alloc)?; // [7, 8, 9]
+    /// ```
     final fn skip_while<P: FnMut(&Self::Item) -> bool>(
         self,
         pred: P,
@@ -757,6 +906,10 @@ pub trait NonEmptyIterator: IntoIterator {
     }
 
     /// Returns the sum of the items. No partial sum may leave the range of `S`.
+    ///
+    /// ```
+    /// let sum: u32 = nev![alloc; 4, 6, 8]?.into_nonempty_iter().sum(); // 18
+    /// ```
     final fn sum<S: Sum<Self::Item>>(self) -> S
     where
         Self: Sized,
@@ -776,6 +929,11 @@ pub trait NonEmptyIterator: IntoIterator {
     }
 
     /// Returns a source of the first `n` items, or of all items if there are fewer.
+    ///
+    /// ```
+    /// let n = NonZeroUsize::new(2).unwrap();
+    /// let items = nev![alloc; 4, 6, 8]?.into_nonempty_iter().take(n); // 4 and 6
+    /// ```
     final fn take(self, n: NonZeroUsize) -> Take<Self>
     where
         Self: Sized,
@@ -793,6 +951,11 @@ pub trait NonEmptyIterator: IntoIterator {
 
     /// Returns an iterator over the items before the first one for which `pred` returns `false`;
     /// that one is taken too. There may be none, so it is std's iterator.
+    ///
+    /// ```
+    /// let items = nev![alloc; 2, 4, 7, 8, 9]?.into_nonempty_iter();
+    /// let front: Vec<u32> = items.take_while(|x| *x % 2 == 0).collect(alloc)?; // [2, 4]
+    /// ```
     final fn take_while<P: FnMut(&Self::Item) -> bool>(
         self,
         pred: P,
@@ -818,6 +981,11 @@ pub trait NonEmptyIterator: IntoIterator {
     }
 
     /// Returns the product of the items. No partial product may leave the range of `P`.
+    ///
+    /// ```
+    /// let items = nev![alloc; 3, 1, 4, 1, 5, 9, 2, 6]?.into_nonempty_iter().map(Wrapping);
+    /// let product: Wrapping<u32> = items.product(); // Wrapping(6480)
+    /// ```
     final fn product<P: Product<Self::Item>>(self) -> P
     where
         Self: Sized,
@@ -841,6 +1009,11 @@ pub trait NonEmptyIterator: IntoIterator {
     ///
     /// It is not specified how many items of the longer one are taken. In the Rust crate a [`Zip`]
     /// holds the iterators. Here it holds the two sources, and becomes std's iterator.
+    ///
+    /// ```
+    /// let items = nev![alloc; 7, 7, 0, 12, 12, 35, 4294967295]?.into_nonempty_iter();
+    /// let pairs = items.zip(nev![alloc; 7, 7, 0, 13]?); // (7, 7), (7, 7), (0, 0) and (12, 13)
+    /// ```
     final fn zip<U: IntoNonEmptyIterator>(self, other: U) -> Zip<Self, U>
     where
         Self: Sized,
@@ -861,6 +1034,12 @@ pub trait NonEmptyIterator: IntoIterator {
     ///
     /// Returns `AllocError` if an allocation fails; the items taken are then dropped. The Rust
     /// crate requires `Extend` as well as [`Singleton`].
+    ///
+    /// ```
+    /// let pairs = nev![alloc; 3, 1, 4, 1, 5, 9, 2, 6]?.into_nonempty_iter().map(|x| (x / 2, x));
+    /// let (halves, items): (NEVec<u32>, NEVec<u32>) = pairs.unzip(alloc)?;
+    /// // [1, 0, 2, 0, 2, 4, 1, 3] and [3, 1, 4, 1, 5, 9, 2, 6]
+    /// ```
     final fn unzip<
         A: Drop,
         B: Drop,
@@ -894,6 +1073,11 @@ pub trait NonEmptyIterator: IntoIterator {
 
     /// Folds the items into one value: starting from the first item, `f` takes the value so far and
     /// the next item, and returns the new value.
+    ///
+    /// ```
+    /// let digits = [1u32, 2, 3].into_nonempty_iter();
+    /// let number = digits.reduce(|n, x| n.wrapping_mul(10).wrapping_add(x)); // 123
+    /// ```
     final fn reduce<F: FnMut(Self::Item, Self::Item) -> Self::Item>(self, f: F) -> Self::Item
     where
         Self: Sized,

@@ -24,6 +24,11 @@ where
     ghost use Rattle.ne_iter.specs.PeekLends.{lends_first};
 
     /// Returns the first item. It always exists, so unlike std's `peek` this returns no `Option`.
+    ///
+    /// ```
+    /// let items = nev![alloc; 4, 6, 8]?.into_nonempty_iter().peekable();
+    /// let first = *items.peek(); // 4
+    /// ```
     pub fn peek(&self) -> &I::Item
         ensures { result.now ≡ peekable_first self.now }
     {
@@ -32,6 +37,12 @@ where
 
     /// Returns a mutable reference to the first item. The source gives the item as it was last
     /// changed.
+    ///
+    /// ```
+    /// let mut items = nev![alloc; 3, 1, 4, 1, 5, 9, 2, 6]?.into_nonempty_iter().peekable();
+    /// *items.peek_mut() = 5;
+    /// let items: NEVec<u32> = items.collect(alloc)?; // [5, 1, 4, 1, 5, 9, 2, 6]
+    /// ```
     pub fn peek_mut(&mut self) -> &mut I::Item
         ensures* writes_back { sem 𝓛 (lends_first I.row I.Item.row self.entry result) }
         ensures value { result.now ≡ peekable_first self.old }

@@ -56,6 +56,11 @@ impl<S: IntoIterator> SourceWords for S {
 /// `collected xs c` says that `c` is what the items `xs` make. `is_complete c` says that `c` was
 /// made from all items of its source; it is false if collecting may have stopped early, for example
 /// at a first `Err`.
+///
+/// ```
+/// let list: Vec<u32> = [1u32, 1, 2].into_nonempty_iter().collect(alloc)?; // [1, 1, 2]
+/// let text: String = ["ab", "", "c"].into_nonempty_iter().collect(alloc)?; // "abc"
+/// ```
 pub trait FromNonEmptyIterator<T>: Sized {
     ghost collected: { List T → Self → Type 0 };
 
@@ -79,6 +84,10 @@ pub trait FromNonEmptyIterator<T>: Sized {
 ///
 /// Its law `same_lists` says that this source may give the same lists as `into_iter` of the value.
 /// So the value can be passed to code that expects either.
+///
+/// ```
+/// let items: NEVec<u32> = [1u32, 2, 3].into_nonempty_iter().collect(alloc)?; // [1, 2, 3]
+/// ```
 pub trait IntoNonEmptyIterator: IntoIterator {
     /// The type of the source that it becomes.
     type IntoNEIter: NonEmptyIterator<Item = Self::Item>;

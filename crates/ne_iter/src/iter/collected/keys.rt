@@ -11,6 +11,12 @@ use std::collections::{BTreeMap, BTreeSet, HashMap, HashSet};
 use std::hash::{BuildHasher, Hash};
 
 /// Makes a map with each key once, with the value of the last pair that has it.
+///
+/// ```
+/// let items = nev![alloc; 3, 1, 4, 1, 5, 9, 2, 6]?.into_nonempty_iter().enumerate();
+/// let map: HashMap<u32, (usize, u32)> = items.map(|x| (x.1 / 2, x)).collect(alloc)?;
+/// let last = map.get(&1).copied(); // Some((6, 2))
+/// ```
 impl<K: Eq + Hash + Drop, V: Drop, S: BuildHasher + Default + Drop> FromNonEmptyIterator<(K, V)>
     for HashMap<K, V, S> {
     ghost collected = { λ xs m. IsMapOf K.eq xs m.entries × (0 < length m.entries) };
@@ -25,6 +31,12 @@ impl<K: Eq + Hash + Drop, V: Drop, S: BuildHasher + Default + Drop> FromNonEmpty
 
 /// Makes a map with each key once, with the value of the last pair that has it. The keys are in
 /// ascending order.
+///
+/// ```
+/// let items = nev![alloc; 3, 1, 4, 1, 5, 9, 2, 6]?.into_nonempty_iter().enumerate();
+/// let map: BTreeMap<u32, (usize, u32)> = items.map(|x| (x.1 / 2, x)).collect(alloc)?;
+/// // {0: (3, 1), 1: (6, 2), 2: (4, 5), 3: (7, 6), 4: (5, 9)}
+/// ```
 impl<K: Ord + Drop, V: Drop> FromNonEmptyIterator<(K, V)> for BTreeMap<K, V> {
     ghost collected = { λ xs m. IsMapOf K.eq xs m.entries × IsOrdered K.cmp m
         × (0 < length m.entries) };
@@ -51,6 +63,11 @@ impl<T: Eq + Hash + Drop, S: BuildHasher + Default + Drop> FromNonEmptyIterator<
 }
 
 /// Makes a set with each item once. The items are in ascending order.
+///
+/// ```
+/// let halves = nev![alloc; 3, 1, 4, 1, 5, 9, 2, 6]?.into_nonempty_iter().map(|x| x / 2);
+/// let set: BTreeSet<u32> = halves.collect(alloc)?; // {0, 1, 2, 3, 4}
+/// ```
 impl<T: Ord + Drop> FromNonEmptyIterator<T> for BTreeSet<T> {
     ghost collected = { λ xs s. IsSetOf T.eq xs s.keys × AreOrdered T.cmp s × (0 < length s.keys) };
 

@@ -25,6 +25,10 @@ impl FromNonEmptyIterator<String> for String {
 }
 
 /// Makes a text of the texts joined in order.
+///
+/// ```
+/// let text: String = ["ab", "", "c"].into_nonempty_iter().collect(alloc)?; // "abc"
+/// ```
 impl<'a> FromNonEmptyIterator<&'a str> for String {
     ghost collected = { λ xs s. string_bytes s ≡ flat_map (λ x. x.now) xs };
 
@@ -49,6 +53,10 @@ impl<'a> FromNonEmptyIterator<CowStr<'a>> for String {
 }
 
 /// Makes a text of the characters in order.
+///
+/// ```
+/// let text: String = ['x', 'y'].into_nonempty_iter().collect(alloc)?; // "xy"
+/// ```
 impl FromNonEmptyIterator<char> for String {
     ghost collected = { λ xs s. string_bytes s ≡ encode_utf8_all xs };
 
@@ -77,6 +85,10 @@ impl<'a> FromNonEmptyIterator<&'a char> for String {
 ///
 /// The contract covers parts whose text is known, as it is for each of the standard library's
 /// types.
+///
+/// ```
+/// let path: PathBuf = ["a", "b"].into_nonempty_iter().collect(alloc)?; // a/b
+/// ```
 impl<P: AsPath> FromNonEmptyIterator<P> for PathBuf {
     ghost collected = { λ xs p. IfSome (path_join_all P.path_text [] xs)
         (λ joined. path_buf_bytes p ≡ joined) };
