@@ -42,6 +42,12 @@ pub use walks::{IntoIter, Iter, IterMut, Keys, Values};
 ///
 /// Equality, order and clones of keys and values are assumed to be lawful only where a clause says
 /// so.
+///
+/// ```
+/// let map = nebtm![alloc; 1 => 10, 2 => 20, 1 => 30]?;
+/// let (one, three) = (map.get(&1), map.get(&3)); // Some(&30) and None
+/// let len = map.len().get(); // 2
+/// ```
 #[derive(Drop)]
 pub struct NEBTreeMap<K: Ord, V> {
     inner: BTreeMap<K, V>,
@@ -65,6 +71,10 @@ impl<K: Ord, V> NEBTreeMap<K, V> {
     /// Creates a map that holds the key `k` with the value `v`.
     ///
     /// Returns `AllocError` if the allocation fails; the pair is then dropped.
+    ///
+    /// ```
+    /// let map = NEBTreeMap::new(alloc, 4, 20)?; // {4: 20}
+    /// ```
     pub fn new(alloc: Global, k: K, v: V) -> Result<Self, AllocError>
     where
         K: Drop,
@@ -81,6 +91,13 @@ impl<K: Ord, V> NEBTreeMap<K, V> {
 
     /// Returns the map as a non-empty map, or `None` if and only if it is empty. The entries stay
     /// as they are, and nothing is allocated.
+    ///
+    /// ```
+    /// let inner: BTreeMap<u32, u32> = [(4, 1), (2, 2)].into_iter().collect(alloc)?;
+    /// let some = NEBTreeMap::try_from_map(inner); // Some({2: 2, 4: 1})
+    /// let inner: BTreeMap<u32, u32> = Vec::new(alloc).into_iter().collect(alloc)?;
+    /// let none = NEBTreeMap::try_from_map(inner); // None
+    /// ```
     pub fn try_from_map(map: BTreeMap<K, V>) -> Option<Self>
     where
         K: Drop,
@@ -98,6 +115,11 @@ impl<K: Ord, V> NEBTreeMap<K, V> {
     }
 
     /// Returns std's iterator over the pairs, in ascending order of the keys.
+    ///
+    /// ```
+    /// let map = nebtm![alloc; 0 => 3, 2 => 1]?;
+    /// let pairs = map.iter(); // (&0, &3) and (&2, &1)
+    /// ```
     pub fn iter(&self) -> btree_map::Iter<'_, K, V>
         ensures rest { result ≡ self.now.entries }
         ensures runs { ShowsInOrder (deref_pair {K = K} {X = V}) }
@@ -111,6 +133,13 @@ impl<K: Ord, V> NEBTreeMap<K, V> {
 
     /// Returns std's iterator over the pairs with mutable references to the values, in ascending
     /// order of the keys. The keys and their number do not change.
+    ///
+    /// ```
+    /// let mut map = nebtm![alloc; 2 => 0u32, 4 => 1]?;
+    /// for (_key, value) in map.iter_mut() {
+    ///     *value = value.wrapping_mul(31).wrapping_add(1);
+    /// } // {2: 1, 4: 32}
+    /// ```
     pub fn iter_mut(&mut self) -> btree_map::IterMut<'_, K, V>
         ensures* writes_back { sem 𝓛 (LendsValues K.row V.row K.Ord self.entry result) }
         ensures keeps { KeepsKeys self.old 0 }
@@ -125,6 +154,11 @@ impl<K: Ord, V> NEBTreeMap<K, V> {
     }
 
     /// Returns a non-empty iterator over the pairs, in ascending order of the keys.
+    ///
+    /// ```
+    /// let map = nebtm![alloc; 0 => 3, 2 => 1]?;
+    /// let pairs = map.nonempty_iter(); // (&0, &3) and (&2, &1)
+    /// ```
     pub fn nonempty_iter(&self) -> Iter<'_, K, V>
         ensures entries { result ≡ self.now.entries }
         ensures shows { KeyWalkShows (deref_pair {K = K} {X = V}) result self.now.entries }
@@ -138,6 +172,13 @@ impl<K: Ord, V> NEBTreeMap<K, V> {
 
     /// Returns a non-empty iterator over the pairs with mutable references to the values, in
     /// ascending order of the keys. The keys and their number do not change.
+    ///
+    /// ```
+    /// let mut map = nebtm![alloc; 2 => 1u32, 4 => 32]?;
+    /// for (_key, value) in map.nonempty_iter_mut() {
+    ///     *value = value.wrapping_mul(31).wrapping_add(2);
+    /// } // {2: 33, 4: 994}
+    /// ```
     pub fn nonempty_iter_mut(&mut self) -> IterMut<'_, K, V>
         ensures* writes_back { sem 𝓛 (LendsValues K.row V.row K.Ord self.entry (std_walk result)) }
         ensures keeps { KeepsKeys self.old 0 }
@@ -154,6 +195,11 @@ impl<K: Ord, V> NEBTreeMap<K, V> {
     }
 
     /// Returns a non-empty iterator over the keys, in ascending order.
+    ///
+    /// ```
+    /// let map = nebtm![alloc; 0 => 3, 2 => 1]?;
+    /// let keys = map.keys(); // &0 and &2
+    /// ```
     pub fn keys(&self) -> Keys<'_, K, V>
         ensures keys { result ≡ keys self.now }
         ensures shows { KeyWalkShows (deref {X = K}) result (keys self.now) }
@@ -168,6 +214,10 @@ impl<K: Ord, V> NEBTreeMap<K, V> {
     }
 
     /// Returns the number of keys, which is at least 1.
+    ///
+    /// ```
+    /// let len = nebtm![alloc; 1 => 10, 2 => 20, 1 => 30]?.len().get(); // 2
+    /// ```
     pub fn len(&self) -> NonZeroUsize
         ensures len { non_zero_usize_get result ≡ btree_map_len self.now }
         ensures ordered { IsOrdered K.cmp self.now }
@@ -180,6 +230,11 @@ impl<K: Ord, V> NEBTreeMap<K, V> {
     }
 
     /// Returns a non-empty iterator over the values, in ascending order of their keys.
+    ///
+    /// ```
+    /// let map = nebtm![alloc; 0 => 3, 2 => 1]?;
+    /// let values = map.values(); // &3 and &1
+    /// ```
     pub fn values(&self) -> Values<'_, K, V>
         ensures values { result ≡ values self.now }
         ensures shows { KeyWalkShows (deref {X = V}) result (values self.now) }
@@ -192,6 +247,11 @@ impl<K: Ord, V> NEBTreeMap<K, V> {
     }
 
     /// Returns whether the map holds a key equal to `k`.
+    ///
+    /// ```
+    /// let map = nebtm![alloc; 2 => 24, 4 => 26, 6 => 23, 8 => 25]?;
+    /// let (there, absent) = (map.contains_key(&2), map.contains_key(&10)); // true and false
+    /// ```
     pub fn contains_key(&self, k: &K) -> bool
         ensures { result ≡ is_some (get K.cmp self.now k.now) }
     {
@@ -199,6 +259,11 @@ impl<K: Ord, V> NEBTreeMap<K, V> {
     }
 
     /// Returns the value of the key equal to `k`, or `None` if there is no such key.
+    ///
+    /// ```
+    /// let map = nebtm![alloc; 1 => 10, 2 => 20, 1 => 30]?;
+    /// let (one, three) = (map.get(&1), map.get(&3)); // Some(&30) and None
+    /// ```
     pub fn get(&self, k: &K) -> Option<&V>
         ensures value { option_copied result ≡ get K.cmp self.now k.now }
         ensures member { IfSome result (λ v. IsAmong (values self.now) v.now) }
@@ -208,6 +273,11 @@ impl<K: Ord, V> NEBTreeMap<K, V> {
 
     /// Returns the key equal to `k`, as it is in the map, and its value, or `None` if there is no
     /// such key.
+    ///
+    /// ```
+    /// let map = nebtm![alloc; 0 => 3, 2 => 1]?;
+    /// let pair = map.get_key_value(&2); // Some((&2, &1))
+    /// ```
     pub fn get_key_value(&self, k: &K) -> Option<(&K, &V)>
         ensures key { option_map (λ p. p.0.now) result ≡ get_key K.cmp self.now k.now }
         ensures value { option_map (λ p. p.1.now) result ≡ get K.cmp self.now k.now }
@@ -217,6 +287,13 @@ impl<K: Ord, V> NEBTreeMap<K, V> {
 
     /// Returns a mutable reference to the value of the key equal to `k`, or `None` if there is no
     /// such key. The keys and the other values do not change.
+    ///
+    /// ```
+    /// let mut map = nebtm![alloc; 2 => 24, 4 => 26, 6 => 23, 8 => 25]?;
+    /// if let Some(value) = map.get_mut(&4) {
+    ///     *value = 27; // {2: 24, 4: 27, 6: 23, 8: 25}
+    /// }
+    /// ```
     pub fn get_mut(&mut self, k: &K) -> Option<&mut V>
         ensures* writes_back { sem 𝓛 (LendsValue K.row V.row K.Ord self.entry k.now result) }
         ensures value { option_copied_mut result ≡ get K.cmp self.old k.now }
@@ -232,6 +309,12 @@ impl<K: Ord, V> NEBTreeMap<K, V> {
     ///
     /// Returns `AllocError` if the map has to grow and the allocation fails. This can happen only
     /// for a new key; the entries are then unchanged and the pair is dropped.
+    ///
+    /// ```
+    /// let mut map = NEBTreeMap::new(alloc, 4, 20)?;
+    /// let none = map.insert(2, 21)?; // None: the key is new
+    /// let old = map.insert(4, 22)?; // Some(20), and the map is {2: 21, 4: 22}
+    /// ```
     pub fn insert(&mut self, k: K, v: V) -> Result<Option<V>, AllocError>
     where
         K: Drop,
@@ -256,6 +339,11 @@ impl<K: Ord, V> NEBTreeMap<K, V> {
     ///
     /// Returns `AllocError` if the map has to grow and the allocation fails. The pairs before the
     /// one that failed are then in the map, and that one is dropped.
+    ///
+    /// ```
+    /// let mut map = nebtm![alloc; 2 => 21, 4 => 22]?;
+    /// map.extend([(6, 23), (2, 24)])?; // {2: 24, 4: 22, 6: 23}
+    /// ```
     pub fn extend<I: IntoIterator<Item = (K, V)>>(&mut self, iter: I) -> Result<(), AllocError>
     where
         K: Drop,
@@ -282,6 +370,11 @@ impl<K: Ord, V> NEBTreeMap<K, V> {
     /// Returns `AllocError` if an allocation or a clone fails. No law says that a clone equals its
     /// original; so this also returns `AllocError` if the clones of the keys are not in ascending
     /// order.
+    ///
+    /// ```
+    /// let map = nebtm![alloc; 2 => 24, 4 => 26, 6 => 23, 8 => 25]?;
+    /// let same = map.clone()? == map; // true
+    /// ```
     pub fn clone(&self) -> Result<Self, AllocError>
     where
         K: Clone,

@@ -37,6 +37,12 @@ pub use walks::{IntoIter, Iter, Union};
 /// In contracts it is std's record of the set: `contains T.cmp s x` says whether an item equal to
 /// `x` is in the set, `s.keys` is the list of the items in ascending order, and `IsOrdered T.cmp s`
 /// says that they are in that order.
+///
+/// ```
+/// let set = nebts![alloc; 2, 1, 2]?;
+/// let (two, three) = (set.contains(&2), set.contains(&3)); // true and false
+/// let len = set.len().get(); // 2
+/// ```
 #[derive(Drop)]
 pub struct NEBTreeSet<T: Ord> {
     inner: BTreeSet<T>,
@@ -60,6 +66,10 @@ impl<T: Ord> NEBTreeSet<T> {
     /// Creates a set that holds the item `value`.
     ///
     /// Returns `AllocError` if the allocation fails; the item is then dropped.
+    ///
+    /// ```
+    /// let set = NEBTreeSet::new(alloc, 2)?; // {2}
+    /// ```
     pub fn new(alloc: Global, value: T) -> Result<Self, AllocError>
     where
         T: Drop,
@@ -74,6 +84,11 @@ impl<T: Ord> NEBTreeSet<T> {
     }
 
     /// Returns std's iterator over the items, in ascending order.
+    ///
+    /// ```
+    /// let set = nebts![alloc; 10, 2, 8, 4]?;
+    /// let items = set.iter(); // &2, &4, &8 and &10
+    /// ```
     pub fn iter(&self) -> btree_set::Iter<'_, T>
         ensures rest { result ≡ self.now.keys }
         ensures runs { ShowsInOrder (deref {X = T}) }
@@ -85,6 +100,11 @@ impl<T: Ord> NEBTreeSet<T> {
     }
 
     /// Returns a non-empty iterator over the items, in ascending order.
+    ///
+    /// ```
+    /// let set = nebts![alloc; 10, 2, 8, 4]?;
+    /// let items = set.nonempty_iter(); // &2, &4, &8 and &10
+    /// ```
     pub fn nonempty_iter(&self) -> Iter<'_, T>
         ensures keys { result ≡ self.now.keys }
         ensures shows { KeyWalkShows (deref {X = T}) result self.now.keys }
@@ -97,6 +117,10 @@ impl<T: Ord> NEBTreeSet<T> {
     }
 
     /// Returns the number of items, which is at least 1.
+    ///
+    /// ```
+    /// let len = nebts![alloc; 2, 1, 2]?.len().get(); // 2
+    /// ```
     pub fn len(&self) -> NonZeroUsize
         ensures len { non_zero_usize_get result ≡ btree_set_len self.now }
         ensures ordered { IsOrdered T.cmp self.now }
@@ -110,6 +134,13 @@ impl<T: Ord> NEBTreeSet<T> {
 
     /// Returns the set as a non-empty set, or `None` if and only if it is empty. The items stay as
     /// they are, and nothing is allocated.
+    ///
+    /// ```
+    /// let inner: BTreeSet<u32> = [2, 4].into_iter().collect(alloc)?;
+    /// let some = NEBTreeSet::try_from_set(inner); // Some({2, 4})
+    /// let inner: BTreeSet<u32> = Vec::new(alloc).into_iter().collect(alloc)?;
+    /// let none = NEBTreeSet::try_from_set(inner); // None
+    /// ```
     pub fn try_from_set(set: BTreeSet<T>) -> Option<Self>
     where
         T: Drop,
@@ -126,6 +157,11 @@ impl<T: Ord> NEBTreeSet<T> {
     }
 
     /// Returns whether the set holds an item equal to `value`.
+    ///
+    /// ```
+    /// let set = nebts![alloc; 2, 4, 6]?;
+    /// let (there, absent) = (set.contains(&6), set.contains(&8)); // true and false
+    /// ```
     pub fn contains(&self, value: &T) -> bool
         ensures { result ≡ contains T.cmp self.now value.now }
     {
@@ -134,6 +170,11 @@ impl<T: Ord> NEBTreeSet<T> {
 
     /// Returns an iterator over the items that are not in `other`, in ascending order. There may be
     /// none, so this is std's iterator.
+    ///
+    /// ```
+    /// let (a, b) = (nebts![alloc; 2, 4, 6]?, nebts![alloc; 6, 8, 10]?);
+    /// let left = a.difference(&b); // &2 and &4
+    /// ```
     pub fn difference<'a>(&'a self, other: &'a NEBTreeSet<T>) -> btree_set::Difference<'a, T>
         ensures items { result ≡ difference T.cmp self.now other.now }
         ensures members { IsDifference T.cmp self.now other.now result }
@@ -145,6 +186,11 @@ impl<T: Ord> NEBTreeSet<T> {
     }
 
     /// Returns the item equal to `value`, as it is in the set, or `None` if there is no such item.
+    ///
+    /// ```
+    /// let set = nebts![alloc; 1, 3, 2]?;
+    /// let (two, none) = (set.get(&2), set.get(&0)); // Some(&2) and None
+    /// ```
     pub fn get(&self, value: &T) -> Option<&T>
         ensures item { option_copied result ≡ get T.cmp self.now value.now }
         ensures found { is_some result ≡ contains T.cmp self.now value.now }
@@ -157,6 +203,12 @@ impl<T: Ord> NEBTreeSet<T> {
     ///
     /// Returns `AllocError` if the set has to grow and the allocation fails. This can happen only
     /// for a new item; the items are then unchanged and the new one is dropped.
+    ///
+    /// ```
+    /// let mut set = nebts![alloc; 2, 6]?;
+    /// let added = set.insert(8)?; // true, and the set is {2, 6, 8}
+    /// let again = set.insert(8)?; // false
+    /// ```
     pub fn insert(&mut self, value: T) -> Result<bool, AllocError>
     where
         T: Drop,
@@ -176,6 +228,11 @@ impl<T: Ord> NEBTreeSet<T> {
 
     /// Returns an iterator over the items that are also in `other`, in ascending order. There may
     /// be none, so this is std's iterator.
+    ///
+    /// ```
+    /// let (a, b) = (nebts![alloc; 1, 3, 2]?, nebts![alloc; 3, 5, 4]?);
+    /// let shared = a.intersection(&b); // &3
+    /// ```
     pub fn intersection<'a>(&'a self, other: &'a NEBTreeSet<T>) -> btree_set::Intersection<'a, T>
         ensures items { result ≡ intersection T.cmp self.now other.now }
         ensures members { IsIntersection T.cmp self.now other.now result }
@@ -187,6 +244,11 @@ impl<T: Ord> NEBTreeSet<T> {
     }
 
     /// Returns whether no item is in both sets.
+    ///
+    /// ```
+    /// let (a, b) = (nebts![alloc; 2, 4, 6]?, nebts![alloc; 6, 8, 10]?);
+    /// let disjoint = a.is_disjoint(&b); // false: 6 is in both
+    /// ```
     pub fn is_disjoint(&self, other: &NEBTreeSet<T>) -> bool
         ensures { IsTrue result ↔ IsDisjoint T.cmp self.now other.now }
     {
@@ -194,6 +256,11 @@ impl<T: Ord> NEBTreeSet<T> {
     }
 
     /// Returns whether every item of this set is in `other`.
+    ///
+    /// ```
+    /// let (a, b) = (nebts![alloc; 2, 4, 6]?, nebts![alloc; 2, 4, 6, 8]?);
+    /// let subset = a.is_subset(&b); // true
+    /// ```
     pub fn is_subset(&self, other: &NEBTreeSet<T>) -> bool
         ensures { IsTrue result ↔ IsSubset T.cmp self.now other.now }
     {
@@ -201,6 +268,11 @@ impl<T: Ord> NEBTreeSet<T> {
     }
 
     /// Returns whether every item of `other` is in this set.
+    ///
+    /// ```
+    /// let (a, b) = (nebts![alloc; 2, 4, 6]?, nebts![alloc; 6, 4]?);
+    /// let superset = a.is_superset(&b); // true
+    /// ```
     pub fn is_superset(&self, other: &NEBTreeSet<T>) -> bool
         ensures { IsTrue result ↔ IsSubset T.cmp other.now self.now }
     {
@@ -212,6 +284,11 @@ impl<T: Ord> NEBTreeSet<T> {
     ///
     /// Returns `AllocError` if the set has to grow and the allocation fails. This can happen only
     /// for a new item; the items are then unchanged and the new one is dropped.
+    ///
+    /// ```
+    /// let mut set = nebts![alloc; 1, 2, 4]?;
+    /// let old = set.replace(4)?; // Some(4)
+    /// ```
     pub fn replace(&mut self, value: T) -> Result<Option<T>, AllocError>
     where
         T: Drop,
@@ -230,6 +307,11 @@ impl<T: Ord> NEBTreeSet<T> {
 
     /// Returns a non-empty iterator over the items of both sets, each once, in ascending order. Of
     /// two equal items it returns this set's.
+    ///
+    /// ```
+    /// let (a, b) = (nebts![alloc; 1, 3, 2]?, nebts![alloc; 3, 5, 4]?);
+    /// let all = a.union(&b); // &1, &2, &3, &4 and &5
+    /// ```
     pub fn union<'a>(&'a self, other: &'a NEBTreeSet<T>) -> Union<'a, T>
         ensures items { result ≡ union T.cmp self.now other.now }
         ensures members { IsUnion T.cmp self.now other.now result }
@@ -246,6 +328,11 @@ impl<T: Ord> NEBTreeSet<T> {
     ///
     /// Returns `AllocError` if the set has to grow and the allocation fails. The items before the
     /// one that failed are then in the set, and that one is dropped.
+    ///
+    /// ```
+    /// let mut set = NEBTreeSet::new(alloc, 2)?;
+    /// set.extend([4, 2])?; // {2, 4}
+    /// ```
     pub fn extend<I: IntoIterator<Item = T>>(&mut self, iter: I) -> Result<(), AllocError>
     where
         T: Drop,
@@ -270,6 +357,11 @@ impl<T: Ord> NEBTreeSet<T> {
     ///
     /// Returns `AllocError` if an allocation or a clone fails. No law says that a clone equals its
     /// original; so this also returns `AllocError` if the clones are not in ascending order.
+    ///
+    /// ```
+    /// let set = nebts![alloc; 2, 4, 6]?;
+    /// let same = set.clone()? == set; // true
+    /// ```
     pub fn clone(&self) -> Result<Self, AllocError>
     where
         T: Clone,

@@ -9,7 +9,8 @@
 /// compile.
 ///
 /// ```
-/// let names = nebtm![alloc; 1 => 'a', 2 => 'b']?;
+/// let map = nebtm![alloc; 1 => 10, 2 => 20, 1 => 30]?;
+/// let (one, two) = (map.get(&1), map.get(&2)); // Some(&30) and Some(&20)
 /// ```
 #[macro_export]
 macro_rules! nebtm {
@@ -43,7 +44,8 @@ macro_rules! nebtm {
 /// compile.
 ///
 /// ```
-/// let three = nebts![alloc; 3, 1, 2]?;
+/// let set = nebts![alloc; 2, 1, 2]?;
+/// let len = set.len().get(); // 2
 /// ```
 #[macro_export]
 macro_rules! nebts {
