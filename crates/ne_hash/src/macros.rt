@@ -9,7 +9,8 @@
 /// compile.
 ///
 /// ```
-/// let names = nem![alloc; 1 => 'a', 2 => 'b']?;
+/// let map = nem![alloc; 1 => 10, 2 => 20, 1 => 30]?;
+/// let (one, two) = (map.get(&1), map.get(&2)); // Some(&30) and Some(&20)
 /// ```
 #[macro_export]
 macro_rules! nem {
@@ -43,7 +44,8 @@ macro_rules! nem {
 /// compile.
 ///
 /// ```
-/// let three = nes![alloc; 3, 1, 2]?;
+/// let set = nes![alloc; 2, 1, 2]?;
+/// let len = set.len().get(); // 2
 /// ```
 #[macro_export]
 macro_rules! nes {

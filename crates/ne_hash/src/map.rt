@@ -52,6 +52,12 @@ pub use walks::{IntoIter, Iter, IterMut, Keys, Values};
 ///
 /// Equality, hashing and clones of keys and values are assumed to be lawful only where a clause
 /// says so.
+///
+/// ```
+/// let map = nem![alloc; 1 => 10, 2 => 20, 1 => 30]?;
+/// let (one, three) = (map.get(&1), map.get(&3)); // Some(&30) and None
+/// let len = map.len().get(); // 2
+/// ```
 #[derive(Drop)]
 pub struct NEMap<K: Eq + Hash, V, S: BuildHasher = BuildHasherDefault<FoldHasher>> {
     inner: HashMap<K, V, S>,
@@ -75,6 +81,10 @@ impl<K: Eq + Hash + Drop, V: Drop> NEMap<K, V> {
     /// Creates a map that holds the key `k` with the value `v`, with the default hasher.
     ///
     /// Returns `AllocError` if the allocation fails; the pair is then dropped.
+    ///
+    /// ```
+    /// let map = NEMap::new(alloc, 4, 20)?; // {4: 20}
+    /// ```
     pub fn new(alloc: Global, k: K, v: V) -> Result<Self, AllocError>
         ensures entries { IfOk result (λ m. m.entries ≡ (k, v) ∷ []) }
         ensures value { IfOk result (λ m. get K.eq m k ≡ Some v) }
@@ -89,6 +99,11 @@ impl<K: Eq + Hash + Drop, V: Drop> NEMap<K, V> {
     ///
     /// Returns `AllocError` if the allocation fails or if `capacity` is more than can be allocated;
     /// the pair is then dropped.
+    ///
+    /// ```
+    /// let room = NonZeroUsize::new(9).unwrap();
+    /// let map = NEMap::with_capacity(alloc, room, 2, 1)?; // {2: 1}, with room for 9 keys
+    /// ```
     pub fn with_capacity(
         alloc: Global,
         capacity: NonZeroUsize,
@@ -108,6 +123,13 @@ impl<K: Eq + Hash + Drop, V: Drop> NEMap<K, V> {
 impl<K: Eq + Hash, V, S: BuildHasher> NEMap<K, V, S> {
     /// Returns the map as a non-empty map, or `None` if and only if it is empty. The entries and
     /// the hasher stay as they are, and nothing is allocated.
+    ///
+    /// ```
+    /// let inner: HashMap<u32, u32> = [(4, 1), (2, 2)].into_iter().collect(alloc)?;
+    /// let some = NEMap::try_from_map(inner); // Some({2: 2, 4: 1})
+    /// let inner: HashMap<u32, u32> = Vec::new(alloc).into_iter().collect(alloc)?;
+    /// let none = NEMap::try_from_map(inner); // None
+    /// ```
     pub fn try_from_map(map: HashMap<K, V, S>) -> Option<Self>
     where
         K: Drop,
@@ -144,6 +166,11 @@ impl<K: Eq + Hash, V, S: BuildHasher> NEMap<K, V, S> {
     }
 
     /// Returns std's iterator over the pairs, in an unspecified order.
+    ///
+    /// ```
+    /// let map = nem![alloc; 0 => 3, 2 => 1]?;
+    /// let pairs = map.iter(); // (&0, &3) and (&2, &1), in some order
+    /// ```
     pub fn iter(&self) -> hash_map::Iter<'_, K, V>
         ensures rest { result ≡ self.now.entries }
         ensures runs { ShowsInOrder (deref_pair {K = K} {X = V}) }
@@ -157,6 +184,13 @@ impl<K: Eq + Hash, V, S: BuildHasher> NEMap<K, V, S> {
 
     /// Returns std's iterator over the pairs with mutable references to the values, in an
     /// unspecified order. The keys and their number do not change.
+    ///
+    /// ```
+    /// let mut map = nem![alloc; 2 => 0u32, 4 => 1]?;
+    /// for (_key, value) in map.iter_mut() {
+    ///     *value = value.wrapping_mul(31).wrapping_add(1);
+    /// } // {2: 1, 4: 32}
+    /// ```
     pub fn iter_mut(&mut self) -> hash_map::IterMut<'_, K, V>
         ensures* writes_back { sem 𝓛 (LendsValues K.row V.row S.row S.Hasher.row K.Hash
             S.BuildHasher S.Hasher.Hasher self.entry result) }
@@ -172,6 +206,11 @@ impl<K: Eq + Hash, V, S: BuildHasher> NEMap<K, V, S> {
     }
 
     /// Returns a non-empty iterator over the pairs, in an unspecified order.
+    ///
+    /// ```
+    /// let map = nem![alloc; 0 => 3, 2 => 1]?;
+    /// let pairs = map.nonempty_iter(); // (&0, &3) and (&2, &1), in some order
+    /// ```
     pub fn nonempty_iter(&self) -> Iter<'_, K, V>
         ensures entries { result ≡ self.now.entries }
         ensures shows { KeyWalkShows (deref_pair {K = K} {X = V}) result self.now.entries }
@@ -185,6 +224,13 @@ impl<K: Eq + Hash, V, S: BuildHasher> NEMap<K, V, S> {
 
     /// Returns a non-empty iterator over the pairs with mutable references to the values, in an
     /// unspecified order. The keys and their number do not change.
+    ///
+    /// ```
+    /// let mut map = nem![alloc; 2 => 1u32, 4 => 32]?;
+    /// for (_key, value) in map.nonempty_iter_mut() {
+    ///     *value = value.wrapping_mul(31).wrapping_add(2);
+    /// } // {2: 33, 4: 994}
+    /// ```
     pub fn nonempty_iter_mut(&mut self) -> IterMut<'_, K, V>
         ensures* writes_back { sem 𝓛 (LendsValues K.row V.row S.row S.Hasher.row K.Hash
             S.BuildHasher S.Hasher.Hasher self.entry (std_walk result)) }
@@ -203,6 +249,11 @@ impl<K: Eq + Hash, V, S: BuildHasher> NEMap<K, V, S> {
 
     /// Returns a non-empty iterator over the keys. The order is unspecified, but it is that of the
     /// pairs.
+    ///
+    /// ```
+    /// let map = nem![alloc; 0 => 3, 2 => 1]?;
+    /// let keys = map.keys(); // &0 and &2, in some order
+    /// ```
     pub fn keys(&self) -> Keys<'_, K, V>
         ensures keys { result ≡ keys self.now }
         ensures shows { KeyWalkShows (deref {X = K}) result (keys self.now) }
@@ -216,6 +267,10 @@ impl<K: Eq + Hash, V, S: BuildHasher> NEMap<K, V, S> {
     }
 
     /// Returns the number of keys, which is at least 1.
+    ///
+    /// ```
+    /// let len = nem![alloc; 1 => 10, 2 => 20, 1 => 30]?.len().get(); // 2
+    /// ```
     pub fn len(&self) -> NonZeroUsize
         ensures len { non_zero_usize_get result ≡ hash_map_len self.now }
         ensures unique { IsUnique K.eq self.now }
@@ -236,6 +291,11 @@ impl<K: Eq + Hash, V, S: BuildHasher> NEMap<K, V, S> {
 
     /// Returns a non-empty iterator over the values. The order is unspecified, but it is that of
     /// the pairs.
+    ///
+    /// ```
+    /// let map = nem![alloc; 0 => 3, 2 => 1]?;
+    /// let values = map.values(); // &3 and &1, in some order
+    /// ```
     pub fn values(&self) -> Values<'_, K, V>
         ensures values { result ≡ values self.now }
         ensures shows { KeyWalkShows (deref {X = V}) result (values self.now) }
@@ -248,6 +308,11 @@ impl<K: Eq + Hash, V, S: BuildHasher> NEMap<K, V, S> {
     }
 
     /// Returns whether the map holds a key equal to `k`.
+    ///
+    /// ```
+    /// let map = nem![alloc; 2 => 24, 4 => 26, 6 => 23, 8 => 25]?;
+    /// let (there, absent) = (map.contains_key(&2), map.contains_key(&10)); // true and false
+    /// ```
     pub fn contains_key(&self, k: &K) -> bool
         ensures { result ≡ is_some (get K.eq self.now k.now) }
     {
@@ -255,6 +320,11 @@ impl<K: Eq + Hash, V, S: BuildHasher> NEMap<K, V, S> {
     }
 
     /// Returns the value of the key equal to `k`, or `None` if there is no such key.
+    ///
+    /// ```
+    /// let map = nem![alloc; 1 => 10, 2 => 20, 1 => 30]?;
+    /// let (one, three) = (map.get(&1), map.get(&3)); // Some(&30) and None
+    /// ```
     pub fn get(&self, k: &K) -> Option<&V>
         ensures value { option_copied result ≡ get K.eq self.now k.now }
         ensures member { IfSome result (λ v. IsAmong (values self.now) v.now) }
@@ -273,6 +343,13 @@ impl<K: Eq + Hash, V, S: BuildHasher> NEMap<K, V, S> {
 
     /// Returns a mutable reference to the value of the key equal to `k`, or `None` if there is no
     /// such key. The keys and the other values do not change.
+    ///
+    /// ```
+    /// let mut map = nem![alloc; 2 => 24, 4 => 26, 6 => 23, 8 => 25]?;
+    /// if let Some(value) = map.get_mut(&4) {
+    ///     *value = 27; // {2: 24, 4: 27, 6: 23, 8: 25}
+    /// }
+    /// ```
     pub fn get_mut(&mut self, k: &K) -> Option<&mut V>
         ensures* writes_back { sem 𝓛 (LendsValue K.row V.row S.row S.Hasher.row K.Hash
             S.BuildHasher S.Hasher.Hasher self.entry k.now result) }
@@ -289,6 +366,12 @@ impl<K: Eq + Hash, V, S: BuildHasher> NEMap<K, V, S> {
     ///
     /// Returns `AllocError` if the map has to grow and the allocation fails. This can happen only
     /// for a new key; the entries are then unchanged and the pair is dropped.
+    ///
+    /// ```
+    /// let mut map = NEMap::new(alloc, 4, 20)?;
+    /// let none = map.insert(2, 21)?; // None: the key is new
+    /// let old = map.insert(4, 22)?; // Some(20), and the map is {2: 21, 4: 22}
+    /// ```
     pub fn insert(&mut self, k: K, v: V) -> Result<Option<V>, AllocError>
     where
         K: Drop,
@@ -354,6 +437,11 @@ impl<K: Eq + Hash, V, S: BuildHasher> NEMap<K, V, S> {
     /// Creates a map that holds the key `k` with the value `v`, with the hasher `hasher`.
     ///
     /// Returns `AllocError` if the allocation fails; the hasher and the pair are then dropped.
+    ///
+    /// ```
+    /// let hasher = BuildHasherDefault::new();
+    /// let map: NEMap<u32, u32> = NEMap::with_hasher(alloc, hasher, 5, 60)?; // {5: 60}
+    /// ```
     pub fn with_hasher(alloc: Global, hasher: S, k: K, v: V) -> Result<Self, AllocError>
     where
         K: Drop,
@@ -373,6 +461,11 @@ impl<K: Eq + Hash, V, S: BuildHasher> NEMap<K, V, S> {
     ///
     /// Returns `AllocError` if the map has to grow and the allocation fails. The pairs before the
     /// one that failed are then in the map, and that one is dropped.
+    ///
+    /// ```
+    /// let mut map = nem![alloc; 2 => 21, 4 => 22]?;
+    /// map.extend([(6, 23), (2, 24)])?; // {2: 24, 4: 22, 6: 23}
+    /// ```
     pub fn extend<I: IntoIterator<Item = (K, V)>>(&mut self, iter: I) -> Result<(), AllocError>
     where
         K: Drop,
@@ -400,6 +493,11 @@ impl<K: Eq + Hash, V, S: BuildHasher> NEMap<K, V, S> {
     /// Returns `AllocError` if an allocation or a clone fails. No law says that a clone equals its
     /// original; so this also returns `AllocError` if the clone of a key does not equal the key, or
     /// if the clone of the hasher gives it another hash.
+    ///
+    /// ```
+    /// let map = nem![alloc; 2 => 24, 4 => 26, 6 => 23, 8 => 25]?;
+    /// let same = map.clone()? == map; // true
+    /// ```
     pub fn clone(&self) -> Result<Self, AllocError>
     where
         K: Clone,

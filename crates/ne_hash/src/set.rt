@@ -46,6 +46,12 @@ pub use walks::{IntoIter, Iter, Union};
 /// In contracts it is std's record of the set: `contains T.eq s x` says whether an item equal to
 /// `x` is in the set, `s.keys` is the list of the items in the order of iteration,
 /// `IsUnique T.eq s` says that no two items are equal, and `hasher_of s` is the hasher.
+///
+/// ```
+/// let set = nes![alloc; 2, 1, 2]?;
+/// let (two, three) = (set.contains(&2), set.contains(&3)); // true and false
+/// let len = set.len().get(); // 2
+/// ```
 #[derive(Drop)]
 pub struct NESet<T: Eq + Hash, S: BuildHasher = BuildHasherDefault<FoldHasher>> {
     inner: HashSet<T, S>,
@@ -85,6 +91,11 @@ impl<T: Eq + Hash, S: BuildHasher> NESet<T, S> {
     }
 
     /// Returns std's iterator over the items, in an unspecified order.
+    ///
+    /// ```
+    /// let set = nes![alloc; 10, 2, 8, 4]?;
+    /// let items = set.iter(); // &2, &4, &8 and &10, in some order
+    /// ```
     pub fn iter(&self) -> hash_set::Iter<'_, T>
         ensures rest { result ≡ self.now.keys }
         ensures runs { ShowsInOrder (deref {X = T}) }
@@ -96,6 +107,11 @@ impl<T: Eq + Hash, S: BuildHasher> NESet<T, S> {
     }
 
     /// Returns a non-empty iterator over the items, in an unspecified order.
+    ///
+    /// ```
+    /// let set = nes![alloc; 10, 2, 8, 4]?;
+    /// let items = set.nonempty_iter(); // &2, &4, &8 and &10, in some order
+    /// ```
     pub fn nonempty_iter(&self) -> Iter<'_, T>
         ensures keys { result ≡ self.now.keys }
         ensures shows { KeyWalkShows (deref {X = T}) result self.now.keys }
@@ -108,6 +124,10 @@ impl<T: Eq + Hash, S: BuildHasher> NESet<T, S> {
     }
 
     /// Returns the number of items, which is at least 1.
+    ///
+    /// ```
+    /// let len = nes![alloc; 2, 1, 2]?.len().get(); // 2
+    /// ```
     pub fn len(&self) -> NonZeroUsize
         ensures len { non_zero_usize_get result ≡ hash_set_len self.now }
         ensures unique { IsUnique T.eq self.now }
@@ -131,6 +151,10 @@ impl<T: Eq + Hash + Drop> NESet<T> {
     /// Creates a set that holds the item `value`, with the default hasher.
     ///
     /// Returns `AllocError` if the allocation fails; the item is then dropped.
+    ///
+    /// ```
+    /// let set = NESet::new(alloc, 2)?; // {2}
+    /// ```
     pub fn new(alloc: Global, value: T) -> Result<Self, AllocError>
         ensures keys { IfOk result (λ s. s.keys ≡ value ∷ []) }
         ensures found { IfOk result (λ s. contains T.eq s value ≡ true) }
@@ -145,6 +169,11 @@ impl<T: Eq + Hash + Drop> NESet<T> {
     ///
     /// Returns `AllocError` if the allocation fails or if `capacity` is more than can be allocated;
     /// the item is then dropped.
+    ///
+    /// ```
+    /// let room = NonZeroUsize::new(9).unwrap();
+    /// let set = NESet::with_capacity(alloc, room, 2)?; // {2}, with room for 9 items
+    /// ```
     pub fn with_capacity(
         alloc: Global,
         capacity: NonZeroUsize,
@@ -163,6 +192,13 @@ impl<T: Eq + Hash + Drop> NESet<T> {
 impl<T: Eq + Hash, S: BuildHasher> NESet<T, S> {
     /// Returns the set as a non-empty set, or `None` if and only if it is empty. The items and the
     /// hasher stay as they are, and nothing is allocated.
+    ///
+    /// ```
+    /// let inner: HashSet<u32> = [2, 4].into_iter().collect(alloc)?;
+    /// let some = NESet::try_from_set(inner); // Some({2, 4})
+    /// let inner: HashSet<u32> = Vec::new(alloc).into_iter().collect(alloc)?;
+    /// let none = NESet::try_from_set(inner); // None
+    /// ```
     pub fn try_from_set(set: HashSet<T, S>) -> Option<Self>
     where
         T: Drop,
@@ -180,6 +216,11 @@ impl<T: Eq + Hash, S: BuildHasher> NESet<T, S> {
     }
 
     /// Returns whether the set holds an item equal to `value`.
+    ///
+    /// ```
+    /// let set = nes![alloc; 2, 4, 6]?;
+    /// let (there, absent) = (set.contains(&6), set.contains(&8)); // true and false
+    /// ```
     pub fn contains(&self, value: &T) -> bool
         ensures { result ≡ contains T.eq self.now value.now }
     {
@@ -188,6 +229,11 @@ impl<T: Eq + Hash, S: BuildHasher> NESet<T, S> {
 
     /// Returns an iterator over the items that are not in `other`, in an unspecified order. There
     /// may be none, so this is std's iterator.
+    ///
+    /// ```
+    /// let (a, b) = (nes![alloc; 2, 4, 6]?, nes![alloc; 6, 8, 10]?);
+    /// let left = a.difference(&b); // &2 and &4, in some order
+    /// ```
     pub fn difference<'a>(&'a self, other: &'a NESet<T, S>) -> hash_set::Difference<'a, T, S>
         ensures members { IsDifference T.eq self.now other.now result }
         ensures unique { IsDistinct T.eq result }
@@ -199,6 +245,11 @@ impl<T: Eq + Hash, S: BuildHasher> NESet<T, S> {
     }
 
     /// Returns the item equal to `value`, as it is in the set, or `None` if there is no such item.
+    ///
+    /// ```
+    /// let set = nes![alloc; 1, 3, 6, 8, 12]?;
+    /// let eight = set.get(&8); // Some(&8)
+    /// ```
     pub fn get(&self, value: &T) -> Option<&T>
         ensures item { option_copied result ≡ get T.eq self.now value.now }
         ensures found { is_some result ≡ contains T.eq self.now value.now }
@@ -211,6 +262,12 @@ impl<T: Eq + Hash, S: BuildHasher> NESet<T, S> {
     ///
     /// Returns `AllocError` if the set has to grow and the allocation fails. This can happen only
     /// for a new item; the items are then unchanged and the new one is dropped.
+    ///
+    /// ```
+    /// let mut set = nes![alloc; 2, 6]?;
+    /// let added = set.insert(8)?; // true, and the set is {2, 6, 8}
+    /// let again = set.insert(8)?; // false
+    /// ```
     pub fn insert(&mut self, value: T) -> Result<bool, AllocError>
     where
         T: Drop,
@@ -231,6 +288,11 @@ impl<T: Eq + Hash, S: BuildHasher> NESet<T, S> {
 
     /// Returns an iterator over the items that are also in `other`, in an unspecified order. There
     /// may be none, so this is std's iterator. Which of two equal items it returns is unspecified.
+    ///
+    /// ```
+    /// let (a, b) = (nes![alloc; 0, 3]?, nes![alloc; 0, 5, 4, 3, 2, 1]?);
+    /// let shared = a.intersection(&b); // &0 and &3, in some order
+    /// ```
     pub fn intersection<'a>(&'a self, other: &'a NESet<T, S>) -> hash_set::Intersection<'a, T, S>
         ensures members { IsIntersection T.eq self.now other.now result }
         ensures unique { IsDistinct T.eq result }
@@ -242,6 +304,11 @@ impl<T: Eq + Hash, S: BuildHasher> NESet<T, S> {
     }
 
     /// Returns whether no item is in both sets.
+    ///
+    /// ```
+    /// let (a, b) = (nes![alloc; 2, 4, 6]?, nes![alloc; 6, 8, 10]?);
+    /// let disjoint = a.is_disjoint(&b); // false: 6 is in both
+    /// ```
     pub fn is_disjoint(&self, other: &NESet<T, S>) -> bool
         ensures { IsTrue result ↔ IsDisjoint T.eq self.now other.now }
     {
@@ -249,6 +316,11 @@ impl<T: Eq + Hash, S: BuildHasher> NESet<T, S> {
     }
 
     /// Returns whether every item of this set is in `other`.
+    ///
+    /// ```
+    /// let (a, b) = (nes![alloc; 2, 4, 6]?, nes![alloc; 2, 4, 6, 8]?);
+    /// let subset = a.is_subset(&b); // true
+    /// ```
     pub fn is_subset(&self, other: &NESet<T, S>) -> bool
         ensures { IsTrue result ↔ IsSubset T.eq self.now other.now }
     {
@@ -256,6 +328,11 @@ impl<T: Eq + Hash, S: BuildHasher> NESet<T, S> {
     }
 
     /// Returns whether every item of `other` is in this set.
+    ///
+    /// ```
+    /// let (a, b) = (nes![alloc; 2, 4, 6]?, nes![alloc; 6, 4]?);
+    /// let superset = a.is_superset(&b); // true
+    /// ```
     pub fn is_superset(&self, other: &NESet<T, S>) -> bool
         ensures { IsTrue result ↔ IsSubset T.eq other.now self.now }
     {
@@ -267,6 +344,11 @@ impl<T: Eq + Hash, S: BuildHasher> NESet<T, S> {
     ///
     /// Returns `AllocError` if the set has to grow and the allocation fails. This can happen only
     /// for a new item; the items are then unchanged and the new one is dropped.
+    ///
+    /// ```
+    /// let mut set = nes![alloc; 1, 3, 6, 8, 12]?;
+    /// let old = set.replace(8)?; // Some(8)
+    /// ```
     pub fn replace(&mut self, value: T) -> Result<Option<T>, AllocError>
     where
         T: Drop,
@@ -289,6 +371,11 @@ impl<T: Eq + Hash, S: BuildHasher> NESet<T, S> {
     ///
     /// Returns `AllocError` if the allocation fails or if `additional` is more than can be
     /// allocated; the items are then unchanged, in the same order.
+    ///
+    /// ```
+    /// let mut set = NESet::new(alloc, 2)?;
+    /// set.reserve(20)?; // the capacity is now at least 21
+    /// ```
     pub fn reserve(&mut self, additional: usize) -> Result<(), AllocError>
         ensures keys { IsReordered T.eq self.old self.new }
         ensures room { OnOk result (additional ≤ spare self.new) }
@@ -358,6 +445,11 @@ impl<T: Eq + Hash, S: BuildHasher> NESet<T, S> {
     /// Creates a set that holds the item `value`, with the hasher `hasher`.
     ///
     /// Returns `AllocError` if the allocation fails; the hasher and the item are then dropped.
+    ///
+    /// ```
+    /// let hasher = BuildHasherDefault::new();
+    /// let set: NESet<u32> = NESet::with_hasher(alloc, hasher, 8)?; // {8}
+    /// ```
     pub fn with_hasher(alloc: Global, hasher: S, value: T) -> Result<Self, AllocError>
     where
         T: Drop,
@@ -375,6 +467,11 @@ impl<T: Eq + Hash, S: BuildHasher> NESet<T, S> {
     ///
     /// Returns `AllocError` if the set has to grow and the allocation fails. The items before the
     /// one that failed are then in the set, and that one is dropped.
+    ///
+    /// ```
+    /// let mut set = NESet::new(alloc, 2)?;
+    /// set.extend([4, 2])?; // {2, 4}
+    /// ```
     pub fn extend<I: IntoIterator<Item = T>>(&mut self, iter: I) -> Result<(), AllocError>
     where
         T: Drop,
@@ -401,6 +498,11 @@ impl<T: Eq + Hash, S: BuildHasher> NESet<T, S> {
     /// Returns `AllocError` if an allocation or a clone fails. No law says that a clone equals its
     /// original; so this also returns `AllocError` if the clone of an item does not equal the item,
     /// or if the clone of the hasher gives it another hash.
+    ///
+    /// ```
+    /// let set = nes![alloc; 2, 4, 6]?;
+    /// let same = set.clone()? == set; // true
+    /// ```
     pub fn clone(&self) -> Result<Self, AllocError>
     where
         T: Clone,
