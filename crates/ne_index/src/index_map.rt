@@ -46,6 +46,12 @@ pub use walks::{IntoIter, Iter, Keys, Values};
 ///
 /// Equality, hashing and clones of keys and values are assumed to be lawful only where a clause
 /// says so.
+///
+/// ```
+/// let map = neim![alloc; 1 => 10, 2 => 20, 1 => 30]?;
+/// let (one, three) = (map.get(&1), map.get(&3)); // Some(&30) and None
+/// let len = map.len().get(); // 2
+/// ```
 #[derive(Drop)]
 pub struct NEIndexMap<K: Eq + Hash, V, S: BuildHasher = BuildHasherDefault<FoldHasher>> {
     inner: IndexMap<K, V, S>,
@@ -82,6 +88,11 @@ impl<K: Eq + Hash, V, S: BuildHasher> NEIndexMap<K, V, S> {
     }
 
     /// Returns the crate `indexmap`'s iterator over the pairs, in the map's order.
+    ///
+    /// ```
+    /// let map = neim![alloc; 0 => 3, 2 => 1]?;
+    /// let pairs = map.iter(); // (&0, &3) and (&2, &1)
+    /// ```
     pub fn iter(&self) -> map::Iter<'_, K, V>
         ensures rest { result ≡ self.now.entries }
         ensures runs { ShowsInOrder (deref_pair {K = K} {X = V}) }
@@ -94,6 +105,11 @@ impl<K: Eq + Hash, V, S: BuildHasher> NEIndexMap<K, V, S> {
     }
 
     /// Returns a non-empty iterator over the pairs, in the map's order.
+    ///
+    /// ```
+    /// let map = neim![alloc; 0 => 3, 2 => 1]?;
+    /// let pairs = map.nonempty_iter(); // (&0, &3) and (&2, &1)
+    /// ```
     pub fn nonempty_iter(&self) -> Iter<'_, K, V>
         ensures entries { result ≡ self.now.entries }
         ensures shows { KeyWalkShows (deref_pair {K = K} {X = V}) result self.now.entries }
@@ -106,6 +122,11 @@ impl<K: Eq + Hash, V, S: BuildHasher> NEIndexMap<K, V, S> {
     }
 
     /// Returns a non-empty iterator over the keys, in the map's order.
+    ///
+    /// ```
+    /// let map = neim![alloc; 0 => 3, 2 => 1]?;
+    /// let keys = map.keys(); // &0 and &2
+    /// ```
     pub fn keys(&self) -> Keys<'_, K, V>
         ensures keys { result ≡ keys self.now }
         ensures shows { KeyWalkShows (deref {X = K}) result (keys self.now) }
@@ -119,6 +140,10 @@ impl<K: Eq + Hash, V, S: BuildHasher> NEIndexMap<K, V, S> {
     }
 
     /// Returns the number of keys, which is at least 1.
+    ///
+    /// ```
+    /// let len = neim![alloc; 1 => 10, 2 => 20, 1 => 30]?.len().get(); // 2
+    /// ```
     pub fn len(&self) -> NonZeroUsize
         ensures len { non_zero_usize_get result ≡ index_map_len self.now }
         ensures unique { IsUnique K.eq self.now }
@@ -139,6 +164,11 @@ impl<K: Eq + Hash, V, S: BuildHasher> NEIndexMap<K, V, S> {
     }
 
     /// Returns a non-empty iterator over the values, in the order of their keys.
+    ///
+    /// ```
+    /// let map = neim![alloc; 0 => 3, 2 => 1]?;
+    /// let values = map.values(); // &3 and &1
+    /// ```
     pub fn values(&self) -> Values<'_, K, V>
         ensures values { result ≡ values self.now }
         ensures shows { KeyWalkShows (deref {X = V}) result (values self.now) }
@@ -150,6 +180,11 @@ impl<K: Eq + Hash, V, S: BuildHasher> NEIndexMap<K, V, S> {
     }
 
     /// Returns the first pair.
+    ///
+    /// ```
+    /// let map = neim![alloc; 0 => 1, 2 => 2, 4 => 3, 6 => 4, 8 => 5, 10 => 6]?;
+    /// let first = map.first(); // (&0, &1)
+    /// ```
     pub fn first(&self) -> (&K, &V)
         ensures { slice_get self.now.entries 0 ≡ Some (deref_pair result) }
     {
@@ -157,6 +192,11 @@ impl<K: Eq + Hash, V, S: BuildHasher> NEIndexMap<K, V, S> {
     }
 
     /// Returns the last pair, which is also the first if there is no other.
+    ///
+    /// ```
+    /// let map = neim![alloc; 0 => 1, 2 => 2, 4 => 3, 6 => 4, 8 => 5, 10 => 6]?;
+    /// let last = map.last(); // (&10, &6)
+    /// ```
     pub fn last(&self) -> (&K, &V)
         ensures { slice_get self.now.entries (index_map_len self.now - 1)
             ≡ Some (deref_pair result) }
@@ -169,6 +209,10 @@ impl<K: Eq + Hash, V> NEIndexMap<K, V> {
     /// Creates a map that holds the key `k` with the value `v`, with the default hasher.
     ///
     /// Returns `AllocError` if the allocation fails; the pair is then dropped.
+    ///
+    /// ```
+    /// let map = NEIndexMap::new(alloc, 4, 20)?; // {4: 20}
+    /// ```
     pub fn new(alloc: Global, k: K, v: V) -> Result<Self, AllocError>
     where
         K: Drop,
@@ -185,6 +229,11 @@ impl<K: Eq + Hash, V> NEIndexMap<K, V> {
     ///
     /// Returns `AllocError` if the allocation fails or if `capacity` is more than can be allocated;
     /// the pair is then dropped.
+    ///
+    /// ```
+    /// let room = NonZeroUsize::new(9).unwrap();
+    /// let map = NEIndexMap::with_capacity(alloc, room, 2, 1)?; // {2: 1}, with room for 9 keys
+    /// ```
     pub fn with_capacity(
         alloc: Global,
         capacity: NonZeroUsize,
@@ -207,6 +256,13 @@ impl<K: Eq + Hash, V> NEIndexMap<K, V> {
 impl<K: Eq + Hash, V, S: BuildHasher> NEIndexMap<K, V, S> {
     /// Returns the map as a non-empty map, or `None` if and only if it is empty. The entries and
     /// the hasher stay as they are, and nothing is allocated.
+    ///
+    /// ```
+    /// let inner: IndexMap<u32, u32> = [(4, 1), (2, 2)].into_iter().collect(alloc)?;
+    /// let some = NEIndexMap::try_from_map(inner); // Some({4: 1, 2: 2})
+    /// let inner: IndexMap<u32, u32> = Vec::new(alloc).into_iter().collect(alloc)?;
+    /// let none = NEIndexMap::try_from_map(inner); // None
+    /// ```
     pub fn try_from_map(map: IndexMap<K, V, S>) -> Option<Self>
     where
         K: Drop,
@@ -225,6 +281,11 @@ impl<K: Eq + Hash, V, S: BuildHasher> NEIndexMap<K, V, S> {
     }
 
     /// Returns whether the map holds a key equal to `k`.
+    ///
+    /// ```
+    /// let map = neim![alloc; 4 => 26, 2 => 24, 6 => 23, 8 => 25]?;
+    /// let (there, absent) = (map.contains_key(&2), map.contains_key(&10)); // true and false
+    /// ```
     pub fn contains_key(&self, k: &K) -> bool
         ensures { result ≡ is_some (get K.eq self.now k.now) }
     {
@@ -232,6 +293,11 @@ impl<K: Eq + Hash, V, S: BuildHasher> NEIndexMap<K, V, S> {
     }
 
     /// Returns the value of the key equal to `k`, or `None` if there is no such key.
+    ///
+    /// ```
+    /// let map = neim![alloc; 1 => 10, 2 => 20, 1 => 30]?;
+    /// let (one, three) = (map.get(&1), map.get(&3)); // Some(&30) and None
+    /// ```
     pub fn get(&self, k: &K) -> Option<&V>
         ensures value { option_copied result ≡ get K.eq self.now k.now }
         ensures member { IfSome result (λ v. IsAmong (values self.now) v.now) }
@@ -241,6 +307,11 @@ impl<K: Eq + Hash, V, S: BuildHasher> NEIndexMap<K, V, S> {
 
     /// Returns the key equal to `k`, as it is in the map, and its value, or `None` if there is no
     /// such key.
+    ///
+    /// ```
+    /// let map = neim![alloc; 0 => 3, 2 => 1]?;
+    /// let pair = map.get_key_value(&2); // Some((&2, &1))
+    /// ```
     pub fn get_key_value(&self, k: &K) -> Option<(&K, &V)>
         ensures key { option_map (λ p. p.0.now) result ≡ get_key K.eq self.now k.now }
         ensures value { option_map (λ p. p.1.now) result ≡ get K.eq self.now k.now }
@@ -250,6 +321,13 @@ impl<K: Eq + Hash, V, S: BuildHasher> NEIndexMap<K, V, S> {
 
     /// Returns a mutable reference to the value of the key equal to `k`, or `None` if there is no
     /// such key. The keys, their indices and the other values do not change.
+    ///
+    /// ```
+    /// let mut map = neim![alloc; 4 => 26, 2 => 24, 6 => 23, 8 => 25]?;
+    /// if let Some(value) = map.get_mut(&4) {
+    ///     *value = 27; // {4: 27, 2: 24, 6: 23, 8: 25}
+    /// }
+    /// ```
     pub fn get_mut(&mut self, k: &K) -> Option<&mut V>
         ensures* writes_back { sem 𝓛 (LendsValue K.row V.row S.row S.Hasher.row K.Hash
             S.BuildHasher S.Hasher.Hasher self.entry k.now result) }
@@ -261,6 +339,12 @@ impl<K: Eq + Hash, V, S: BuildHasher> NEIndexMap<K, V, S> {
     }
 
     /// Returns the index of the key equal to `k`, or `None` if there is no such key.
+    ///
+    /// ```
+    /// let map = neim![alloc; 0 => 3, 2 => 1]?;
+    /// let index = map.get_index_of(&2); // Some(1)
+    /// let none = map.get_index_of(&4); // None
+    /// ```
     pub fn get_index_of(&self, k: &K) -> Option<usize>
         ensures place { result ≡ index_of K.eq self.now k.now }
         ensures found { is_some result ≡ is_some (get K.eq self.now k.now) }
@@ -278,6 +362,12 @@ impl<K: Eq + Hash, V, S: BuildHasher> NEIndexMap<K, V, S> {
     ///
     /// Returns `AllocError` if the map has to grow and the allocation fails. This can happen only
     /// for a new key; the entries are then unchanged and the pair is dropped.
+    ///
+    /// ```
+    /// let mut map = NEIndexMap::new(alloc, 4, 20)?;
+    /// let none = map.insert(2, 21)?; // None: the key is new
+    /// let old = map.insert(4, 22)?; // Some(20), and the map is {4: 22, 2: 21}
+    /// ```
     pub fn insert(&mut self, k: K, v: V) -> Result<Option<V>, AllocError>
     where
         K: Drop,
@@ -347,6 +437,11 @@ impl<K: Eq + Hash, V, S: BuildHasher> NEIndexMap<K, V, S> {
     /// Creates a map that holds the key `k` with the value `v`, with the hasher `hasher`.
     ///
     /// Returns `AllocError` if the allocation fails; the hasher and the pair are then dropped.
+    ///
+    /// ```
+    /// let hasher = BuildHasherDefault::new();
+    /// let map: NEIndexMap<u32, u32> = NEIndexMap::with_hasher(alloc, hasher, 8, 50)?; // {8: 50}
+    /// ```
     pub fn with_hasher(
         alloc: Global,
         hasher: S,
@@ -370,6 +465,11 @@ impl<K: Eq + Hash, V, S: BuildHasher> NEIndexMap<K, V, S> {
     /// Swaps the pairs at the indices `a` and `b`. All other pairs stay where they are.
     ///
     /// Both indices must be less than `len`; the Rust crate panics on others.
+    ///
+    /// ```
+    /// let mut map = neim![alloc; 0 => 5, 2 => 7, 4 => 3]?;
+    /// map.swap_indices(0, 1); // {2: 7, 0: 5, 4: 3}
+    /// ```
     pub fn swap_indices(&mut self, a: usize, b: usize)
         requires a { a < index_map_len self.old }
         requires b { b < index_map_len self.old }
@@ -388,6 +488,11 @@ impl<K: Eq + Hash, V, S: BuildHasher> NEIndexMap<K, V, S> {
     ///
     /// Returns `AllocError` if the map has to grow and the allocation fails. The pairs before the
     /// one that failed are then in the map, and that one is dropped.
+    ///
+    /// ```
+    /// let mut map = neim![alloc; 4 => 22, 2 => 21]?;
+    /// map.extend([(6, 23), (2, 24)])?; // {4: 22, 2: 24, 6: 23}
+    /// ```
     pub fn extend<I: IntoIterator<Item = (K, V)>>(&mut self, iter: I) -> Result<(), AllocError>
     where
         K: Drop,
@@ -417,6 +522,11 @@ impl<K: Eq + Hash, V, S: BuildHasher> NEIndexMap<K, V, S> {
     /// Returns `AllocError` if an allocation or a clone fails. No law says that a clone equals its
     /// original; so this also returns `AllocError` if the clone of a key does not equal the key or
     /// has another hash.
+    ///
+    /// ```
+    /// let map = neim![alloc; 4 => 26, 2 => 24, 6 => 23, 8 => 25]?;
+    /// let same = map.clone()? == map; // true
+    /// ```
     pub fn clone(&self) -> Result<Self, AllocError>
     where
         K: Clone,

@@ -42,6 +42,12 @@ pub use walks::{IntoIter, Iter, Union};
 ///
 /// The default hasher has a fixed seed; the Rust crate's default is `RandomState`. If untrusted
 /// users can choose the items, create the set by `with_hasher` with `RandomState`.
+///
+/// ```
+/// let set = neis![alloc; 2, 1, 2]?;
+/// let (two, three) = (set.contains(&2), set.contains(&3)); // true and false
+/// let len = set.len().get(); // 2
+/// ```
 #[derive(Drop)]
 pub struct NEIndexSet<T: Eq + Hash, S: BuildHasher = BuildHasherDefault<FoldHasher>> {
     inner: IndexSet<T, S>,
@@ -78,6 +84,11 @@ impl<T: Eq + Hash, S: BuildHasher> NEIndexSet<T, S> {
     }
 
     /// Returns the crate `indexmap`'s iterator over the items, in the set's order.
+    ///
+    /// ```
+    /// let set = neis![alloc; 10, 2, 8, 4]?;
+    /// let items = set.iter(); // &10, &2, &8 and &4
+    /// ```
     pub fn iter(&self) -> set::Iter<'_, T>
         ensures rest { result ≡ self.now.keys }
         ensures runs { ShowsInOrder (deref {X = T}) }
@@ -89,6 +100,11 @@ impl<T: Eq + Hash, S: BuildHasher> NEIndexSet<T, S> {
     }
 
     /// Returns a non-empty iterator over the items, in the set's order.
+    ///
+    /// ```
+    /// let set = neis![alloc; 10, 2, 8, 4]?;
+    /// let items = set.nonempty_iter(); // &10, &2, &8 and &4
+    /// ```
     pub fn nonempty_iter(&self) -> Iter<'_, T>
         ensures keys { result ≡ self.now.keys }
         ensures shows { KeyWalkShows (deref {X = T}) result self.now.keys }
@@ -101,6 +117,10 @@ impl<T: Eq + Hash, S: BuildHasher> NEIndexSet<T, S> {
     }
 
     /// Returns the number of items, which is at least 1.
+    ///
+    /// ```
+    /// let len = neis![alloc; 2, 1, 2]?.len().get(); // 2
+    /// ```
     pub fn len(&self) -> NonZeroUsize
         ensures len { non_zero_usize_get result ≡ index_set_len self.now }
         ensures unique { IsUnique T.eq self.now }
@@ -125,6 +145,10 @@ impl<T: Eq + Hash> NEIndexSet<T> {
     /// Creates a set that holds the item `value`, with the default hasher.
     ///
     /// Returns `AllocError` if the allocation fails; the item is then dropped.
+    ///
+    /// ```
+    /// let set = NEIndexSet::new(alloc, 2)?; // {2}
+    /// ```
     pub fn new(alloc: Global, value: T) -> Result<Self, AllocError>
     where
         T: Drop,
@@ -140,6 +164,11 @@ impl<T: Eq + Hash> NEIndexSet<T> {
     ///
     /// Returns `AllocError` if the allocation fails or if `capacity` is more than can be allocated;
     /// the item is then dropped.
+    ///
+    /// ```
+    /// let room = NonZeroUsize::new(9).unwrap();
+    /// let set = NEIndexSet::with_capacity(alloc, room, 2)?; // {2}, with room for 9 items
+    /// ```
     pub fn with_capacity(
         alloc: Global,
         capacity: NonZeroUsize,
@@ -160,6 +189,13 @@ impl<T: Eq + Hash> NEIndexSet<T> {
 impl<T: Eq + Hash, S: BuildHasher> NEIndexSet<T, S> {
     /// Returns the set as a non-empty set, or `None` if and only if it is empty. The items and the
     /// hasher stay as they are, and nothing is allocated.
+    ///
+    /// ```
+    /// let inner: IndexSet<u32> = [2, 4].into_iter().collect(alloc)?;
+    /// let some = NEIndexSet::try_from_set(inner); // Some({2, 4})
+    /// let inner: IndexSet<u32> = Vec::new(alloc).into_iter().collect(alloc)?;
+    /// let none = NEIndexSet::try_from_set(inner); // None
+    /// ```
     pub fn try_from_set(set: IndexSet<T, S>) -> Option<Self>
     where
         T: Drop,
@@ -177,6 +213,11 @@ impl<T: Eq + Hash, S: BuildHasher> NEIndexSet<T, S> {
     }
 
     /// Returns whether the set holds an item equal to `value`.
+    ///
+    /// ```
+    /// let set = neis![alloc; 2, 4, 6]?;
+    /// let (there, absent) = (set.contains(&6), set.contains(&8)); // true and false
+    /// ```
     pub fn contains(&self, value: &T) -> bool
         ensures { result ≡ contains T.eq self.now value.now }
     {
@@ -185,6 +226,11 @@ impl<T: Eq + Hash, S: BuildHasher> NEIndexSet<T, S> {
 
     /// Returns an iterator over the items that are not in `other`, in this set's order. There may
     /// be none, so this is the crate `indexmap`'s iterator.
+    ///
+    /// ```
+    /// let (a, b) = (neis![alloc; 2, 4, 6]?, neis![alloc; 6, 8, 10]?);
+    /// let left = a.difference(&b); // &2 and &4
+    /// ```
     pub fn difference<'a>(&'a self, other: &'a NEIndexSet<T, S>) -> set::Difference<'a, T, S>
         ensures items { result ≡ difference T.eq self.now other.now }
         ensures members { IsDifference T.eq self.now other.now result }
@@ -208,6 +254,12 @@ impl<T: Eq + Hash, S: BuildHasher> NEIndexSet<T, S> {
     ///
     /// Returns `AllocError` if the set has to grow and the allocation fails. This can happen only
     /// for a new item; the items are then unchanged and the new one is dropped.
+    ///
+    /// ```
+    /// let mut set = neis![alloc; 6, 2]?;
+    /// let added = set.insert(8)?; // true, and the set is {6, 2, 8}
+    /// let again = set.insert(8)?; // false
+    /// ```
     pub fn insert(&mut self, value: T) -> Result<bool, AllocError>
     where
         T: Drop,
@@ -230,6 +282,11 @@ impl<T: Eq + Hash, S: BuildHasher> NEIndexSet<T, S> {
 
     /// Returns an iterator over the items that are also in `other`, in this set's order. There may
     /// be none, so this is the crate `indexmap`'s iterator.
+    ///
+    /// ```
+    /// let (a, b) = (neis![alloc; 0, 3]?, neis![alloc; 0, 1, 2, 3]?);
+    /// let shared = a.intersection(&b); // &0 and &3
+    /// ```
     pub fn intersection<'a>(&'a self, other: &'a NEIndexSet<T, S>) -> set::Intersection<'a, T, S>
         ensures items { result ≡ intersection T.eq self.now other.now }
         ensures members { IsIntersection T.eq self.now other.now result }
@@ -241,6 +298,11 @@ impl<T: Eq + Hash, S: BuildHasher> NEIndexSet<T, S> {
     }
 
     /// Returns whether no item is in both sets.
+    ///
+    /// ```
+    /// let (a, b) = (neis![alloc; 2, 4, 6]?, neis![alloc; 6, 8, 10]?);
+    /// let disjoint = a.is_disjoint(&b); // false: 6 is in both
+    /// ```
     pub fn is_disjoint(&self, other: &NEIndexSet<T, S>) -> bool
         ensures { IsTrue result ↔ IsDisjoint T.eq self.now other.now }
     {
@@ -248,6 +310,11 @@ impl<T: Eq + Hash, S: BuildHasher> NEIndexSet<T, S> {
     }
 
     /// Returns whether every item of this set is in `other`.
+    ///
+    /// ```
+    /// let (a, b) = (neis![alloc; 2, 4, 6]?, neis![alloc; 2, 4, 6, 8]?);
+    /// let subset = a.is_subset(&b); // true
+    /// ```
     pub fn is_subset(&self, other: &NEIndexSet<T, S>) -> bool
         ensures { IsTrue result ↔ IsSubset T.eq self.now other.now }
     {
@@ -255,6 +322,11 @@ impl<T: Eq + Hash, S: BuildHasher> NEIndexSet<T, S> {
     }
 
     /// Returns whether every item of `other` is in this set.
+    ///
+    /// ```
+    /// let (a, b) = (neis![alloc; 2, 4, 6]?, neis![alloc; 6, 4]?);
+    /// let superset = a.is_superset(&b); // true
+    /// ```
     pub fn is_superset(&self, other: &NEIndexSet<T, S>) -> bool
         ensures { IsTrue result ↔ IsSubset T.eq other.now self.now }
     {
@@ -266,6 +338,11 @@ impl<T: Eq + Hash, S: BuildHasher> NEIndexSet<T, S> {
     ///
     /// Returns `AllocError` if the set has to grow and the allocation fails. This can happen only
     /// for a new item; the items are then unchanged and the new one is dropped.
+    ///
+    /// ```
+    /// let mut set = neis![alloc; 0, 3, 4]?;
+    /// let old = set.replace(4)?; // Some(4)
+    /// ```
     pub fn replace(&mut self, value: T) -> Result<Option<T>, AllocError>
     where
         T: Drop,
@@ -290,6 +367,11 @@ impl<T: Eq + Hash, S: BuildHasher> NEIndexSet<T, S> {
     ///
     /// Returns `AllocError` if the allocation fails or if `additional` is more than can be
     /// allocated.
+    ///
+    /// ```
+    /// let mut set = NEIndexSet::new(alloc, 2)?;
+    /// set.reserve(20)?; // the capacity is now at least 21
+    /// ```
     pub fn reserve(&mut self, additional: usize) -> Result<(), AllocError>
         ensures room { OnOk result (additional ≤ spare self.new) }
         ensures unchanged { IsUnchanged self.old self.new }
@@ -318,6 +400,11 @@ impl<T: Eq + Hash, S: BuildHasher> NEIndexSet<T, S> {
 
     /// Returns a non-empty iterator over the items of this set, in its order, and then over those
     /// of `other` that this set lacks, in the order of `other`.
+    ///
+    /// ```
+    /// let (one, two) = (neis![alloc; 1]?, neis![alloc; 2]?);
+    /// let count = one.union(&two).count().get(); // 2
+    /// ```
     pub fn union<'a>(&'a self, other: &'a NEIndexSet<T, S>) -> Union<'a, T, S>
         ensures items { result ≡ union T.eq self.now other.now }
         ensures members { IsUnion T.eq self.now other.now result }
@@ -359,6 +446,11 @@ impl<T: Eq + Hash, S: BuildHasher> NEIndexSet<T, S> {
     /// Creates a set that holds the item `value`, with the hasher `hasher`.
     ///
     /// Returns `AllocError` if the allocation fails; the hasher and the item are then dropped.
+    ///
+    /// ```
+    /// let hasher = BuildHasherDefault::new();
+    /// let set: NEIndexSet<u32> = NEIndexSet::with_hasher(alloc, hasher, 5)?; // {5}
+    /// ```
     pub fn with_hasher(alloc: Global, hasher: S, value: T) -> Result<NEIndexSet<T, S>, AllocError>
     where
         T: Drop,
@@ -378,6 +470,11 @@ impl<T: Eq + Hash, S: BuildHasher> NEIndexSet<T, S> {
     ///
     /// Returns `AllocError` if the set has to grow and the allocation fails. The items before the
     /// one that failed are then in the set, and that one is dropped.
+    ///
+    /// ```
+    /// let mut set = NEIndexSet::new(alloc, 2)?;
+    /// set.extend([4, 2])?; // {2, 4}
+    /// ```
     pub fn extend<I: IntoIterator<Item = T>>(&mut self, iter: I) -> Result<(), AllocError>
     where
         T: Drop,
@@ -406,6 +503,11 @@ impl<T: Eq + Hash, S: BuildHasher> NEIndexSet<T, S> {
     /// Returns `AllocError` if an allocation or a clone fails. No law says that a clone equals its
     /// original; so this also returns `AllocError` if the clone of an item does not equal the item
     /// or has another hash.
+    ///
+    /// ```
+    /// let set = neis![alloc; 2, 4, 6]?;
+    /// let same = set.clone()? == set; // true
+    /// ```
     pub fn clone(&self) -> Result<Self, AllocError>
     where
         T: Clone,

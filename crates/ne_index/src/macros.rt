@@ -12,7 +12,8 @@
 /// as it is inserted.
 ///
 /// ```
-/// let scores = ne_indexmap![alloc; "a" => 1, "b" => 2]?;
+/// let map = neim![alloc; "b" => 10, "a" => 11]?;
+/// let same = ne_indexmap![alloc; "b" => 10, "a" => 11]? == map; // true
 /// ```
 #[macro_export]
 macro_rules! ne_indexmap {
@@ -40,7 +41,7 @@ macro_rules! ne_indexmap {
 /// Creates a map exactly as [`ne_indexmap!`](crate::ne_indexmap) does, under a shorter name.
 ///
 /// ```
-/// let scores = neim![alloc; "a" => 1, "b" => 2, "a" => 3]?;
+/// let map = neim![alloc; 1 => 10, 2 => 20, 1 => 30]?; // {1: 30, 2: 20}
 /// ```
 #[macro_export]
 macro_rules! neim {
@@ -58,7 +59,7 @@ macro_rules! neim {
 /// compile.
 ///
 /// ```
-/// let three = neis![alloc; 3, 1, 2]?;
+/// let set = neis![alloc; 2, 1, 2]?; // {2, 1}
 /// ```
 #[macro_export]
 macro_rules! neis {

@@ -120,6 +120,11 @@ fn collected<
 
 /// Returns the value at an index, from 0. The index must be less than `len`; the Rust crate panics
 /// on others.
+///
+/// ```
+/// let map = neim![alloc; 0 => 1, 2 => 2, 4 => 3, 6 => 4, 8 => 5, 10 => 6]?;
+/// let value = map[1]; // 2
+/// ```
 impl<K: Eq + Hash, V> Index<usize> for NEIndexMap<K, V> {
     type Output = V;
 
