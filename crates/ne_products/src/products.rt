@@ -31,7 +31,12 @@ pub trait NonEmptyItertools: NonEmptyIterator {
     /// It does not allocate by itself. In the Rust crate the items are plain pairs, because clones
     /// cannot fail there, and the iterator is that of `itertools`.
     ///
-    /// The product of `[0, 1]` and `['a', 'b']` is (0, 'a'), (0, 'b'), (1, 'a') and (1, 'b').
+    /// ```
+    /// let (rows, columns) = (nev![alloc; 0, 1]?, nev![alloc; 7, 8]?);
+    /// let columns = columns.nonempty_iter().copied();
+    /// let pairs = rows.nonempty_iter().copied().cartesian_product(columns);
+    /// // Ok((0, 7)), Ok((0, 8)), Ok((1, 7)) and Ok((1, 8))
+    /// ```
     final fn cartesian_product<J: IntoNonEmptyIterator>(
         self,
         other: J,
@@ -80,6 +85,11 @@ pub trait NonEmptyItertools: NonEmptyIterator {
     ///
     /// Returns `AllocError` if an allocation for the items seen so far fails. They are kept in
     /// std's [`HashSet`], and are then dropped.
+    ///
+    /// ```
+    /// let unique = nev![alloc; 7]?.into_nonempty_iter().all_unique(alloc)?; // true
+    /// let repeated = nev![alloc; 1, 2, 1, 2]?.into_nonempty_iter().all_unique(alloc)?; // false
+    /// ```
     final fn all_unique(self, alloc: Global) -> Result<bool, AllocError>
     where
         Self: Sized,

@@ -12,6 +12,11 @@ use ne_iter::{IntoNonEmptyIterator, NonEmptyIterator};
 ///
 /// If both sides are non-empty iterators with items of one type, it is a non-empty iterator too,
 /// and gives the items of the side that is there.
+///
+/// ```
+/// let right: NEEither<[u32; 1], [u32; 3]> = NEEither::Right([2, 1, 4]);
+/// let items: NEVec<u32> = right.into_nonempty_iter().collect(alloc)?; // [2, 1, 4]
+/// ```
 #[derive(Copy, Clone, PartialEq, Eq, PartialOrd, Ord, Hash, Debug, Drop)]
 pub enum NEEither<L, R> {
     /// A value of the first type.
@@ -23,7 +28,10 @@ pub enum NEEither<L, R> {
 impl<L: IntoNonEmptyIterator, R: IntoNonEmptyIterator<Item = L::Item>> NEEither<L, R> {
     /// Returns the non-empty iterator of the side that is there. It does not allocate.
     ///
-    /// For `Left([0])` it gives 0.
+    /// ```
+    /// let left: NEEither<[u32; 1], [u32; 3]> = NEEither::Left([0]);
+    /// let items: NEVec<u32> = left.into_nonempty_iter().collect(alloc)?; // [0]
+    /// ```
     pub fn into_nonempty_iter(self) -> NEEither<L::IntoNEIter, R::IntoNEIter>
         ensures makes { MakesSide L.into_nonempty_iter_gives R.into_nonempty_iter_gives
             self result }
