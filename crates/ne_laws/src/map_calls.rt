@@ -39,6 +39,14 @@ pub enum MapReply<V> {
 ///
 /// On `{1: 'a'}`, the calls `Insert(2, 'b')`, `Write(1, 'c')` and `Write(3, 'z')` have the replies
 /// `Old(None)`, `Old(Some('a'))` and `Old(None)`, and leave `{1: 'c', 2: 'b'}`.
+///
+/// ```
+/// let mut m = nebtm![alloc; 0 => 5, 2 => 1, 4 => 3]?;
+/// let calls = vec![in alloc; MapCall::Insert(2, 7), MapCall::Write(8, 8), MapCall::Has(0),
+///     MapCall::Len]?;
+/// let replies = run_map(alloc, &mut m, calls)?;
+/// // Old(Some(1)), Old(None), Has(true) and Len(3), and m is {0: 5, 2: 7, 4: 3}
+/// ```
 pub fn run_map<K: Eq + Drop, V: Drop, M: NonEmptyMap<K, V>>(
     alloc: Global,
     m: &mut M,

@@ -23,6 +23,12 @@ use std::alloc::{AllocError, Global};
 ///
 /// For 5, 5, 6 and 6, each its own key, and `k` 1, it returns the run `[5, 5]`. `key` was then
 /// called three times, the reader holds one 6, and the other 6 was not drawn.
+///
+/// ```
+/// let items = nev![alloc; 50u32, 50, 60, 60]?.into_nonempty_iter();
+/// let (runs, mut reader) = take_runs(alloc, items, |item| *item / 10, 1)?; // [[50, 50]]
+/// let next = reader.next(); // Some(Ok([60, 60]))
+/// ```
 pub fn take_runs<I: NonEmptyIterator, K: PartialEq + Drop, F: FnMut(&I::Item) -> K + Drop>(
     alloc: Global,
     iter: I,

@@ -49,6 +49,14 @@ pub enum VecReply<T> {
 ///
 /// On `[1]`, the calls `Pop`, `Push(2)` and `Remove(0)` have the replies `Taken(None)`, `Done` and
 /// `Taken(Some(1))`, and leave `[2]`.
+///
+/// ```
+/// let mut v = NEVec::new(alloc, 1u32)?;
+/// let calls = vec![in alloc; VecCall::Push(2), VecCall::Insert(2, 3), VecCall::Pop,
+///     VecCall::Len, VecCall::SwapRemove(5)]?;
+/// let replies = run_vec(alloc, &mut v, calls)?;
+/// // Done, Done, Taken(Some(3)), Len(2) and Refused, and v is [1, 2]
+/// ```
 pub fn run_vec<T: Drop>(
     alloc: Global,
     v: &mut NEVec<T>,
