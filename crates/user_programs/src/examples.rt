@@ -1,4 +1,7 @@
 //! Worked examples: a call, and the exact values that it returns.
+//!
+//! The examples in the library's comments take their values from these functions, from those of the
+//! other users' crates and the tests, and from the stored runs.
 ghost use Rattle.std.specs.Prelude.{
   ◌≡◌,
   ◌<◌,
