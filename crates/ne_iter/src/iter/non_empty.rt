@@ -1011,7 +1011,7 @@ pub trait NonEmptyIterator: IntoIterator {
     /// holds the iterators. Here it holds the two sources, and becomes std's iterator.
     ///
     /// ```
-    /// let items = nev![alloc; 7, 7, 0, 12, 12, 35, 4294967295]?.into_nonempty_iter();
+    /// let items = nev![alloc; 7u32, 7, 0, 12, 12, 35, 4294967295]?.into_nonempty_iter();
     /// let pairs = items.zip(nev![alloc; 7, 7, 0, 13]?); // (7, 7), (7, 7), (0, 0) and (12, 13)
     /// ```
     final fn zip<U: IntoNonEmptyIterator>(self, other: U) -> Zip<Self, U>

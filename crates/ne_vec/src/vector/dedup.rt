@@ -56,7 +56,7 @@ impl<T: Drop> NEVec<T> {
     /// first item, the first item stays.
     ///
     /// ```
-    /// let mut items = nev![alloc; 7, 7, 0, 12, 12, 35, 4294967295]?;
+    /// let mut items = nev![alloc; 7u32, 7, 0, 12, 12, 35, 4294967295]?;
     /// items.dedup(); // [7, 0, 12, 35, 4294967295]
     /// ```
     pub fn dedup(&mut self)

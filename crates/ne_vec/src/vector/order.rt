@@ -28,7 +28,7 @@ impl<T> NEVec<T> {
     ///
     /// ```
     /// let found = nev![alloc; 1, 1, 2, 3, 4, 5, 6, 9]?.binary_search(&5); // Ok(5)
-    /// let place = nev![alloc; 0, 7, 7, 12, 12, 35, 4294967295]?.binary_search(&8); // Err(3)
+    /// let place = nev![alloc; 0u32, 7, 7, 12, 12, 35, 4294967295]?.binary_search(&8); // Err(3)
     /// ```
     pub fn binary_search(&self, x: &T) -> Result<usize, usize>
     where
