@@ -9,7 +9,7 @@ use Rattle.std.specs.Iterator.Adapters.{copied_source, copied_steps}
 use Rattle.std.specs.declared.iter.Copied.{Copied}
 use Rattle.ne_iter.specs.Clones.{ClonesNext}
 use Rattle.ne_iter.specs.SourceLaws.{none_copied, none_cloned}
-use Rattle.ne_iter.specs.declared.iter.copies.ClonedIter.{ClonedIter}
+use Rattle.ne_iter.specs.declared.iter.cloned.ClonedIter.{ClonedIter}
 
 module _ {S T : Type 0} (W : Type 0) (steps : S → Option (Bor T) → S → Type 0) where
   abbrev Behind : S → List T → Type 0

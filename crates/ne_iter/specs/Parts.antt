@@ -2,19 +2,19 @@
 use Rattle.std.specs.Prelude.{ℕ, List}
 use Rattle.std.specs.Int.NonZero.{non_zero_usize_get}
 use Rattle.ne_iter.specs.declared.array.ArrayNonEmptyIterator.{ArrayNonEmptyIterator}
-use Rattle.ne_iter.specs.declared.iter.looked.LooksAhead.{Ghosts}
-use Rattle.ne_iter.specs.declared.iter.looked.NonEmptyIterAdapter.{NonEmptyIterAdapter}
+use Rattle.ne_iter.specs.declared.iter.try_into.LooksAhead.{Ghosts}
+use Rattle.ne_iter.specs.declared.iter.try_into.NonEmptyIterAdapter.{NonEmptyIterAdapter}
 use Rattle.ne_iter.specs.declared.iter.adapters.Map.{Map}
 use Rattle.ne_iter.specs.declared.iter.adapters.Enumerate.{Enumerate}
 use Rattle.ne_iter.specs.declared.iter.adapters.Take.{Take}
 use Rattle.ne_iter.specs.declared.iter.adapters.Chain.{Chain}
-use Rattle.ne_iter.specs.declared.iter.adapters.Once.{Once}
+use Rattle.ne_iter.specs.declared.iter.one_item.Once.{Once}
 use Rattle.ne_iter.specs.declared.iter.adapters.Zip.{Zip}
-use Rattle.ne_iter.specs.declared.iter.copies.Cloned.{Cloned}
-use Rattle.ne_iter.specs.declared.iter.copies.ClonedIter.{ClonedIter}
-use Rattle.ne_iter.specs.declared.iter.copies.Copied.{Copied}
-use Rattle.ne_iter.specs.declared.iter.flat.FlatMap.{FlatMap}
-use Rattle.ne_iter.specs.declared.iter.flat.Flatten.{Flatten}
+use Rattle.ne_iter.specs.declared.iter.cloned.Cloned.{Cloned}
+use Rattle.ne_iter.specs.declared.iter.cloned.ClonedIter.{ClonedIter}
+use Rattle.ne_iter.specs.declared.iter.cloned.Copied.{Copied}
+use Rattle.ne_iter.specs.declared.iter.flatten.FlatMap.{FlatMap}
+use Rattle.ne_iter.specs.declared.iter.flatten.Flatten.{Flatten}
 use Rattle.ne_iter.specs.declared.iter.scan.Scan.{Scan}
 use Rattle.ne_iter.specs.declared.iter.group_by.NEGroupBy.{NEGroupBy}
 use Rattle.ne_iter.specs.declared.iter.intersperse.Intersperse.{Intersperse}

@@ -5,27 +5,30 @@ ghost use Rattle.ne_iter.specs.Gives.{GivesList};
 
 mod adapters;
 mod best;
+mod cloned;
 mod collected;
-mod copies;
-mod flat;
+mod flatten;
 mod group_by;
 mod intersperse;
-mod looked;
 mod non_empty;
+mod one_item;
 mod peek;
 mod scan;
 mod sources;
+mod try_into;
 
-pub use adapters::{Chain, Enumerate, Map, Once, Take, Zip};
-pub use copies::{Cloned, ClonedIter, Copied};
-pub use flat::{FlatMap, Flatten};
+pub use adapters::{Chain, Enumerate, Map, Take, Zip};
+pub use cloned::{Cloned, ClonedIter, Copied};
+pub use collected::FromNonEmptyIterator;
+pub use flatten::{FlatMap, Flatten};
 pub use group_by::{GroupBy, NEGroupBy};
 pub use intersperse::{Intersperse, RawIntersperse};
-pub use looked::{IntoIteratorExt, LooksAhead, NonEmptyIterAdapter};
 pub use non_empty::NonEmptyIterator;
+pub use one_item::Once;
 pub use peek::Peekable;
 pub use scan::{Scan, ScanIter};
-pub use sources::{FromNonEmptyIterator, IntoNonEmptyIterator, SourceWords};
+pub use sources::{IntoNonEmptyIterator, SourceWords};
+pub use try_into::{IntoIteratorExt, LooksAhead, NonEmptyIterAdapter};
 
 /// Returns a source of one item, `value`.
 ///

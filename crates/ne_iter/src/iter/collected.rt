@@ -1,14 +1,45 @@
-//! Collecting into the standard library's types: into `()`, vectors and results here, into texts
-//! and paths in `texts`, and into maps and sets in `keys`.
+//! Collecting: the trait [`FromNonEmptyIterator`], and the standard library's types that implement
+//! it: `()`, vectors and results here, texts and paths in `texts`, and maps and sets in `keys`.
+ghost use Rattle.std.specs.Prelude.{Bool, true, List, IfOk};
+ghost use Rattle.std.specs.Iterator.{IsFiniteIterable};
 ghost use Rattle.std.specs.Result.{is_ok};
 ghost use Rattle.ne_iter.specs.Collected.{ResultsMake};
 
 mod keys;
 mod texts;
 
-use super::{FromNonEmptyIterator, IntoNonEmptyIterator, NonEmptyIterator};
+use super::{IntoNonEmptyIterator, NonEmptyIterator, SourceWords};
 use ne_vec::NEVec;
 use std::alloc::{AllocError, Global};
+
+/// A type that can be made from one item or more.
+///
+/// `collected xs c` says that `c` is what the items `xs` make. `is_complete c` says that `c` was
+/// made from all items of its source; it is false if collecting may have stopped early, for example
+/// at a first `Err`.
+///
+/// ```
+/// let list: Vec<u32> = [1u32, 1, 2].into_nonempty_iter().collect(alloc)?; // [1, 1, 2]
+/// let text: String = ["ab", "", "c"].into_nonempty_iter().collect(alloc)?; // "abc"
+/// ```
+pub trait FromNonEmptyIterator<T>: Sized {
+    ghost collected: { List T → Self → Type 0 };
+
+    ghost is_complete: { Self → Bool } = { λ _. true };
+
+    /// Collects the items. They must come to an end.
+    ///
+    /// Returns `AllocError` if the allocation fails; the items taken are then dropped.
+    fn from_nonempty_iter<I: IntoNonEmptyIterator<Item = T>>(
+        alloc: Global,
+        iter: I,
+    ) -> Result<Self, AllocError>
+        requires { (source : I.IntoNEIter) → I.into_nonempty_iter_gives iter source
+            → IsFiniteIterable I.IntoNEIter.into_iter_gives I.IntoNEIter.IntoIter.can_next
+            I.IntoNEIter.IntoIter.remaining source }
+        ensures { IfOk result (λ c. (xs : List T)
+            × ⟦<I as SourceWords>⟧.reads (is_complete c) iter xs × collected xs c) };
+}
 
 /// Makes nothing, but takes every item.
 impl FromNonEmptyIterator<()> for () {

@@ -59,7 +59,8 @@ ghost use Rattle.ne_iter.specs.Consumers.{PicksGreatestKey, PicksLeastKey, HasGr
 ghost use Rattle.ne_iter.specs.Consumers.{HasLeastKey};
 
 use super::best::{best, best_by_key};
-use super::sources::{FromNonEmptyIterator, IntoNonEmptyIterator, SourceWords};
+use super::collected::FromNonEmptyIterator;
+use super::sources::{IntoNonEmptyIterator, SourceWords};
 use super::{
     Chain, Cloned, Copied, Enumerate, FlatMap, Flatten, GroupBy, Intersperse, Map, NEGroupBy,
     Peekable, Scan, Take, Zip,

@@ -1,12 +1,11 @@
-//! Sources, values that become sources, and what is collected from them.
-ghost use Rattle.std.specs.Prelude.{◌≡◌, ℕ, Bool, true, List, IfOk};
+//! What a source may give, in contracts; and values that become sources.
+ghost use Rattle.std.specs.Prelude.{◌≡◌, ℕ, Bool, List};
 ghost use Rattle.std.specs.Iterator.{IsFiniteIterable};
 ghost use Rattle.ne_vec.specs.Fronts.{Lists, Shows, GivesItems, GivesShown};
 ghost use Rattle.ne_iter.specs.Sources.{Reads, SameLists};
 ghost use Rattle.ne_iter.specs.SourceLaws.{SameLists-self};
 
 use super::NonEmptyIterator;
-use std::alloc::{AllocError, Global};
 
 /// Says what a source may give; every `IntoIterator` implements it. It is used in contracts only,
 /// and has no method.
@@ -49,35 +48,6 @@ impl<S: IntoIterator> SourceWords for S {
     ghost starts = { λ s. (it : S.IntoIter) → S.into_iter_gives s it → S.IntoIter.can_next it };
 
     ghost ends = { IsFiniteIterable S.into_iter_gives S.IntoIter.can_next S.IntoIter.remaining };
-}
-
-/// A type that can be made from one item or more.
-///
-/// `collected xs c` says that `c` is what the items `xs` make. `is_complete c` says that `c` was
-/// made from all items of its source; it is false if collecting may have stopped early, for example
-/// at a first `Err`.
-///
-/// ```
-/// let list: Vec<u32> = [1u32, 1, 2].into_nonempty_iter().collect(alloc)?; // [1, 1, 2]
-/// let text: String = ["ab", "", "c"].into_nonempty_iter().collect(alloc)?; // "abc"
-/// ```
-pub trait FromNonEmptyIterator<T>: Sized {
-    ghost collected: { List T → Self → Type 0 };
-
-    ghost is_complete: { Self → Bool } = { λ _. true };
-
-    /// Collects the items. They must come to an end.
-    ///
-    /// Returns `AllocError` if the allocation fails; the items taken are then dropped.
-    fn from_nonempty_iter<I: IntoNonEmptyIterator<Item = T>>(
-        alloc: Global,
-        iter: I,
-    ) -> Result<Self, AllocError>
-        requires { (source : I.IntoNEIter) → I.into_nonempty_iter_gives iter source
-            → IsFiniteIterable I.IntoNEIter.into_iter_gives I.IntoNEIter.IntoIter.can_next
-            I.IntoNEIter.IntoIter.remaining source }
-        ensures { IfOk result (λ c. (xs : List T)
-            × ⟦<I as SourceWords>⟧.reads (is_complete c) iter xs × collected xs c) };
 }
 
 /// A value that becomes a source with at least one item.

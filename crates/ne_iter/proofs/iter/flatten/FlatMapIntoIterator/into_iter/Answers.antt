@@ -1,6 +1,6 @@
 use Rattle.std.proofs.Common.{sym, subst}
 use Rattle.ne_iter.specs.SourceRuns.{FlatMapsRuns}
-use Rattle.ne_iter.proofs.iter.flat.FlatMapIntoIterator.into_iter.Goals as goal
+use Rattle.ne_iter.proofs.iter.flatten.FlatMapIntoIterator.into_iter.Goals as goal
 
 pub returns : goal.returns
 returns g c =

@@ -7,7 +7,7 @@ use Rattle.ne_iter.proofs.LookedRuns.{looked, reads_looked, found}
 use Rattle.ne_iter.proofs.NextLists.{looks_lists}
 use Rattle.ne_iter.proofs.Traced.{whole_run_of}
 use Rattle.ne_iter.specs.Looked.{has_looked}
-use Rattle.ne_iter.proofs.iter.looked.AnyIntoIteratorExt.try_into_nonempty_iter.Goals as goal
+use Rattle.ne_iter.proofs.iter.try_into.AnyIntoIteratorExt.try_into_nonempty_iter.Goals as goal
 
 pub returns-then-is_some-clause-looks : goal.returns-then-is_some-clause-looks
 returns-then-is_some-clause-looks g c =

@@ -1,0 +1,34 @@
+//! [`Once`]: a source of one item.
+
+use super::NonEmptyIterator;
+use std::iter;
+
+/// A source of one item: see [`once`](super::once).
+#[derive(Drop)]
+pub struct Once<T> {
+    pub(super) item: T,
+}
+
+impl<T: Drop> IntoIterator for Once<T> {
+    ghost use Rattle.std.specs.Prelude.{◌≡◌, Some};
+    ghost use Rattle.std.specs.Iterator.Adapters.{once_item as std_once_item, OnceYieldsItsItem};
+    ghost use Rattle.ne_iter.specs.Parts.{once_item};
+
+    type Item = T;
+
+    type IntoIter = iter::Once<T>;
+
+    ghost into_iter_gives = { λ s it. (std_once_item it ≡ Some (once_item s))
+        × OnceYieldsItsItem T };
+
+    fn into_iter(self) -> iter::Once<T> {
+        iter::once(self.item)
+    }
+}
+
+impl<T: Drop> NonEmptyIterator for Once<T> {
+    ghost use Rattle.ne_iter.specs.SourceLaws.{HasFirst-once};
+    ghost use Rattle.ne_iter.specs.Parts.{once_item};
+
+    ghost not_empty = { λ s it made. HasFirst-once it (once_item s) made.0 };
+}
