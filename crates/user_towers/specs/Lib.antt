@@ -1,6 +1,7 @@
-pub mod Thin
-pub mod Own
-pub mod OwnLaws
-pub mod Wide
+pub mod Numbering
+pub mod OwnSources
+pub mod OwnSourceLaws
+pub mod InnerSources
+pub mod TwoCollections
 pub mod Runs
 pub mod Nested

@@ -6,15 +6,17 @@
 #![tactic(auto)]
 
 mod any_source;
+mod inner_sources;
 mod nested;
-mod own;
+mod numbering;
+mod own_sources;
 mod runs;
-mod thin;
-mod wide;
+mod two_collections;
 
 pub use any_source::{first_items, greatest, halves, joined, small};
+pub use inner_sources::{spread, spread_countdown, spread_pairs};
 pub use nested::{running_totals, scan_of_all};
-pub use own::{Boxed, Countdown, CountdownIter, Stack, StackIntoIter, StackIter, Start};
+pub use numbering::{numbered, numbered_halves};
+pub use own_sources::{Boxed, Countdown, CountdownIter, Stack, StackIntoIter, StackIter, Start};
 pub use runs::{first_runs, run_lengths, runs_of_answers};
-pub use thin::{numbered, numbered_halves};
-pub use wide::{parted, spread, spread_countdown, spread_pairs};
+pub use two_collections::parted;

@@ -5,7 +5,7 @@
 ghost use Rattle.std.specs.Prelude.{◌≡◌, ◌<◌, List, [], ◌∷◌, length, reverse, IfOk, IfErr};
 ghost use Rattle.std.specs.Iterator.{YieldsFirst, YieldsFirstRef, at_most, item_count};
 ghost use Rattle.std.specs.Int.NonZero.{non_zero_u32_get};
-ghost use Rattle.user_towers.specs.Own.{counted_down, start_of, left_of, seconds_of, in_box};
+ghost use Rattle.user_towers.specs.OwnSources.{counted_down, start_of, left_of, seconds_of, in_box};
 
 use nonempty_collections::{IntoNonEmptyIterator, NonEmptyIterator};
 use std::alloc::{AllocError, Global};
@@ -65,7 +65,7 @@ impl IntoIterator for Countdown {
 }
 
 impl NonEmptyIterator for Countdown {
-    ghost use Rattle.user_towers.specs.OwnLaws.{some_counted};
+    ghost use Rattle.user_towers.specs.OwnSourceLaws.{some_counted};
 
     ghost not_empty = { λ s it made t ended. some_counted (left_of it) (start_of s) s.from.ok made
         ended.0 };
@@ -197,7 +197,7 @@ impl<T: Drop> IntoIterator for Stack<T> {
 }
 
 impl<T: Drop> NonEmptyIterator for Stack<T> {
-    ghost use Rattle.user_towers.specs.OwnLaws.{some_left};
+    ghost use Rattle.user_towers.specs.OwnSourceLaws.{some_left};
 
     ghost not_empty = { λ s it made t ended. some_left s it made.0 made.1 ended.0 };
 }
@@ -246,7 +246,7 @@ impl<'a, T> IntoIterator for &'a Stack<T> {
 }
 
 impl<'a, T> NonEmptyIterator for &'a Stack<T> {
-    ghost use Rattle.user_towers.specs.OwnLaws.{some_left};
+    ghost use Rattle.user_towers.specs.OwnSourceLaws.{some_left};
 
     ghost not_empty = { λ s it made t ended. some_left s.now it made.0 made.1 ended.0 };
 }

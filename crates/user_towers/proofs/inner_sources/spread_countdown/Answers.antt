@@ -7,8 +7,8 @@ use Rattle.std.proofs.lemmas.List.FromFn.{length-enumerate_from}
 use Rattle.std.proofs.lemmas.Result.{IfOk-weaker}
 use Rattle.ne_vec.specs.Divisions.{joined}
 use Rattle.ne_vec.specs.Fronts.{AreFirst}
-use Rattle.user_towers.specs.Own.{counted_down, start_of, left_of}
-use Rattle.user_towers.proofs.wide.spread_countdown.Goals as goal
+use Rattle.user_towers.specs.OwnSources.{counted_down, start_of, left_of}
+use Rattle.user_towers.proofs.inner_sources.spread_countdown.Goals as goal
 
 pub returns : goal.returns
 returns c = IfOk-weaker c.spread.result _ _ (λ v h.

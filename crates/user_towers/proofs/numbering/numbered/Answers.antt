@@ -3,7 +3,7 @@ use Rattle.std.specs.Int.NonZero.{non_zero_usize_get}
 use Rattle.std.specs.List.{enumerate_from}
 use Rattle.std.proofs.lemmas.List.FromFn.{length-enumerate_from}
 use Rattle.std.proofs.lemmas.Result.{IfOk-weaker}
-use Rattle.user_towers.proofs.thin.numbered.Goals as goal
+use Rattle.user_towers.proofs.numbering.numbered.Goals as goal
 
 -- What was collected, back through the adapters to the two sources.
 pub returns : goal.returns

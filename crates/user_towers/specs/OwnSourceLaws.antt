@@ -1,7 +1,7 @@
 -- The laws of a user's own sources, which the implementations use.
 use Rattle.std.proofs.Common.{arith, ap}
 use Rattle.std.specs.Prelude.{◌≡◌, ◌<◌, ℕ, zero, suc, List, [], length}
-use Rattle.user_towers.specs.Own.{counted_down}
+use Rattle.user_towers.specs.OwnSources.{counted_down}
 
 -- a countdown from one or more has an item
 pub some_counted : (m n : ℕ) → 0 < n → m ≡ n → counted_down m ≡ [] → ⊥

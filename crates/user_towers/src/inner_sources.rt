@@ -1,10 +1,10 @@
-//! Chains over inner sources and over two sources, into one collection and into two.
+//! Chains over inner sources, of one source and of two.
 ghost use Rattle.std.specs.Prelude.{◌≡◌, ◌^◌, ◌<◌, ◌∷◌, [], IfOk, flat_map, take};
 ghost use Rattle.std.specs.Iterator.{IsFinite, IsFiniteIterable, CallableOnAll, size};
 ghost use Rattle.std.specs.Int.NonZero.{non_zero_usize_get};
 ghost use Rattle.std.specs.List.{enumerate_from};
-ghost use Rattle.user_towers.specs.Own.{counted_down, start_of};
-ghost use Rattle.user_towers.specs.Wide.{IsSpread, IsSpreadOfPairs, IsParted};
+ghost use Rattle.user_towers.specs.OwnSources.{counted_down, start_of};
+ghost use Rattle.user_towers.specs.InnerSources.{IsSpread, IsSpreadOfPairs};
 
 use crate::Countdown;
 use nonempty_collections::iter::{FromNonEmptyIterator, NonEmptyIterator, SourceWords};
@@ -12,7 +12,7 @@ use nonempty_collections::laws::{
     arrays_give_their_items, calls_of_a_function, first_items_stay_first, lists_follow_one_another,
     sources_give_what_is_left,
 };
-use nonempty_collections::{IntoNonEmptyIterator, NEVec, Singleton};
+use nonempty_collections::{IntoNonEmptyIterator, NEVec};
 use std::alloc::{AllocError, Global};
 use std::num::NonZeroUsize;
 
@@ -90,28 +90,4 @@ pub fn spread_countdown(
     first_items_stay_first::<u32, [u32; 2]>();
     first_items_stay_first::<(usize, u32), u32>();
     spread(alloc, source, twice, n)
-}
-
-/// Pairs what `f` returns for the items of `source` with the items of `other`, and collects the
-/// first `n` pairs into two collections.
-pub fn parted<
-    U: Drop,
-    D: Drop,
-    S: NonEmptyIterator,
-    F: FnMut(S::Item) -> U,
-    O: IntoNonEmptyIterator<Item = D>,
-    R: Singleton<Item = U> + Drop,
-    Q: Singleton<Item = D> + Drop,
->(alloc: Global, source: S, f: F, other: O, n: NonZeroUsize) -> Result<(R, Q), AllocError>
-    requires ends { IsFiniteIterable S.into_iter_gives S.IntoIter.can_next S.IntoIter.remaining
-        source }
-    requires other_ends { IsFiniteIterable O.into_iter_gives O.IntoIter.can_next
-        O.IntoIter.remaining other }
-    requires callable { (it : S.IntoIter) → S.into_iter_gives source it
-        → CallableOnAll S.IntoIter.next_gives F.FnMut it f }
-    ensures { IfOk result (IsParted (⟦<S as SourceWords>⟧.reads) F.FnMut
-        (⟦<O as SourceWords>⟧.reads) R.collected Q.collected source f other
-        (non_zero_usize_get n)) }
-{
-    source.map(f).zip(other).take(n).unzip(alloc)
 }

@@ -4,7 +4,7 @@ use Rattle.std.proofs.lemmas.Result.{IfOk-weaker}
 use Rattle.std.proofs.lemmas.Slice.Zip.{firsts-zip, seconds-zip}
 use Rattle.std.proofs.lemmas.List.{length-map}
 use Rattle.std.proofs.lemmas.Bool.{lt-ltb}
-use Rattle.user_towers.proofs.wide.parted.Goals as goal
+use Rattle.user_towers.proofs.two_collections.parted.Goals as goal
 
 -- The two collections, back through the adapters to the two sources.
 pub returns : goal.returns

@@ -2,10 +2,10 @@
 use Rattle.std.specs.Prelude.{ℕ, zero, suc, List, [], ◌∷◌}
 use Rattle.std.specs.Int.NonZero.{non_zero_u32_get}
 use Rattle.std.specs.Box.{box_value}
-use Rattle.user_towers.specs.declared.own.Countdown.{Countdown}
-use Rattle.user_towers.specs.declared.own.CountdownIter.{CountdownIter}
-use Rattle.user_towers.specs.declared.own.Start.{Start}
-use Rattle.user_towers.specs.declared.own.Boxed.{Boxed}
+use Rattle.user_towers.specs.declared.own_sources.Countdown.{Countdown}
+use Rattle.user_towers.specs.declared.own_sources.CountdownIter.{CountdownIter}
+use Rattle.user_towers.specs.declared.own_sources.Start.{Start}
+use Rattle.user_towers.specs.declared.own_sources.Boxed.{Boxed}
 
 -- n, and the numbers below it, down to 1
 abbrev pub counted_down : ℕ → List ℕ

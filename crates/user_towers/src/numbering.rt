@@ -3,7 +3,7 @@ ghost use Rattle.std.specs.Prelude.{◌≡◌, ◌+◌, ◌^◌, ◌<◌, ◌/�
 ghost use Rattle.std.specs.Iterator.{IsFiniteIterable, CallableOnAll, size};
 ghost use Rattle.std.specs.Int.NonZero.{non_zero_usize_get};
 ghost use Rattle.std.specs.List.{enumerate_from};
-ghost use Rattle.user_towers.specs.Thin.{IsNumbered};
+ghost use Rattle.user_towers.specs.Numbering.{IsNumbered};
 
 use nonempty_collections::iter::{FromNonEmptyIterator, NonEmptyIterator, SourceWords};
 use nonempty_collections::laws::{

@@ -3,7 +3,7 @@ use Rattle.std.specs.Int.NonZero.{non_zero_usize_get}
 use Rattle.std.specs.List.{enumerate_from}
 use Rattle.std.proofs.lemmas.Result.{IfOk-weaker}
 use Rattle.ne_iter.specs.Peeks.{peekable_first}
-use Rattle.user_towers.proofs.wide.spread.Goals as goal
+use Rattle.user_towers.proofs.inner_sources.spread.Goals as goal
 
 -- What was collected, back through the adapters to the source.
 pub returns : goal.returns

@@ -4,7 +4,7 @@ use Rattle.std.specs.Int.NonZero.{non_zero_usize_get}
 use Rattle.std.proofs.lemmas.List.FromFn.{length-enumerate_from}
 use Rattle.std.proofs.lemmas.Result.{IfOk-weaker}
 use Rattle.ne_vec.specs.Fronts.{AreFirst}
-use Rattle.user_towers.proofs.thin.numbered_halves.Goals as goal
+use Rattle.user_towers.proofs.numbering.numbered_halves.Goals as goal
 
 -- From the vectors' items forward through the adapters: what came so far are the first items of
 -- each list.

@@ -1,5 +1,5 @@
--- What the chains over inner sources, over two sources and into two collections make.
-use Rattle.std.specs.Prelude.{◌≡◌, ◌≤◌, ◌<◌, ℕ, Bool, true, ◌||◌, ◌&&◌, ltb, List, length, zip}
+-- What the chains over inner sources make.
+use Rattle.std.specs.Prelude.{◌≡◌, ◌≤◌, ℕ, Bool, true, ◌||◌, ◌&&◌, ltb, List, length, zip}
 use Rattle.std.specs.Prelude.{IsTrue}
 use Rattle.std.specs.Fn.{Mut}
 use Rattle.std.specs.List.{enumerate_from}
@@ -50,23 +50,3 @@ pub record IsSpreadOfPairs {S O A D F W B C : Type 0} (reads : Bool → S → Li
   pub as_many : length items ≡ length other_items
   pub one_ended : whole ≡ true → IsTrue (ended || other_ended)
   pub joins : JoinsAnswers inner complete collected calls f n (zip items other_items) whole c
-
--- r is made of what f returns for the source's items, and of as many items of the other source.
--- They are at most n; if they are fewer, one of the two has ended.
-pub record IsParted {S A B F O D R Q : Type 0} (reads : Bool → S → List A → Type 0)
-    (calls : Mut F (A × Unit {0}) B) (others : Bool → O → List D → Type 0)
-    (firsts : List B → R → Type 0) (seconds : List D → Q → Type 0)
-    (source : S) (f : F) (other : O) (n : ℕ) (r : R × Q) : Type 0 where
-  pub items : List A
-  pub answers : List B
-  pub other_items : List D
-  pub f_then : F
-  pub ended : Bool
-  pub other_ended : Bool
-  pub read : reads ended source items
-  pub called : Calls calls f items answers f_then
-  pub read_other : others other_ended other other_items
-  pub as_many : length answers ≡ length other_items
-  pub at_most : length other_items ≤ n
-  pub fewer : length other_items < n → IsTrue (ended || other_ended)
-  pub made : firsts answers r.0 × seconds other_items r.1
