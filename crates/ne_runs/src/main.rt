@@ -10,17 +10,18 @@ mod device;
 mod fault;
 mod lines;
 mod mode;
-mod report;
 #[cfg(test)]
 mod tests;
+mod texts;
+mod whole_run;
 
 use device::StdIo;
 use fault::Fault;
 use mode::LONGEST_WORD;
-use report::{one_word, run};
 use std::env::{Env, FillError};
 use std::process::ExitCode;
 use std::str;
+use whole_run::{one_word, run};
 
 fn main(rt: HostRuntime) -> ExitCode {
     match start(&rt) {

@@ -5,7 +5,7 @@ mod fakes;
 
 use crate::device::StdIo;
 use crate::fault::Fault;
-use crate::report::{one_word, run};
+use crate::whole_run::{one_word, run};
 use fakes::{Broken, Clogged, Closed, Endless, empty_tape, reader_of};
 use std::alloc::{AllocError, Global};
 use std::fmt::Debug;

@@ -1,9 +1,0 @@
-use Rattle.std.proofs.Common.{rules}
-use Rattle.std.proofs.lemmas.Result.{IfOk-weaker}
-use Rattle.ne_runs.specs.Modes.{is_near}
-use Rattle.ne_runs.proofs.mode.near_text.Goals as goal
-
-pub returns : goal.returns
-returns c = IfOk-weaker c.text_by_first.result _ _ (λ text says.
-    let made = says is_near (λ x y r answered. search rules) in
-    record { rows = made.0; of_mode = made.1; written = made.2 }) c.text_by_first.ensures

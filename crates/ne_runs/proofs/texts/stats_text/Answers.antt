@@ -1,0 +1,16 @@
+use Rattle.std.proofs.Common.{◌∷◌, [], rules}
+use Rattle.ne_runs.proofs.texts.stats_text.Goals as goal
+
+pub returns : goal.returns
+returns c = record {
+  rows = (c.from-least.result ∷ c.from-greatest.result ∷ c.sum.result ∷ []) ∷ [];
+  of_mode = (
+    c.least.result,
+    c.greatest.result,
+    c.least.ensures,
+    c.greatest.ensures,
+    (let least = c.from-least.ensures in let greatest = c.from-greatest.ensures in
+        let total = c.sum.ensures in cc),
+  );
+  written = search rules;
+}

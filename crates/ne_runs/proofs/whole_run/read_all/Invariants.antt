@@ -1,0 +1,14 @@
+use Rattle.std.proofs.Common.{◌≡◌, ◌-◌, ◌≤◌, false, vec_len}
+use Rattle.std.specs.Io.KnownBytes.{Consumes}
+use Rattle.ne_runs.proofs.whole_run.read_all.Given as goal
+
+abbrev pub invariant-loop-chunk : goal.invariant-loop-chunk
+invariant-loop-chunk g l = record {
+  healthy : g.R.Source.has_failed l.reader ≡ false;
+  bytes : Consumes (g.R.Source.left l.fn.reader) (g.R.Source.left l.reader) l.input.items;
+  bound : vec_len l.input ≤ 1048577;
+}
+
+-- The room that is left: each turn adds at least one byte.
+abbrev pub decreases-loop-chunk : goal.decreases-loop-chunk
+decreases-loop-chunk g l = 1048577 - vec_len l.input
