@@ -1,8 +1,9 @@
 //! [`NEVec`], a vector that is never empty, and its iterators.
 //!
-//! The methods are in the Rust crate's order. This module has those that read and edit, `order`
-//! those that search, sort, shuffle and choose, and `dedup` those that drop repeated neighbours.
-//! `walks` has the non-empty iterators, and `traits` the other trait implementations.
+//! The methods are in the Rust crate's order. This module has those that read and edit, `search`
+//! those that search, `sort` those that sort, `random` those that draw from a random number
+//! generator, and `dedup` those that drop repeated neighbours. `walks` has the non-empty iterators,
+//! and `traits` the other trait implementations.
 //!
 //! If an allocation fails, the Rust crate's methods abort the process. Here a method that allocates
 //! returns `AllocError`, and its comment says what holds after that. Constructors take an
@@ -19,8 +20,9 @@ ghost use Rattle.std.specs.Fn.{CalledAt, CalledAtMut};
 ghost use Rattle.std.specs.Iterator.{ActsAsAt, IsFiniteIterable, ExtendsWithItems};
 
 mod dedup;
-mod order;
+mod random;
 mod search;
+mod sort;
 mod traits;
 mod walks;
 

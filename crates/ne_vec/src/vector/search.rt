@@ -1,8 +1,9 @@
-//! The searches of [`NEVec`](super::NEVec), over the slice of its items.
+//! The methods of [`NEVec`] that search, and their loops over the slice of its items.
 //!
-//! They call the closure with the same items as std's searches do, in the same order, and return
-//! the same results. They are written out here because std's searches need a closure that can be
-//! called with any value, while these need only one that can be called with the items of the slice.
+//! The loops call the closure with the same items as std's searches do, in the same order, and
+//! return the same results. They are written out here because std's searches need a closure that
+//! can be called with any value, while these need only one that can be called with the items of the
+//! slice.
 ghost use Rattle.std.specs.Prelude.{◌≡◌, ◌<◌, ◌≤◌, Bool, true, false, length};
 ghost use Rattle.std.specs.List.Sorted.{IsBinarySearchResult, IsSearchInRange};
 ghost use Rattle.std.specs.List.Sorted.{IsPartitionedBy, IsPartitionPoint};
@@ -10,10 +11,99 @@ ghost use Rattle.std.specs.Fn.{ComputesKey};
 ghost use Rattle.std.specs.declared.cmp.Ordering.{Ordering};
 ghost use Rattle.ne_vec.specs.Calls.{CallableAtItems};
 
+use super::NEVec;
 use std::cmp::Ordering;
 
+impl<T> NEVec<T> {
+    /// Searches for an item that equals `x`. Returns `Ok` with its index. If there is none, returns
+    /// `Err` with the index at which `x` can be inserted so that the items stay sorted. If several
+    /// items equal `x`, the index is that of any of them.
+    ///
+    /// The index in `Err` has this meaning only if the vector is sorted; otherwise it is some index
+    /// up to the length. An `Ok` is right in either case.
+    ///
+    /// ```
+    /// let found = nev![alloc; 1, 1, 2, 3, 4, 5, 6, 9]?.binary_search(&5); // Ok(5)
+    /// let place = nev![alloc; 0u32, 7, 7, 12, 12, 35, 4294967295]?.binary_search(&8); // Err(3)
+    /// ```
+    pub fn binary_search(&self, x: &T) -> Result<usize, usize>
+    where
+        T: Ord,
+        ensures bound { IsSearchInRange result (length self.now) }
+        ensures position { IsBinarySearchResult (λ y. T.cmp y x.now) self.now result }
+    {
+        self.inner.binary_search(x)
+    }
+
+    /// Searches for an item for which `f` returns `Equal`. Returns `Ok` with its index. If there is
+    /// none, returns `Err` with the index between the items for which `f` returns `Less` and those
+    /// for which it returns `Greater`. If there are several items with `Equal`, the index is that
+    /// of any of them.
+    ///
+    /// `f` must be callable with the vector's items, in any order. The indices have this meaning if
+    /// what `f` returns depends on the item alone. For `Err` the vector must also be sorted by `f`:
+    /// first `Less`, then `Equal`, then `Greater`.
+    ///
+    /// ```
+    /// let items = nev![alloc; 500u32, 100, 10]?;
+    /// let place = items.binary_search_by(|x| (1000 / *x).cmp(&10)); // Ok(1)
+    /// ```
+    pub fn binary_search_by<F: FnMut(&T) -> Ordering>(&self, f: F) -> Result<usize, usize>
+        requires { CallableAtItems F.FnMut f self.now }
+        ensures bound { IsSearchInRange result (length self.now) }
+        ensures position { (order : T → Ordering) → ComputesKey F.FnMut order f
+            → IsBinarySearchResult order self.now result }
+    {
+        binary_search_by(self.inner.as_slice(), f)
+    }
+
+    /// Searches for an item whose key, as `f` returns it, equals `b`. Returns `Ok` with its index.
+    /// If there is none, returns `Err` with the index at which such an item can be inserted so that
+    /// the keys stay sorted. If several keys equal `b`, the index is that of any such item.
+    ///
+    /// `f` must be callable with the vector's items, in any order. The indices have this meaning if
+    /// the key depends on the item alone. For `Err` the vector must also be sorted by the key.
+    ///
+    /// ```
+    /// let items = nev![alloc; 500u32, 100, 10]?;
+    /// let place = items.binary_search_by_key(&10, |x| 1000 / *x); // Ok(1)
+    /// ```
+    pub fn binary_search_by_key<B: Ord + Drop, F: FnMut(&T) -> B>(
+        &self,
+        b: &B,
+        f: F,
+    ) -> Result<usize, usize>
+        requires { CallableAtItems F.FnMut f self.now }
+        ensures bound { IsSearchInRange result (length self.now) }
+        ensures position { (key : T → B) → ComputesKey F.FnMut key f
+            → IsBinarySearchResult (λ y. B.cmp (key y) b.now) self.now result }
+    {
+        binary_search_by_key(self.inner.as_slice(), b, f)
+    }
+
+    /// Returns how many items at the front meet `pred`.
+    ///
+    /// `pred` must be callable with the vector's items, in any order. The result has this meaning
+    /// if what `pred` returns depends on the item alone, and no item that meets `pred` comes after
+    /// one that doesn't. In any case it is at most the length.
+    ///
+    /// ```
+    /// let items = nev![alloc; 1, 1, 3, 2, 4, 5, 6, 9]?;
+    /// let count = items.partition_point(|x| *x / 2 < 5); // 8
+    /// ```
+    pub fn partition_point<P: FnMut(&T) -> bool>(&self, pred: P) -> usize
+        requires { CallableAtItems P.FnMut pred self.now }
+        ensures bound { result ≤ length self.now }
+        ensures partitioned { (meets : T → Bool) → ComputesKey P.FnMut meets pred
+            → IsPartitionedBy meets self.now → IsPartitionPoint (λ y. meets y ≡ true)
+            (λ y. meets y ≡ false) self.now result }
+    {
+        partition_point(self.inner.as_slice(), pred)
+    }
+}
+
 // See `NEVec::partition_point`.
-pub(super) fn partition_point<T, P: FnMut(&T) -> bool>(items: &[T], mut pred: P) -> usize
+fn partition_point<T, P: FnMut(&T) -> bool>(items: &[T], mut pred: P) -> usize
     requires some { 0 < length items.now }
     requires callable { CallableAtItems P.FnMut pred items.now }
     ensures bound { result ≤ length items.now }
@@ -35,10 +125,7 @@ pub(super) fn partition_point<T, P: FnMut(&T) -> bool>(items: &[T], mut pred: P)
 }
 
 // See `NEVec::binary_search_by`.
-pub(super) fn binary_search_by<T, F: FnMut(&T) -> Ordering>(
-    items: &[T],
-    mut f: F,
-) -> Result<usize, usize>
+fn binary_search_by<T, F: FnMut(&T) -> Ordering>(items: &[T], mut f: F) -> Result<usize, usize>
     requires some { 0 < length items.now }
     requires callable { CallableAtItems F.FnMut f items.now }
     ensures bound { IsSearchInRange result (length items.now) }
@@ -63,7 +150,7 @@ pub(super) fn binary_search_by<T, F: FnMut(&T) -> Ordering>(
 }
 
 // See `NEVec::binary_search_by_key`.
-pub(super) fn binary_search_by_key<T, B: Ord + Drop, F: FnMut(&T) -> B>(
+fn binary_search_by_key<T, B: Ord + Drop, F: FnMut(&T) -> B>(
     items: &[T],
     b: &B,
     mut f: F,

@@ -1,0 +1,75 @@
+//! The methods of [`NEVec`] that sort.
+ghost use Rattle.std.specs.Prelude.{◌≡◌, ◌≤◌, length, IsOk, OnOk, OnErr, IsPermutation, IsSorted};
+ghost use Rattle.std.specs.List.Sorted.{IsStable, IsSortedByClosure, IsStableByClosure};
+ghost use Rattle.std.specs.List.Sorted.{IsSortedByKeyClosure, IsStableByKeyClosure};
+
+use super::NEVec;
+use std::alloc::AllocError;
+use std::cmp::Ordering;
+
+impl<T> NEVec<T> {
+    /// Sorts the items in ascending order. Equal items keep their order.
+    ///
+    /// Returns `AllocError` if the allocation of working memory fails; the vector is then
+    /// unchanged. Up to 20 items need no such memory.
+    ///
+    /// ```
+    /// let mut items = nev![alloc; 3, 1, 4, 1, 5, 9, 2, 6]?;
+    /// items.sort()?; // [1, 1, 2, 3, 4, 5, 6, 9]
+    /// ```
+    pub fn sort(&mut self) -> Result<(), AllocError>
+    where
+        T: Ord,
+        ensures permutation { IsPermutation self.old self.new }
+        ensures sorted { OnOk result (IsSorted T.cmp self.new) }
+        ensures stable { IsStable T.cmp self.old self.new }
+        ensures unchanged { OnErr result (self.new ≡ self.old) }
+        ensures small { length self.old ≤ 20 → IsOk result }
+    {
+        self.inner.sort()
+    }
+
+    /// Sorts the items in ascending order by `f`. Items for which `f` returns `Equal` keep their
+    /// order.
+    ///
+    /// `f` must be callable with any two values of the items' type. The items are sorted if the
+    /// results of `f` are a total preorder; otherwise they are in some order. Returns `AllocError`
+    /// as `sort` does.
+    ///
+    /// ```
+    /// let mut items = nev![alloc; 3, 1, 4, 1, 5, 9, 2, 6]?;
+    /// items.sort_by(|x, y| (*x / 2).cmp(&(*y / 2)))?; // [1, 1, 3, 2, 4, 5, 6, 9]
+    /// ```
+    pub fn sort_by<F: FnMut(&T, &T) -> Ordering>(&mut self, f: F) -> Result<(), AllocError>
+        requires { F.IsAlwaysCallable f }
+        ensures permutation { IsPermutation self.old self.new }
+        ensures sorted { OnOk result (IsSortedByClosure F.FnMut f self.new) }
+        ensures stable { IsStableByClosure F.FnMut f self.old self.new }
+        ensures unchanged { OnErr result (self.new ≡ self.old) }
+        ensures small { length self.old ≤ 20 → IsOk result }
+    {
+        self.inner.sort_by(f)
+    }
+
+    /// Sorts the items in ascending order of their keys, as `f` returns them. Items with equal keys
+    /// keep their order.
+    ///
+    /// `f` must be callable with any value of the items' type. The items are sorted if the key
+    /// depends on the item alone; otherwise they are in some order. Returns `AllocError` as `sort`
+    /// does.
+    ///
+    /// ```
+    /// let mut items = nev![alloc; 3, 1, 4, 1, 5, 9, 2, 6]?;
+    /// items.sort_by_key(|x| *x / 2)?; // [1, 1, 3, 2, 4, 5, 6, 9]
+    /// ```
+    pub fn sort_by_key<K: Ord + Drop, F: FnMut(&T) -> K>(&mut self, f: F) -> Result<(), AllocError>
+        requires { F.IsAlwaysCallable f }
+        ensures permutation { IsPermutation self.old self.new }
+        ensures sorted { OnOk result (IsSortedByKeyClosure F.FnMut K.cmp f self.new) }
+        ensures stable { IsStableByKeyClosure F.FnMut K.cmp f self.old self.new }
+        ensures unchanged { OnErr result (self.new ≡ self.old) }
+        ensures small { length self.old ≤ 20 → IsOk result }
+    {
+        self.inner.sort_by_key(f)
+    }
+}
