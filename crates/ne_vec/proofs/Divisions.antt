@@ -2,7 +2,7 @@
 use Rattle.std.proofs.Common.{◌≡◌, ◌≢◌, Bool, true, false, cond, List, [], ◌∷◌, ◌++◌, refl, sym, ap}
 use Rattle.std.proofs.Common.{subst, ◌∙◌, ◌⊎◌, inl, inr, append_assoc, append-nil}
 use Rattle.std.specs.List.{AllByRecursion}
-use Rattle.ne_vec.specs.Divisions.{joined, Neighbours, IsRun, Breaks, IsDivision, runs_from}
+use Rattle.ne_vec.specs.Divisions.{joined, Adjacent, IsRun, Breaks, IsDivision, runs_from}
 use Rattle.ne_vec.proofs.Lists.{nil_is_no_append, head_is, tail_is}
 
 -- where the last item of a list is in a split of it
@@ -81,20 +81,20 @@ module _ {A : Type 0} (goes_on : List A → A → Bool) where
   still_breaks p (y ∷ r) x ne b = b
 
   breaks_after : (p r xs : List A) → r ≢ [] → Breaks goes_on p r
-      → Neighbours (Breaks goes_on) (p ∷ runs_from goes_on r xs)
+      → Adjacent (Breaks goes_on) (p ∷ runs_from goes_on r xs)
   breaks_after p r [] ne b = (b, tt)
   breaks_after p r (x ∷ xs) ne b = elim (goes_on r x) as
-      (λ v. goes_on r x ≡ v → Neighbours (Breaks goes_on)
+      (λ v. goes_on r x ≡ v → Adjacent (Breaks goes_on)
       (p ∷ cond v (runs_from goes_on (r ++ x ∷ []) xs) (r ∷ runs_from goes_on (x ∷ []) xs))) [
         | true ↦ λ e. breaks_after p (r ++ x ∷ []) xs (λ k. nil_is_no_append r x [] (sym k))
             (still_breaks p r x ne b)
         | false ↦ λ e. (b, breaks_after r (x ∷ []) xs (λ k. nil_is_no_append [] x [] (sym k)) e)
       ] refl
 
-  breaks_cut : (r xs : List A) → Neighbours (Breaks goes_on) (runs_from goes_on r xs)
+  breaks_cut : (r xs : List A) → Adjacent (Breaks goes_on) (runs_from goes_on r xs)
   breaks_cut r [] = tt
   breaks_cut r (x ∷ xs) = elim (goes_on r x) as
-      (λ v. goes_on r x ≡ v → Neighbours (Breaks goes_on)
+      (λ v. goes_on r x ≡ v → Adjacent (Breaks goes_on)
       (cond v (runs_from goes_on (r ++ x ∷ []) xs) (r ∷ runs_from goes_on (x ∷ []) xs))) [
         | true ↦ λ e. breaks_cut (r ++ x ∷ []) xs
         | false ↦ λ e. breaks_after r (x ∷ []) xs (λ k. nil_is_no_append [] x [] (sym k)) e
@@ -111,7 +111,7 @@ module _ {A : Type 0} (goes_on : List A → A → Bool) where
   -- ---- and there is no other
 
   cut_only : (xs r s t : List A) (rs : List (List A)) → t ≡ r ++ s → r ≢ [] → s ++ joined rs ≡ xs
-      → IsRun goes_on t → AllByRecursion (IsRun goes_on) rs → Neighbours (Breaks goes_on) (t ∷ rs)
+      → IsRun goes_on t → AllByRecursion (IsRun goes_on) rs → Adjacent (Breaks goes_on) (t ∷ rs)
       → t ∷ rs ≡ runs_from goes_on r xs
   cut_only [] r [] t [] e ne w h hs b = ap (λ l. l ∷ []) (e ∙ append-nil r)
   cut_only [] r [] t ([] ∷ us) e ne w h hs b = absurd (hs.0.some refl)

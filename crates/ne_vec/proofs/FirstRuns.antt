@@ -31,7 +31,7 @@ use Rattle.std.specs.Prelude.{Some, slice_get}
 use Rattle.std.specs.Borrow.{Bor}
 use Rattle.std.specs.Fn.{Shared}
 use Rattle.std.specs.Iterator.{Yields}
-use Rattle.ne_vec.specs.Divisions.{Neighbours, IsRun, Breaks, IsDivision, by_first, by_previous}
+use Rattle.ne_vec.specs.Divisions.{Adjacent, IsRun, Breaks, IsDivision, by_first, by_previous}
 use Rattle.ne_vec.specs.SliceRuns.{Cutting, ActsAsAtPair, CutsRun, IsFirstRun}
 use Rattle.ne_vec.proofs.Divisions.{run_one, run_more}
 
@@ -104,7 +104,7 @@ module _ {A : Type 0} (same : A → A → Bool) where
 
 module _ {A : Type 0} (goes_on : List A → A → Bool) where
   breaks_before : (run rest : List A) (all : List (List A)) → Breaks goes_on run rest
-      → IsDivision goes_on rest all → Neighbours (Breaks goes_on) (run ∷ all)
+      → IsDivision goes_on rest all → Adjacent (Breaks goes_on) (run ∷ all)
   breaks_before run rest [] breaks d = tt
   breaks_before run rest ([] ∷ all) breaks d = absurd (d.runs.0.some refl)
   breaks_before run rest ((x ∷ r) ∷ all) breaks d =

@@ -6,7 +6,7 @@ use Rattle.std.specs.List.Retain.{RetainsInTurn, DedupsFrom, IsDeduped}
 use Rattle.std.specs.Fn.{CalledAtMut, ComparesKeys}
 use Rattle.std.specs.Borrow.{MutBor}
 use denote.Param.Members.{Mut}
-use Rattle.ne_vec.specs.Divisions.{by_first, firsts, runs_from}
+use Rattle.ne_vec.specs.Divisions.{by_first, heads, runs_from}
 use Rattle.ne_vec.specs.Kept.{KeepsFirsts, ActsAsAtMut}
 use Rattle.ne_vec.proofs.Divisions.{divides}
 
@@ -48,11 +48,11 @@ module _ {A : Type 0} (same : A → A → Bool) where
   goes_on = by_first (λ kept later. same later kept)
 
   firsts_from : (xs : List A) (k : A) (run : List A)
-      → dedup_from same k xs ≡ firsts (runs_from goes_on (k ∷ run) xs)
+      → dedup_from same k xs ≡ heads (runs_from goes_on (k ∷ run) xs)
   firsts_from [] k run = refl
   firsts_from (x ∷ xs) k run =
       elim (same x k) as (λ b. cond b (dedup_from same k xs) (k ∷ dedup_from same x xs)
-      ≡ firsts (cond b (runs_from goes_on (k ∷ (run ++ x ∷ [])) xs)
+      ≡ heads (cond b (runs_from goes_on (k ∷ (run ++ x ∷ [])) xs)
       ((k ∷ run) ∷ runs_from goes_on (x ∷ []) xs))) [
         | true ↦ firsts_from xs k (run ++ x ∷ [])
         | false ↦ ap (λ l. k ∷ l) (firsts_from xs x [])

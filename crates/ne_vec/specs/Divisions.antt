@@ -8,10 +8,10 @@ joined [] = []
 joined (r ∷ rs) = r ++ joined rs
 
 -- R holds of each list and the next one
-abbrev pub Neighbours : {A : Type 0} → (A → A → Type 0) → List A → Type 0
-Neighbours R [] = ⊤
-Neighbours R (r ∷ []) = ⊤
-Neighbours R (r ∷ s ∷ rs) = R r s × Neighbours R (s ∷ rs)
+abbrev pub Adjacent : {A : Type 0} → (A → A → Type 0) → List A → Type 0
+Adjacent R [] = ⊤
+Adjacent R (r ∷ []) = ⊤
+Adjacent R (r ∷ s ∷ rs) = R r s × Adjacent R (s ∷ rs)
 
 -- whether x continues a run, compared with the run's first item
 abbrev pub by_first : {A : Type 0} → (A → A → Bool) → List A → A → Bool
@@ -40,13 +40,13 @@ module _ {A : Type 0} (goes_on : List A → A → Bool) where
   pub record IsDivision (xs : List A) (rs : List (List A)) : Type 0 where
     pub whole : joined rs ≡ xs
     pub runs : AllByRecursion IsRun rs
-    pub breaks : Neighbours Breaks rs
+    pub breaks : Adjacent Breaks rs
 
 -- the first items of the lists that have one
-abbrev pub firsts : {A : Type 0} → List (List A) → List A
-firsts [] = []
-firsts ([] ∷ rs) = firsts rs
-firsts ((x ∷ r) ∷ rs) = x ∷ firsts rs
+abbrev pub heads : {A : Type 0} → List (List A) → List A
+heads [] = []
+heads ([] ∷ rs) = heads rs
+heads ((x ∷ r) ∷ rs) = x ∷ heads rs
 
 module _ {A : Type 0} (goes_on : List A → A → Bool) where
   -- the runs of r ++ xs, if r is the beginning of the first run

@@ -4,7 +4,7 @@ use Rattle.std.specs.Borrow.{MutBor}
 use Rattle.std.specs.Fn.{CalledAtMut, CalledAtPairMut}
 use Rattle.std.specs.Global.{Vec}
 use denote.Param.Members.{Mut}
-use Rattle.ne_vec.specs.Divisions.{by_first, IsDivision, firsts}
+use Rattle.ne_vec.specs.Divisions.{by_first, IsDivision, heads}
 
 -- the items that are returned, in a non-empty vector or in the empty one
 abbrev pub kept_items : {X : Type 0} → Result (List X) (Vec X) → List X
@@ -26,4 +26,4 @@ ActsAsAtPairMut {F} {X} g f h = (x y : X) (r : Bool) (f' : F) (x' y' : X)
 -- ys are the first items of the runs of xs, where an item continues a run by `same(item, first)`
 abbrev pub KeepsFirsts : {X : Type 0} → (X → X → Bool) → List X → List X → Type 0
 KeepsFirsts {X} same xs ys = (rs : List (List X))
-    × IsDivision (by_first (λ kept later. same later kept)) xs rs × (ys ≡ firsts rs)
+    × IsDivision (by_first (λ kept later. same later kept)) xs rs × (ys ≡ heads rs)

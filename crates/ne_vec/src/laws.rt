@@ -6,7 +6,7 @@ ghost use Rattle.std.specs.List.{AllByRecursion, AllZip};
 ghost use Rattle.std.specs.Cmp.{IsPartialEquivalence};
 ghost use Rattle.std.specs.Cmp.Lexicographic.{pointwise, slice_cmp, slice_partial_cmp};
 ghost use Rattle.std.specs.declared.cmp.Ordering.TheVariants.{Less, Equal, Greater};
-ghost use Rattle.ne_vec.specs.Divisions.{IsDivision, by_first, by_previous, joined, firsts};
+ghost use Rattle.ne_vec.specs.Divisions.{IsDivision, by_first, by_previous, joined, heads};
 ghost use Rattle.ne_vec.specs.Divisions.{runs_of};
 ghost use Rattle.ne_vec.specs.Kept.{KeepsFirsts};
 ghost use Rattle.ne_vec.specs.Calls.{CallableAtItems};
@@ -74,7 +74,7 @@ pub fn dedup_by_key_keeps_the_first_items<T, K: PartialEq>()
     ensures { (read : T → K) (xs ys : List T) (runs : List (List T))
         → KeepsFirsts (λ later kept. K.eq (read later) (read kept)) xs ys
         → IsDivision (by_first (λ x y. K.eq (read x) (read y))) xs runs
-        → ys ≡ firsts runs }
+        → ys ≡ heads runs }
 {
     has_one_division::<T>();
     converse_has_the_same_division::<T>();

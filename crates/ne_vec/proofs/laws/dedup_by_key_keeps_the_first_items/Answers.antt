@@ -1,5 +1,5 @@
 use Rattle.std.proofs.Common.{ap, ◌∙◌, Bool}
-use Rattle.ne_vec.specs.Divisions.{by_first, firsts}
+use Rattle.ne_vec.specs.Divisions.{by_first, heads}
 use Rattle.ne_vec.proofs.laws.dedup_by_key_keeps_the_first_items.Goals as goal
 
 pub returns : goal.returns
@@ -9,4 +9,4 @@ returns g c read xs ys runs keeps divides =
     let turned = c.converse_has_the_same_division.ensures (λ kept later. same later kept) xs keeps.0
     (λ x y. g.met.K.PartialEq.laws.symm (read y) (read x)) keeps.1 in
     let one = c.has_one_division.ensures.unique (by_first same) xs keeps.0 runs turned divides in
-    keeps.2 ∙ ap firsts one
+    keeps.2 ∙ ap heads one
