@@ -4,6 +4,7 @@ them, checks and tests in that copy, and runs in which an allocation of what `rt
 import functools
 import os
 import re
+import resource
 import shutil
 import subprocess
 import sys
@@ -167,6 +168,12 @@ class Refusals:
         how = {"input": given, "capture_output": True, "cwd": self.room.name, "timeout": 60}
         how["env"] = {"LD_PRELOAD": self.refuse, "REFUSE": str(place)}
         return subprocess.run([self.program, *words], **how)
+
+    def limited(self, size, words, given=b""):
+        """Returns the run with these words and this input in an address space of so many bytes."""
+        limit = functools.partial(resource.setrlimit, resource.RLIMIT_AS, (size, size))
+        how = {"input": given, "capture_output": True, "cwd": self.room.name, "timeout": 60}
+        return subprocess.run([self.program, *words], preexec_fn=limit, **how)
 
 
 def in_threads(call, items):
