@@ -138,7 +138,6 @@ pub fn table(alloc: Global, items: NEVec<u32>) -> Result<BTreeMap<u32, u32>, All
 
 /// Returns how many items two vectors have together.
 pub fn how_many_of_both(items: NEVec<u32>, others: NEVec<u32>) -> NonZeroUsize
-    requires { length items + length others < 2 ^ 64 }
     ensures { non_zero_usize_get result ≡ length items + length others }
 {
     items.into_nonempty_iter().chain(others).count()

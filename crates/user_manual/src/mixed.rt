@@ -3,8 +3,6 @@ ghost use Rattle.std.specs.Prelude.{
   ◌≡◌,
   ◌/◌,
   ◌+◌,
-  ◌<◌,
-  ◌^◌,
   ◌++◌,
   map,
   take,
@@ -46,7 +44,6 @@ pub fn first_names(
 /// Returns how many items two vectors have together, with `chain`, `copied`, `enumerate` and
 /// `count`.
 pub fn how_many_numbered(items: &NEVec<u32>, others: &NEVec<u32>) -> NonZeroUsize
-    requires { length items.now + length others.now < 2 ^ 64 }
     ensures { non_zero_usize_get result ≡ length items.now + length others.now }
 {
     items

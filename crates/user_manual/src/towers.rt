@@ -11,7 +11,6 @@ ghost use Rattle.std.specs.Prelude.{
   map,
   filter,
   sum,
-  length,
   take,
   IfOk,
   ltb,
@@ -76,7 +75,6 @@ pub fn numbered_halves(
     items: NEVec<u32>,
     others: Vec<u32>,
 ) -> Result<NEVec<(usize, u32)>, AllocError>
-    requires { length items + length others.items < 2 ^ 64 }
     ensures { IfOk result (λ v.
         v ≡ enumerate_from 0 (map (λ x. x / 2) items ++ others.items)) }
 {
