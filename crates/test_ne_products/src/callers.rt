@@ -57,7 +57,7 @@ pub fn halves_of_either(
 /// Returns each item of one source paired with each item of another, for any types of source.
 ///
 /// A generic function knows nothing of its sources but their bounds, so it calls the law of the
-/// product, and two lines of its proof name the lists.
+/// product, which its proof applies to the two lists.
 pub fn pairs_of_any_sources<S, U>(
     alloc: Global,
     rows: S,
