@@ -1,9 +1,11 @@
 """The public calls that may report a failed allocation, as the sources of the library declare them:
-the functions that return an `AllocError`, and the macros."""
+the functions that return an `AllocError`, and the macros. For each, the clauses of its contract
+that say what stands after a refusal."""
 
 import glob
 import os
 import re
+from collections import defaultdict
 
 from scratch import ROOT, read
 
@@ -23,6 +25,8 @@ ITEMS = {
     "GroupBy": "GroupBy::next",
     "ProductIter": "NonEmptyItertools::cartesian_product",
 }
+# A clause that says what stands after a refusal, with its name, if it has one, and its first word.
+CLAUSE = r"ensures (\w*) ?\{ (OnErr|ExtendsWithItems|IsUnchanged|IsReordered)\b"
 # Calls that never allocate, although their type allows an `AllocError`; calls that fail only if a
 # clone of the items fails, which is tested in `test_ne_iter`; and calls that are tested under
 # another name.
@@ -42,13 +46,13 @@ def blocks(text):
 
 
 def refusing(text, indent):
-    """Yields the functions at this indent that return an `AllocError`, with the words before
-    `fn`."""
+    """Yields the functions at this indent that return an `AllocError`: the words before `fn`, the
+    name, and the clauses on a refusal."""
     signature = rf"^{indent}((?:pub |final )?)fn (\w+)(.*?)(?=^{indent}\{{|\{{$|;$)"
     for words, name, rest in re.findall(signature, text, re.M | re.S):
         returned = re.search(r"->(.*?)(?=\bwhere\b|\brequires\b|\bensures\b|$)", rest, re.S)
         if returned and "AllocError" in returned[1]:
-            yield words.strip(), name
+            yield words.strip(), name, re.findall(CLAUSE, rest)
 
 
 def plain(head):
@@ -77,14 +81,20 @@ def case(head, name):
 
 
 def cases():
-    """Returns the names that the tests have for all of these calls."""
-    found = set()
+    """Returns the names that the tests have for all of these calls, each with the clauses that say
+    what stands after a refusal."""
+    found = defaultdict(list)
     for crate in CRATES:
         paths = glob.glob(os.path.join(ROOT, "crates", crate, "src", "**", "*.rt"), recursive=True)
-        for text in map(read, paths):
-            found.update(re.findall(r"^macro_rules! (\w+)", text, re.M))
-            found.update(name for words, name in refusing(text, "") if words == "pub")
+        for text in map(read, sorted(paths)):
+            for macro in re.findall(r"^macro_rules! (\w+)", text, re.M):
+                found[macro] = []
+            for words, name, clauses in refusing(text, ""):
+                if words == "pub":
+                    found[name] += clauses
             for head, body in blocks(text):
                 shown = head.startswith("pub trait") or " for " in head
-                found.update(case(head, it) for how, it in refusing(body, "    ") if how or shown)
-    return found - EXCUSED
+                for words, name, clauses in refusing(body, "    "):
+                    if words or shown:
+                        found[case(head, name)] += clauses
+    return {name: found[name] for name in found if name not in EXCUSED}

@@ -58,6 +58,18 @@ def copy_into(folder):
         shutil.copy(os.path.join(ROOT, file), to)
 
 
+def copy_crates(folder, names):
+    """Copies the crates of these names into the folder, and returns the line of each in
+    crates.txt."""
+    rows = re.findall(r"^((\w+):.*)$", read("crates.txt"), re.M)
+    lines = {name: line for line, name in rows if name in names}
+    for it in lines:
+        unbuilt = shutil.ignore_patterns("out")
+        ours, copy = (os.path.join(root, "crates", it) for root in (ROOT, folder))
+        shutil.copytree(ours, copy, ignore=unbuilt)
+    return lines
+
+
 def kit():
     """Returns the folder of the toolchain's kit."""
     page = subprocess.run(["rt", "doc"], capture_output=True, text=True, check=True).stdout
@@ -136,17 +148,22 @@ def failed_tests(folder, crate):
     return {f"{crate}::{it}" for it in re.findall(r"^test (\S+) .*FAILED", said, re.M)}
 
 
-def printed_by(folder, crate):
-    """Returns what a program of the scratch copy prints for its stored input. It is compiled, but
-    not proved."""
-    how = {"cwd": os.path.join(folder, "crates", crate), "capture_output": True, "text": True}
-    script = read(f"crates/{crate}/stdin")
+def printed(folder, script):
+    """Returns what the program in the folder of its crate prints for this input. It is compiled,
+    but not proved."""
+    how = {"cwd": folder, "capture_output": True, "text": True}
     # the interpreter would run it first, and its run with checks is slow: it is stopped at once
     ran = subprocess.run(["rt", "try", "--steps", "1", "--seconds", "600"], input=script, **how)
     errors = errors_of(ran.stderr)
     if errors or "runners=1" not in ran.stderr:
-        stop("\n".join([f"the program {crate} does not run:", *errors[:9], ran.stderr[-2000:]]))
+        said = "\n".join([*errors[:9], ran.stderr[-2000:]])
+        stop(f"the program {os.path.basename(folder)} does not run:\n{said}")
     return ran.stdout
+
+
+def printed_by(folder, crate):
+    """Returns what a program of the scratch copy prints for its stored input."""
+    return printed(os.path.join(folder, "crates", crate), read(f"crates/{crate}/stdin"))
 
 
 class Refusals:
@@ -162,12 +179,20 @@ class Refusals:
         words = ["-O1", "-shared", "-fPIC", "-nostdlib", "-o", self.refuse, source]
         subprocess.run([os.path.join(kit(), "toolchain", "bin", "clang"), *words], check=True)
 
-    def ran(self, place, words, given=b""):
+    def ran(self, place, words, given=b"", told=""):
         """Runs the program with these words and this input. The request with this number, counted
-        from 1, is refused; 0 refuses none."""
+        from 1, is refused; 0 refuses none. The file `told` is there if the request has come."""
         how = {"input": given, "capture_output": True, "cwd": self.room.name, "timeout": 60}
-        how["env"] = {"LD_PRELOAD": self.refuse, "REFUSE": str(place)}
+        how["env"] = {"LD_PRELOAD": self.refuse, "REFUSE": str(place), "REFUSED": told}
         return subprocess.run([self.program, *words], **how)
+
+    def refused(self, place, words):
+        """Returns the run with these words in which the request with this number is refused, and
+        whether it made so many requests."""
+        with tempfile.TemporaryDirectory() as room:
+            told = os.path.join(room, "refused")
+            ran = self.ran(place, words, told=told)
+            return ran, os.path.exists(told)
 
     def limited(self, size, words, given=b""):
         """Returns the run with these words and this input in an address space of so many bytes."""

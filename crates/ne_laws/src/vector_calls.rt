@@ -28,7 +28,7 @@ pub enum VecCall<T> {
 }
 
 /// The reply to a call on a vector.
-#[derive(Drop)]
+#[derive(Debug, Drop)]
 pub enum VecReply<T> {
     /// The reply to `Push`, `Insert`, `Truncate` and `Reverse`: the call was made.
     Done,

@@ -1,5 +1,6 @@
 //! Each call once with ample memory, worked rows, and printed texts.
 
+mod disorder;
 mod drawing;
 mod drops;
 mod large;

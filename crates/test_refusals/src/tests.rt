@@ -16,7 +16,6 @@ mod runs;
 mod sorts;
 mod sources;
 mod tables;
-mod trees;
 mod untouched;
 
 ghost use Rattle.std.specs.Prelude.{◌+◌, ◌^◌};
@@ -25,7 +24,6 @@ ghost use Rattle.std.specs.Iterator.{at_most, IsFinite};
 use nonempty_collections::NEVec;
 use std::alloc::{AllocError, Global};
 use std::convert::AsSlice;
-use std::process::Abort;
 use std::test::Fail;
 
 // One and two, in a vector that has to grow for a third item.
@@ -41,22 +39,48 @@ fn two(alloc: Global, a: u32, b: u32) -> Result<Vec<u32>, AllocError> {
     Ok(items)
 }
 
-// Prints the outcome of the call.
+// Prints the outcome of the call, if it has a name.
 fn tell(rt: &impl Print, outcome: &str, call: &str) -> Result<(), Fail> {
-    println!(rt; "{outcome}: {call}")?;
+    if !call.is_empty() {
+        println!(rt; "{outcome}: {call}")?;
+    }
     Ok(())
+}
+
+// Fails with both lists if they differ.
+fn same(call: &str, given: &[u32], wanted: &[u32]) -> Result<(), Fail> {
+    if given == wanted {
+        return Ok(());
+    }
+    Err(Fail::new(format_args!("{call}: {given:?}, and not {wanted:?}")))
+}
+
+// Fails with both numbers if they differ.
+fn is(call: &str, given: usize, wanted: usize) -> Result<(), Fail> {
+    if given == wanted {
+        return Ok(());
+    }
+    Err(Fail::new(format_args!("{call}: {given}, and not {wanted}")))
+}
+
+// Fails unless this holds.
+fn holds(call: &str, fact: bool) -> Result<(), Fail> {
+    if fact {
+        return Ok(());
+    }
+    Err(Fail::new(format_args!("{call}: something else is left")))
 }
 
 // For a call that makes a vector: if it succeeds, the vector has these items.
 fn gives(
-    rt: &(impl Abort + Print),
+    rt: &impl Print,
     call: &str,
     answer: Result<NEVec<u32>, AllocError>,
     items: &[u32],
 ) -> Result<(), Fail> {
     match answer {
         Ok(made) => {
-            assert_eq!(rt; made.as_slice(), items, "{call}");
+            same(call, made.as_slice(), items)?;
             tell(rt, "made", call)
         }
         Err(AllocError) => tell(rt, "refused", call),
@@ -66,23 +90,19 @@ fn gives(
 // For a call that changes a vector: if it succeeds, the items are `after`, and otherwise they are
 // `before`.
 fn leaves(
-    rt: &(impl Abort + Print),
+    rt: &impl Print,
     call: &str,
     answer: Result<(), AllocError>,
     items: &NEVec<u32>,
     before: &[u32],
     after: &[u32],
 ) -> Result<(), Fail> {
-    match answer {
-        Ok(()) => {
-            assert_eq!(rt; items.as_slice(), after, "{call}");
-            tell(rt, "made", call)
-        }
-        Err(AllocError) => {
-            assert_eq!(rt; items.as_slice(), before, "{call} without memory");
-            tell(rt, "refused", call)
-        }
-    }
+    same(
+        call,
+        items.as_slice(),
+        if answer.is_ok() { after } else { before },
+    )?;
+    tell(rt, if answer.is_ok() { "made" } else { "refused" }, call)
 }
 
 // Fails with the name of the call unless the numbers are these.
@@ -93,14 +113,6 @@ fn walks<I: Iterator<Item = u32> + Drop>(call: &str, numbers: I, wanted: &[u32])
         return Ok(());
     }
     Err(Fail::new(format_args!("{call}: other numbers than {wanted:?}")))
-}
-
-// Fails with the names of the calls unless they return this.
-fn answers<T: PartialEq + Drop>(calls: &str, given: T, wanted: T) -> Result<(), Fail> {
-    if given == wanted {
-        return Ok(());
-    }
-    Err(Fail::new(format_args!("{calls}: another answer")))
 }
 
 // Counts down to 0, and hints at more items than any memory holds. To grow, `extend` asks for the

@@ -1,10 +1,12 @@
 //! Lists of calls on vectors. No function here has a proof file or calls a law.
-ghost use Rattle.std.specs.Prelude.{◌≡◌, ◌<◌, ◌++◌, [], ◌∷◌, None, Some, length, reverse};
+ghost use Rattle.std.specs.Prelude.{◌≡◌, ◌<◌, ◌++◌, [], ◌∷◌, None, Some, length, reverse, take};
 ghost use Rattle.std.specs.Prelude.{IfOk, OnOk};
+ghost use Rattle.std.specs.Int.NonZero.{non_zero_usize_get};
 
 use ne_laws::vector_calls::{VecCall, VecReply, run_vec};
 use nonempty_collections::NEVec;
 use std::alloc::{AllocError, Global};
+use std::num::NonZeroUsize;
 
 /// No calls have no replies and leave the vector as it is.
 pub fn no_calls_on_a_vector(
@@ -85,4 +87,20 @@ pub fn push_and_pop(
     ensures same { OnOk result (v.new ≡ v.old) }
 {
     run_vec(alloc, v, vec![in alloc; VecCall::Push(x), VecCall::Pop]?)
+}
+
+/// An item is pushed, and of all items the first `n` are kept.
+pub fn push_and_truncate(
+    alloc: Global,
+    v: &mut NEVec<u32>,
+    x: u32,
+    n: NonZeroUsize,
+) -> Result<Vec<VecReply<u32>>, AllocError>
+    ensures items { OnOk result (v.new ≡ take (non_zero_usize_get n) (v.old ++ x ∷ [])) }
+{
+    run_vec(
+        alloc,
+        v,
+        vec![in alloc; VecCall::Push(x), VecCall::Truncate(n)]?,
+    )
 }

@@ -1,12 +1,13 @@
 //! The extremes, which of several equal items is returned, and sorting.
 ghost use Rattle.std.specs.Iterator.{IsFiniteIterable};
 
-use super::{is, same};
+use super::{is, of, same};
 use nonempty_collections::{IntoNonEmptyIterator, NEVec, NonEmptyIterator};
 use std::alloc::{AllocError, Global};
 use std::cell::Cell;
 use std::cmp::Ordering;
 use std::convert::AsSlice;
+use std::rc::Rc;
 use std::test::Fail;
 
 // A number with a mark that comparisons ignore.
@@ -108,12 +109,55 @@ fn of_words(rt: HostRuntime) -> Result<(), Fail> {
     is(shortest(words.into_nonempty_iter()), "hi")
 }
 
-// With a comparison that is not an order, an item is still returned.
+// What a closure of this kind returns: always the same, or by how often it was called.
+fn answer(kind: u32, calls: &Cell<u32>) -> Ordering {
+    calls.set(calls.get().wrapping_add(1));
+    match (kind, calls.get() % 3) {
+        (0, _) | (3, 0) => Ordering::Less,
+        (1, _) | (3, 1) => Ordering::Greater,
+        _ => Ordering::Equal,
+    }
+}
+
+fn some_item(kind: u32) -> Result<(), Fail> {
+    let calls = Cell::new(0u32);
+    let most = [1u32, 2, 3]
+        .into_nonempty_iter()
+        .max_by(|_, _| answer(kind, &calls));
+    let least = [1u32, 2, 3]
+        .into_nonempty_iter()
+        .min_by(|_, _| answer(kind, &calls));
+    let by_key = [1u32, 2, 3]
+        .into_nonempty_iter()
+        .max_by_key(|_| answer(kind, &calls));
+    is(
+        (1 <= most && most <= 3, 1 <= least && least <= 3),
+        (true, true),
+    )?;
+    is(1 <= by_key && by_key <= 3, true)
+}
+
+// No item is lost, and each is dropped once.
+fn sorted_somehow(alloc: Global, kind: u32) -> Result<(), Fail> {
+    let calls = Cell::new(0u32);
+    let token = Rc::new(alloc, 7u32)?;
+    let owners = NEVec::from_elem(alloc, token.clone()?, of(30)?)?;
+    let sorted = owners
+        .into_nonempty_iter()
+        .sorted_by_key(alloc, |_| answer(kind, &calls))?;
+    let held = Rc::strong_count(&token);
+    drop(sorted);
+    is([held, Rc::strong_count(&token)], [31, 1])
+}
+
+// With a closure that makes no order, an item is still returned.
 #[test]
-fn always_less(rt: HostRuntime) -> Result<(), Fail> {
-    let three = [1u32, 2, 3].into_nonempty_iter();
-    let some = three.max_by(|_, _| Ordering::Less);
-    is(1 <= some && some <= 3, true)
+fn without_an_order(rt: HostRuntime) -> Result<(), Fail> {
+    for kind in 0..4 {
+        some_item(kind)?;
+        sorted_somehow(rt.alloc(), kind)?;
+    }
+    Ok(())
 }
 
 // The comparison is called with the best item so far and the next one, in this order. `asked` holds

@@ -1,6 +1,6 @@
 //! Lists of calls: if an allocation fails, the calls at the front were made.
 
-use super::{pair, tell};
+use super::{holds, pair, tell};
 use ne_laws::map_calls::{MapCall, run_map};
 use ne_laws::vector_calls::{VecCall, run_vec};
 use nonempty_collections::NEBTreeMap;
@@ -19,10 +19,10 @@ fn on_a_vector(rt: HostRuntime) -> Result<(), Fail> {
     let answer = run_vec(alloc, &mut items, calls);
     let (length, first) = (items.len().get(), *items.first());
     if answer.is_ok() {
-        assert_eq!(rt; (length, first), (3, 3));
+        holds(call, length == 3 && first == 3)?;
         return tell(&rt, "made", call);
     }
-    assert_eq!(rt; length < 4 && first == 1, true, "more than a first part");
+    holds(call, length < 4 && first == 1)?;
     tell(&rt, "refused", call)
 }
 
@@ -47,14 +47,10 @@ fn on_a_map(rt: HostRuntime) -> Result<(), Fail> {
     let answer = run_map(alloc, &mut map, calls);
     let (keys, value) = (map.len().get(), map.get(&1).copied());
     if answer.is_ok() {
-        assert_eq!(rt; (keys, value), (16, Some(5)));
+        holds(call, keys == 16 && value == Some(5))?;
         return tell(&rt, "made", call);
     }
-    assert_eq!(rt; keys == 15 || map.contains_key(&16), true, "another key");
-    assert_eq!(rt;
-        (keys < 17, value),
-        (true, Some(1)),
-        "more than a first part"
-    );
+    holds(call, keys == 15 || keys == 16 && map.contains_key(&16))?;
+    holds(call, value == Some(1))?;
     tell(&rt, "refused", call)
 }

@@ -1,6 +1,6 @@
 //! The calls that add to a vector, each onto one that has to grow.
 
-use super::{Countdown, leaves, pair, tell, two};
+use super::{Countdown, holds, is, leaves, pair, same, tell, two};
 use nonempty_collections::Singleton;
 use std::alloc::AllocError;
 use std::convert::AsSlice;
@@ -11,7 +11,7 @@ fn push(rt: HostRuntime) -> Result<(), Fail> {
     let Ok(mut items) = pair(rt.alloc()) else {
         return tell(&rt, "not reached", "NEVec::push");
     };
-    assert_eq!(rt; items.capacity().get(), 2);
+    is("room", items.capacity().get(), 2)?;
     let answer = items.push(3);
     leaves(&rt, "NEVec::push", answer, &items, &[1, 2], &[1, 2, 3])
 }
@@ -21,7 +21,7 @@ fn insert(rt: HostRuntime) -> Result<(), Fail> {
     let Ok(mut items) = pair(rt.alloc()) else {
         return tell(&rt, "not reached", "NEVec::insert");
     };
-    assert_eq!(rt; items.capacity().get(), 2);
+    is("room", items.capacity().get(), 2)?;
     let answer = items.insert(1, 3);
     leaves(&rt, "NEVec::insert", answer, &items, &[1, 2], &[1, 3, 2])
 }
@@ -31,7 +31,7 @@ fn extend_one(rt: HostRuntime) -> Result<(), Fail> {
     let Ok(mut items) = pair(rt.alloc()) else {
         return tell(&rt, "not reached", "Singleton::extend_one");
     };
-    assert_eq!(rt; items.capacity().get(), 2);
+    is("room", items.capacity().get(), 2)?;
     let answer = items.extend_one(3);
     leaves(
         &rt,
@@ -48,10 +48,10 @@ fn append(rt: HostRuntime) -> Result<(), Fail> {
     let (Ok(mut items), Ok(mut other)) = (pair(rt.alloc()), two(rt.alloc(), 3, 4)) else {
         return tell(&rt, "not reached", "NEVec::append");
     };
-    assert_eq!(rt; items.capacity().get(), 2);
+    is("room", items.capacity().get(), 2)?;
     let answer = items.append(&mut other);
     let kept: &[u32] = if answer.is_ok() { &[] } else { &[3, 4] };
-    assert_eq!(rt; other.as_slice(), kept);
+    same("NEVec::append", other.as_slice(), kept)?;
     leaves(&rt, "NEVec::append", answer, &items, &[1, 2], &[1, 2, 3, 4])
 }
 
@@ -62,17 +62,10 @@ fn extend(rt: HostRuntime) -> Result<(), Fail> {
     let Ok(mut items) = pair(rt.alloc()) else {
         return tell(&rt, "not reached", "NEVec::extend");
     };
-    assert_eq!(rt; items.capacity().get(), 2);
+    is("room", items.capacity().get(), 2)?;
     let whole = [1, 2, 3, 2, 1, 0];
     let answer = items.extend(Countdown(4));
-    let count = items.len().get();
-    assert!(rt; 2 <= count && count <= 6);
-    leaves(
-        &rt,
-        "NEVec::extend",
-        answer,
-        &items,
-        &whole[..count],
-        &whole,
-    )
+    let front = whole.get(..items.len().get()).ok_or("more than all items")?;
+    holds("NEVec::extend", 2 <= front.len())?;
+    leaves(&rt, "NEVec::extend", answer, &items, front, &whole)
 }

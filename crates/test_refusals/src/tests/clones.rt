@@ -1,10 +1,9 @@
 //! The calls that clone. A clone allocates, so a later clone can fail after an earlier one is made.
 
-use super::tell;
+use super::{holds, tell};
 use nonempty_collections::{IntoNonEmptyIterator, NEVec, NonEmptyIterator};
 use std::alloc::{AllocError, Global};
 use std::num::NonZeroUsize;
-use std::process::Abort;
 use std::test::Fail;
 
 // A number whose clones allocate, although it has no memory itself: so only the calls make
@@ -42,14 +41,14 @@ fn are(items: &NEVec<Number>, values: &[u32]) -> bool {
 
 // For a call that makes a vector: if it succeeds, the vector has these numbers.
 fn gives(
-    rt: &(impl Abort + Print),
+    rt: &impl Print,
     call: &str,
     answer: Result<NEVec<Number>, AllocError>,
     values: &[u32],
 ) -> Result<(), Fail> {
     match answer {
         Ok(made) => {
-            assert!(rt; are(&made, values), "{call}");
+            holds(call, are(&made, values))?;
             tell(rt, "made", call)
         }
         Err(AllocError) => tell(rt, "refused", call),
@@ -67,7 +66,11 @@ fn from_elem(rt: HostRuntime) -> Result<(), Fail> {
 fn try_from_slice(rt: HostRuntime) -> Result<(), Fail> {
     let slice = [fresh(rt.alloc(), 1), fresh(rt.alloc(), 2)];
     let answer = NEVec::try_from_slice(rt.alloc(), &slice);
-    let answer = answer.map(|made| made.expect(&rt, "the slice has an item"));
+    holds(
+        "the slice has items",
+        answer.as_ref().map_or(true, |made| made.is_some()),
+    )?;
+    let answer = answer.and_then(|made| made.ok_or(AllocError));
     gives(&rt, "NEVec::try_from_slice", answer, &[1, 2])
 }
 
@@ -77,7 +80,7 @@ fn clone(rt: HostRuntime) -> Result<(), Fail> {
         return tell(&rt, "not reached", "NEVec::clone");
     };
     let answer = items.clone();
-    assert!(rt; are(&items, &[7]), "the original stays");
+    holds("the original of a clone", are(&items, &[7]))?;
     gives(&rt, "NEVec::clone", answer, &[7])
 }
 
@@ -91,7 +94,7 @@ fn cloned(rt: HostRuntime) -> Result<(), Fail> {
         0u32,
         |told, value| told.wrapping_mul(10).wrapping_add(value),
     );
-    assert!(rt; told == 12 || told == 10 || told == 2);
+    holds("cloned", told == 12 || told == 10 || told == 2)?;
     let outcome = if told == 12 { "made" } else { "refused" };
     tell(&rt, outcome, "NonEmptyIterator::cloned")
 }

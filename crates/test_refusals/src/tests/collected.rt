@@ -1,7 +1,7 @@
 //! Collecting into the standard library's types. What was taken is dropped if a later allocation
 //! fails.
 
-use super::{Countdown, tell};
+use super::{Countdown, holds, is, same, tell};
 use nonempty_collections::iter::once;
 use nonempty_collections::{IntoNonEmptyIterator, NonEmptyIterator};
 use std::alloc::AllocError;
@@ -18,7 +18,7 @@ fn vector(rt: HostRuntime) -> Result<(), Fail> {
     let Ok(items) = answer else {
         return tell(&rt, "refused", call);
     };
-    assert_eq!(rt; items.as_slice(), [5, 4, 3, 2, 1, 0].as_slice());
+    same(call, items.as_slice(), &[5, 4, 3, 2, 1, 0])?;
     tell(&rt, "made", call)
 }
 
@@ -31,7 +31,7 @@ fn text(rt: HostRuntime) -> Result<(), Fail> {
     let Ok(joined) = answer else {
         return tell(&rt, "refused", call);
     };
-    assert_eq!(rt; joined.as_str(), "eight bytes and some more");
+    holds(call, joined.as_str() == "eight bytes and some more")?;
     tell(&rt, "made", call)
 }
 
@@ -44,7 +44,10 @@ fn path(rt: HostRuntime) -> Result<(), Fail> {
     let Ok(joined) = answer else {
         return tell(&rt, "refused", call);
     };
-    assert_eq!(rt; joined.into_string().as_str(), "a folder/with a file in it");
+    holds(
+        call,
+        joined.into_string().as_str() == "a folder/with a file in it",
+    )?;
     tell(&rt, "made", call)
 }
 
@@ -56,10 +59,8 @@ fn hashed_map(rt: HostRuntime) -> Result<(), Fail> {
     let Ok(map) = answer else {
         return tell(&rt, "refused", call);
     };
-    assert_eq!(rt;
-        (map.get(&5), map.get(&0), map.len()),
-        (Some(&6), Some(&0), 6)
-    );
+    holds(call, map.get(&5) == Some(&6) && map.get(&0) == Some(&0))?;
+    is(call, map.len(), 6)?;
     tell(&rt, "made", call)
 }
 
@@ -71,10 +72,8 @@ fn tree_map(rt: HostRuntime) -> Result<(), Fail> {
     let Ok(map) = answer else {
         return tell(&rt, "refused", call);
     };
-    assert_eq!(rt;
-        (map.get(&5), map.get(&0), map.len()),
-        (Some(&6), Some(&0), 6)
-    );
+    holds(call, map.get(&5) == Some(&6) && map.get(&0) == Some(&0))?;
+    is(call, map.len(), 6)?;
     tell(&rt, "made", call)
 }
 
@@ -85,10 +84,8 @@ fn hashed_set(rt: HostRuntime) -> Result<(), Fail> {
     let Ok(set) = answer else {
         return tell(&rt, "refused", call);
     };
-    assert_eq!(rt;
-        (set.contains(&5), set.contains(&0), set.len()),
-        (true, true, 6)
-    );
+    holds(call, set.contains(&5) && set.contains(&0))?;
+    is(call, set.len(), 6)?;
     tell(&rt, "made", call)
 }
 
@@ -101,10 +98,8 @@ fn tree_set(rt: HostRuntime) -> Result<(), Fail> {
     let Ok(set) = answer else {
         return tell(&rt, "refused", call);
     };
-    assert_eq!(rt;
-        (set.contains(&5), set.contains(&4), set.len()),
-        (true, true, 3)
-    );
+    holds(call, set.contains(&5) && set.contains(&4))?;
+    is(call, set.len(), 3)?;
     tell(&rt, "made", call)
 }
 
@@ -119,9 +114,7 @@ fn result(rt: HostRuntime) -> Result<(), Fail> {
     let Ok(joined) = answer else {
         return tell(&rt, "refused", call);
     };
-    assert_eq!(rt;
-        joined.as_ref().map(|text| text.as_str()),
-        Ok("eight bytes and some more")
-    );
+    let text = joined.ok().ok_or("a value is lost")?;
+    holds(call, text.as_str() == "eight bytes and some more")?;
     tell(&rt, "made", call)
 }

@@ -1,6 +1,6 @@
 //! The calls that make a vector of numbers.
 
-use super::{gives, tell, two};
+use super::{gives, is, tell, two};
 use nonempty_collections::{NEVec, Singleton, nev};
 use std::alloc::AllocError;
 use std::num::NonZeroUsize;
@@ -23,7 +23,7 @@ fn from_parts(rt: HostRuntime) -> Result<(), Fail> {
     let Ok(tail) = two(rt.alloc(), 2, 3) else {
         return tell(&rt, "not reached", "NEVec::from_parts");
     };
-    assert_eq!(rt; tail.capacity(), 2);
+    is("room", tail.capacity(), 2)?;
     gives(
         &rt,
         "NEVec::from_parts",
@@ -48,16 +48,14 @@ fn nev_of_a_list(rt: HostRuntime) -> Result<(), Fail> {
         evaluated
     };
     let answer = nev![rt.alloc(); next(), next(), next(), next(), next(), next()];
-    assert!(rt;
-        evaluated
-            == if answer.is_ok() {
-                6
-            } else if evaluated < 5 {
-                1
-            } else {
-                5
-            }
-    );
+    let wanted = if answer.is_ok() {
+        6
+    } else if evaluated < 5 {
+        1
+    } else {
+        5
+    };
+    is("evaluated", evaluated as usize, wanted)?;
     gives(&rt, "nev of a list", answer, &[1, 2, 3, 4, 5, 6])
 }
 

@@ -1,7 +1,7 @@
 //! Products and distinct items: what was taken is dropped once if an allocation fails.
 
 use super::owners::{Owner, one_more, owned, token};
-use super::{answers, tell, walks};
+use super::{holds, is, tell, walks};
 use crate::tests::tables::{Items, item};
 use nonempty_collections::iter::once;
 use nonempty_collections::{
@@ -20,7 +20,7 @@ fn all_unique(rt: HostRuntime) -> Result<(), Fail> {
     let source = once(item(rt.alloc(), &token, 1)?).chain(Items::new(rt.alloc(), &token, 2, 9));
     let answer = source.all_unique(rt.alloc());
     owned(call, &token, 0)?;
-    answers(call, answer.unwrap_or(true), true)?;
+    holds(call, answer.unwrap_or(true))?;
     tell(&rt, if answer.is_ok() { "made" } else { "refused" }, call)
 }
 
@@ -54,9 +54,8 @@ fn cartesian_product(rt: HostRuntime) -> Result<(), Fail> {
     }
     let is_over = pairs.next().is_none();
     drop(pairs);
-    let drawn = if count < 2 { 1 } else { 2 };
-    let wanted = (true, drawn, count < 4);
-    answers(call, (is_over, draws.get(), is_refused), wanted)?;
+    is(call, draws.get() as usize, if count < 2 { 1 } else { 2 })?;
+    holds(call, is_over && is_refused == (count < 4))?;
     owned(call, &token, 0)?;
     tell(&rt, if is_refused { "refused" } else { "made" }, call)
 }
@@ -72,8 +71,11 @@ fn none_taken_before(rt: HostRuntime) -> Result<(), Fail> {
         .into_nonempty_iter()
         .cartesian_product(&[5u32])
         .into_iter();
-    answers("cartesian_product", pairs.next(), Some(Ok((1, &5))))?;
-    answers("cartesian_product", pairs.next().is_none(), true)?;
+    holds(
+        "cartesian_product",
+        matches!(pairs.next(), Some(Ok((1, 5)))),
+    )?;
+    holds("cartesian_product", pairs.next().is_none())?;
     let answer = NEVec::new(rt.alloc(), 1);
     tell(&rt, if answer.is_ok() { "made" } else { "refused" }, call)
 }

@@ -1,6 +1,6 @@
 //! Readers of runs, whose runs are allocated when they are read.
 
-use super::tell;
+use super::{holds, is, tell};
 use ne_laws::reader::take_runs;
 use nonempty_collections::{IntoNonEmptyIterator, NonEmptyIterator};
 use std::cell::Cell;
@@ -14,15 +14,16 @@ fn group_by(rt: HostRuntime) -> Result<(), Fail> {
     let mut reader = items.group_by(rt.alloc(), |x| *x).into_iter();
     let call = "GroupBy::next";
     let Some(Ok(first)) = reader.next() else {
-        assert_eq!(rt; reader.next().is_none(), true);
+        holds(call, reader.next().is_none())?;
         return tell(&rt, "refused", call);
     };
     let Some(Ok(second)) = reader.next() else {
-        assert_eq!(rt; reader.next().is_none(), true);
+        holds(call, reader.next().is_none())?;
         return tell(&rt, "refused", call);
     };
-    assert_eq!(rt; (first.len().get(), second.len().get()), (5, 1));
-    assert_eq!(rt; reader.next().is_none(), true);
+    is(call, first.len().get(), 5)?;
+    is(call, second.len().get(), 1)?;
+    holds(call, reader.next().is_none())?;
     tell(&rt, "made", call)
 }
 
@@ -38,13 +39,13 @@ fn finished_run(rt: HostRuntime) -> Result<(), Fail> {
     let Some(Ok(first)) = reader.next() else {
         return tell(&rt, "not reached", call);
     };
-    assert_eq!(rt; (first.len().get(), *first.first()), (1, 5));
+    holds(call, first.len().get() == 1 && *first.first() == 5)?;
     let Some(Ok(second)) = reader.next() else {
-        assert_eq!(rt; reader.next().is_none(), true);
+        holds(call, reader.next().is_none())?;
         return tell(&rt, "refused", call);
     };
-    assert_eq!(rt; (second.len().get(), *second.first()), (1, 6));
-    assert_eq!(rt; reader.next().is_none(), true);
+    holds(call, second.len().get() == 1 && *second.first() == 6)?;
+    holds(call, reader.next().is_none())?;
     tell(&rt, "made", call)
 }
 
@@ -80,13 +81,13 @@ fn taken(rt: HostRuntime) -> Result<(), Fail> {
     };
     let items = [of(5, 1), of(5, 10), of(6, 100), of(6, 1000)].into_nonempty_iter();
     let Ok((runs, reader)) = take_runs(rt.alloc(), items, |item| item.value, 1) else {
-        assert_eq!(rt; dropped.get(), 1111);
+        is(call, dropped.get() as usize, 1111)?;
         return tell(&rt, "refused", call);
     };
-    assert_eq!(rt; (runs.len(), dropped.get()), (1, 0));
+    holds(call, runs.len() == 1 && dropped.get() == 0)?;
     drop(reader);
-    assert_eq!(rt; dropped.get(), 1100);
+    is(call, dropped.get() as usize, 1100)?;
     drop(runs);
-    assert_eq!(rt; dropped.get(), 1111);
+    is(call, dropped.get() as usize, 1111)?;
     tell(&rt, "made", call)
 }

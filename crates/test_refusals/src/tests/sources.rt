@@ -1,7 +1,7 @@
 //! The methods of sources. Those that allocate drop what they took if a later allocation fails; the
 //! others do not allocate.
 
-use super::{Countdown, gives, tell};
+use super::{Countdown, gives, same, tell};
 use nonempty_collections::iter::once;
 use nonempty_collections::{IntoNonEmptyIterator, NEVec, NonEmptyArrayExt, NonEmptyIterator};
 use std::alloc::AllocError;
@@ -31,7 +31,7 @@ fn sorted_by_key(rt: HostRuntime) -> Result<(), Fail> {
         1, 0, 3, 2, 5, 4, 7, 6, 9, 8, 11, 10, 13, 12, 15, 14, 17, 16, 19, 18, 20,
     ];
     let items: Vec<u32> = sorted.into_iter().collect(rt.alloc())?;
-    assert_eq!(rt; items.as_slice(), by_halves.as_slice());
+    same(call, items.as_slice(), &by_halves)?;
     tell(&rt, "made", call)
 }
 
@@ -44,10 +44,8 @@ fn unzip(rt: HostRuntime) -> Result<(), Fail> {
     let Ok((firsts, seconds)) = answer else {
         return tell(&rt, "refused", call);
     };
-    assert_eq!(rt;
-        (firsts.as_slice(), seconds.as_slice()),
-        ([1, 2, 3, 4, 5].as_slice(), [6, 7, 8, 9, 10].as_slice())
-    );
+    same(call, firsts.as_slice(), &[1, 2, 3, 4, 5])?;
+    same(call, seconds.as_slice(), &[6, 7, 8, 9, 10])?;
     tell(&rt, "made", call)
 }
 
@@ -62,23 +60,23 @@ fn into_nonempty_vec(rt: HostRuntime) -> Result<(), Fail> {
     )
 }
 
-// Chains of adapters that do not allocate, used up. They are short, because the check takes minutes
-// for a tower of seven.
-fn greatest() -> (usize, u32) {
+// Chains of adapters that do not allocate, used up: the greatest item is 9 at last. They are short,
+// because the time of their check grows fast with their length.
+fn greatest() -> u32 {
     let looked_at = [1u32, 2, 3].into_nonempty_iter().peekable();
     let doubled = looked_at.map(|x| x.wrapping_mul(2)).max();
-    let twice = once(doubled).enumerate().flat_map(|p| [p, (1, 9)]).max();
-    once(twice).chain(once((0, 0))).zip([7u32; 2]).max().0
+    let twice = once(doubled).flat_map(|x| [x, 9]).max();
+    let place = once(twice).enumerate().max().0 as u32;
+    once(place).chain(once(9)).zip([7u32; 2]).max().0
 }
 
 // The first request of this test is that of its call, as the gate requires: what comes before does
 // not allocate.
 #[test]
 fn none_taken_before(rt: HostRuntime) -> Result<(), Fail> {
-    let (place, item) = greatest();
-    assert_eq!(rt; (place, item), (1, 9));
+    let item = greatest();
     let few = [5u32, 6, 7].into_nonempty_iter().skip_while(|x| *x < 6);
-    assert_eq!(rt; few.fold(0u32, |total, x| total.wrapping_add(x)), 13);
-    let answer = NEVec::new(rt.alloc(), item);
-    gives(&rt, "NEVec::new behind a chain", answer, &[9])
+    let total = few.fold(0u32, |total, x| total.wrapping_add(x));
+    let answer = NEVec::new(rt.alloc(), item.wrapping_add(total));
+    gives(&rt, "NEVec::new behind a chain", answer, &[22])
 }

@@ -1,11 +1,10 @@
-//! Hashed and index maps and sets whose keys and values own a token, which shows whether each is
-//! dropped once.
+//! Maps and sets whose keys and values own a token, which shows whether each is dropped once.
 //!
-//! A table that is made of one item has room for nine. Making it takes four requests, and growing
-//! takes four more. A call that makes a table comes before one that changes it.
+//! What is tried is the same for all six types: a row is a call that makes a table of one item, and
+//! one that changes the table when it is full. A refused request of the first call leaves the other
+//! one unreached.
 
-mod hashed;
-mod index;
+mod kinds;
 mod looks;
 mod written;
 
@@ -29,8 +28,8 @@ pub(super) fn item(alloc: Global, token: &Rc<u32>, number: u32) -> Result<Item, 
     Ok((key, one_more(alloc, token)?))
 }
 
-// Items with numbers from `next` on, `left` of them. The hint is more than any memory holds, so no
-// room is requested beforehand: see `Countdown`.
+// Items with numbers from `next` on, `left` of them. The hint is 0, so no room is requested
+// beforehand.
 #[derive(Drop)]
 pub(super) struct Items<'a> {
     alloc: Global,
@@ -64,39 +63,46 @@ impl<'a> Iterator for Items<'a> {
         self.next = number.wrapping_add(1);
         item(self.alloc, self.token, number).ok()
     }
-
-    fn size_hint(&self) -> (usize, Option<usize>) {
-        (usize::MAX, None)
-    }
 }
 
-// The calls that make a table of one item.
+// The calls that make a table of one item. A tree has the first two, and a set the last one.
 #[derive(Clone, Copy)]
 enum Make {
     New,
+    Singleton,
     WithCapacity,
     WithHasher,
     // With much room.
     WithCapacityAndHasher,
-    Singleton,
-    // For a set, by its macro.
     Written,
 }
 
-// The calls that insert an item, and the one that releases room.
-#[derive(Clone, Copy)]
+// The calls on a table. A set has `Replace`, and a tree does not shrink.
+#[derive(Clone, Copy, PartialEq, Eq)]
 enum Change {
     Insert,
-    // For a set.
     Replace,
     ExtendOne,
     ShrinkToFit,
+    Extend,
+    Clone,
 }
 
+// A call that makes a table, one on that table, and their names. The first has no name if another
+// row tries it.
+type Row = ((Make, &'static str), (Change, &'static str));
+
 // Maps and sets of items.
-trait Table: Singleton<Item = Item> + Drop {
+trait Table: Singleton<Item = Item> + FromNonEmptyIterator<Item> + Clone + Drop {
+    // How many items there is room for, in a table that is made of one.
+    fn room() -> u32;
+
+    // Whether a call with an item that is there already does without memory.
+    fn takes_none_again() -> bool;
+
     fn make(alloc: Global, call: Make, item: Item) -> Result<Self, AllocError>;
 
+    // `Insert`, `Replace`, `ExtendOne` or `ShrinkToFit`.
     fn change(&mut self, call: Change, item: Item) -> Result<(), AllocError>;
 
     fn extend_by(&mut self, items: Items<'_>) -> Result<(), AllocError>;
@@ -114,14 +120,14 @@ fn stands<C: Table>(
     is_made: bool,
     token: &Rc<u32>,
     table: &C,
-    fewest: usize,
-    all: usize,
+    fewest: u32,
+    all: u32,
 ) -> Result<(), Fail> {
     let count = table.count();
     let is_right = if is_made {
-        count == all
+        count == all as usize
     } else {
-        fewest <= count && count < all
+        fewest as usize <= count && count < all as usize
     };
     if !is_right {
         return Err(Fail::new(format_args!("{call}: {count} numbers stand")));
@@ -151,82 +157,101 @@ fn made<C: Table>(
     Ok(Some(table))
 }
 
-// Reports that two calls are not reached.
-fn neither(rt: &impl Print, call: &str, behind: &str) -> Result<(), Fail> {
-    tell(rt, "not reached", call)?;
-    tell(rt, "not reached", behind)
-}
-
-// A call that makes a table, and one that changes it when it is full.
+// Makes the call on a table that is full. What is there already needs no memory in a tree.
 fn changed<C: Table>(
     rt: &impl Print,
     alloc: Global,
-    make: (Make, &str),
+    token: &Rc<u32>,
+    table: &mut C,
     change: (Change, &str),
-    after: usize,
 ) -> Result<(), Fail> {
-    let Ok(token) = token(alloc) else {
-        return neither(rt, make.1, change.1);
-    };
-    let Some(mut table) = made::<C>(rt, alloc, &token, make, 9)? else {
-        return tell(rt, "not reached", change.1);
-    };
-    let answer = table.change(change.0, item(alloc, &token, 10)?);
-    stands(rt, change.1, answer.is_ok(), &token, &table, 9, after)
+    let full = C::room();
+    if C::takes_none_again() && table.change(change.0, item(alloc, token, 3)?).is_err() {
+        return Err(Fail::new(format_args!("{}: it is there already", change.1)));
+    }
+    let answer = table.change(change.0, item(alloc, token, full.wrapping_add(1))?);
+    let shrinks = change.0 == Change::ShrinkToFit;
+    let all = if shrinks { full } else { full.wrapping_add(1) };
+    stands(rt, change.1, answer.is_ok(), token, table, full, all)
 }
 
-// A call that makes a table, and `extend`. Of the new items one is already there, one goes into the
-// room that is left, and for the next the table grows.
+// Extends a table that has room for one item. Of the new items one is already there, one goes into
+// the room that is left, and for the next the table grows.
 fn extended<C: Table>(
     rt: &impl Print,
     alloc: Global,
-    make: (Make, &str),
+    token: &Rc<u32>,
+    table: &mut C,
     extend: &str,
 ) -> Result<(), Fail> {
-    let Ok(token) = token(alloc) else {
-        return neither(rt, make.1, extend);
-    };
-    let Some(mut table) = made::<C>(rt, alloc, &token, make, 8)? else {
-        return tell(rt, "not reached", extend);
-    };
-    let answer = table.extend_by(Items::new(alloc, &token, 8, 4));
-    stands(rt, extend, answer.is_ok(), &token, &table, 9, 11)
+    let full = C::room();
+    let more = Items::new(alloc, token, full.wrapping_sub(1), 4);
+    let answer = table.extend_by(more);
+    stands(
+        rt,
+        extend,
+        answer.is_ok(),
+        token,
+        table,
+        full,
+        full.wrapping_add(2),
+    )
 }
 
-// A call that makes a table, and `clone`.
-fn cloned<C: Table + Clone>(
-    rt: &impl Print,
-    alloc: Global,
-    make: (Make, &str),
-    clone: &str,
-) -> Result<(), Fail> {
-    let Ok(token) = token(alloc) else {
-        return neither(rt, make.1, clone);
-    };
-    let Some(table) = made::<C>(rt, alloc, &token, make, 1)? else {
-        return tell(rt, "not reached", clone);
-    };
+// Clones a table of one item.
+fn cloned<C: Table>(rt: &impl Print, token: &Rc<u32>, table: C, clone: &str) -> Result<(), Fail> {
     let Ok(copy) = table.clone() else {
-        return stands(rt, clone, false, &token, &table, 1, 2);
+        return stands(rt, clone, false, token, &table, 1, 2);
     };
     drop(table);
-    stands(rt, clone, true, &token, &copy, 1, 1)
+    stands(rt, clone, true, token, &copy, 1, 1)
 }
 
-// Ten items: the table is made for the first, and grows for the last.
-fn collected<C: Table + FromNonEmptyIterator<Item>>(
-    rt: &impl Print,
-    alloc: Global,
-    call: &str,
-) -> Result<(), Fail> {
+// Makes the calls of a row, with a token of their own.
+fn row<C: Table>(rt: &impl Print, alloc: Global, (make, call): Row) -> Result<(), Fail> {
+    let Ok(token) = token(alloc) else {
+        tell(rt, "not reached", make.1)?;
+        return tell(rt, "not reached", call.1);
+    };
+    let last = match call.0 {
+        Change::Clone => 1,
+        Change::Extend => C::room().wrapping_sub(1),
+        _ => C::room(),
+    };
+    let Some(mut table) = made::<C>(rt, alloc, &token, make, last)? else {
+        return tell(rt, "not reached", call.1);
+    };
+    match call.0 {
+        Change::Clone => cloned(rt, &token, table, call.1),
+        Change::Extend => extended(rt, alloc, &token, &mut table, call.1),
+        _ => changed(rt, alloc, &token, &mut table, call),
+    }
+}
+
+// Collects an item more than there is room for.
+fn collected<C: Table>(rt: &impl Print, alloc: Global, call: &str) -> Result<(), Fail> {
     let Ok(token) = token(alloc) else {
         return tell(rt, "not reached", call);
     };
-    let source = once(item(alloc, &token, 1)?).chain(Items::new(alloc, &token, 2, 9));
-    let answer: Result<C, AllocError> = source.collect(alloc);
+    let rest = Items::new(alloc, &token, 2, C::room());
+    let answer: Result<C, AllocError> = once(item(alloc, &token, 1)?).chain(rest).collect(alloc);
     let Ok(table) = answer else {
         owned(call, &token, 0)?;
         return tell(rt, "refused", call);
     };
-    stands(rt, call, true, &token, &table, 10, 10)
+    let all = C::room().wrapping_add(1);
+    stands(rt, call, true, &token, &table, all, all)
+}
+
+// Makes the calls of all rows, and collects.
+fn every_call<C: Table>(
+    rt: &impl Print,
+    alloc: Global,
+    rows: &[Row],
+    collect: &str,
+) -> Result<(), Fail> {
+    for calls in rows {
+        row::<C>(rt, alloc, *calls)?;
+    }
+    collected::<C>(rt, alloc, collect)
 }

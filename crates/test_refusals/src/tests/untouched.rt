@@ -1,6 +1,6 @@
 //! The calls that do not allocate: whichever request is refused, they return the same as ever.
 
-use super::{pair, tell};
+use super::{pair, same, tell};
 use nonempty_collections::{NESlice, NEVec};
 use std::alloc::{AllocError, Global};
 use std::convert::AsSlice;
@@ -14,14 +14,6 @@ fn seven(alloc: Global) -> Result<NEVec<u32>, AllocError> {
     Ok(items)
 }
 
-// Fails with the name of the call unless the items are these.
-fn are(call: &str, items: &[u32], wanted: &[u32]) -> Result<(), Fail> {
-    if items == wanted {
-        return Ok(());
-    }
-    Err(Fail::new(format_args!("{call}: expected {wanted:?}, found {items:?}")))
-}
-
 #[test]
 fn removals(rt: HostRuntime) -> Result<(), Fail> {
     let call = "removals";
@@ -29,18 +21,18 @@ fn removals(rt: HostRuntime) -> Result<(), Fail> {
         return tell(&rt, "not reached", call);
     };
     items.dedup();
-    are("dedup", items.as_slice(), &[1, 2, 3, 4, 5, 6])?;
+    same("dedup", items.as_slice(), &[1, 2, 3, 4, 5, 6])?;
     items.pop();
     items.remove(0);
     items.swap_remove(0);
-    are("swap_remove", items.as_slice(), &[5, 3, 4])?;
+    same("swap_remove", items.as_slice(), &[5, 3, 4])?;
     items.reverse();
     items.truncate(NonZeroUsize::new(2).unwrap());
-    are("truncate", items.as_slice(), &[4, 3])?;
+    same("truncate", items.as_slice(), &[4, 3])?;
     let kept = items.retain(|it| *it == 3).ok().ok_or("none kept")?;
-    are("retain", kept.as_slice(), &[3])?;
+    same("retain", kept.as_slice(), &[3])?;
     let kept = kept.retain_mut(|_| false).err().ok_or("one kept")?;
-    are("retain_mut", kept.as_slice(), &[])?;
+    same("retain_mut", kept.as_slice(), &[])?;
     tell(&rt, "made", call)
 }
 
@@ -55,12 +47,12 @@ fn looks(rt: HostRuntime) -> Result<(), Fail> {
         .nonempty_chunks(NonZeroUsize::new(4).unwrap())
         .into_iter();
     let (first, rest) = (chunks.next(), chunks.next());
-    are(
+    same(
         "first chunk",
         first.ok_or("no chunk")?.as_slice(),
         &[1, 2, 3, 4],
     )?;
-    are(
+    same(
         "second chunk",
         rest.ok_or("no chunk")?.as_slice(),
         &[5, 6, 6],
@@ -69,7 +61,7 @@ fn looks(rt: HostRuntime) -> Result<(), Fail> {
     if !found || !items.contains(&6) || items.get(7).is_some() {
         return Err(Fail::new(format_args!("a search answers otherwise")));
     }
-    are(
+    same(
         "Vec::from",
         Vec::from(items).as_slice(),
         &[1, 2, 3, 4, 5, 6, 6],

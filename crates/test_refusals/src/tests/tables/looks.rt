@@ -1,15 +1,45 @@
-//! The calls of hashed and index maps and sets that do not allocate. The requests after them are
-//! those of the call that follows, as the gate requires. With one item the order does not matter.
+//! The calls of maps and sets that do not allocate. The requests after them are those of the call
+//! that follows, as the gate requires. What they return is proved, so it is only counted here: the
+//! answers that are `true`, and the items. With one item the order does not matter.
 
-use crate::tests::{answers, tell, walks};
+ghost use Rattle.std.specs.Iterator.{IsFinite};
+
+use crate::tests::tell;
 use indexmap::{IndexMap, IndexSet};
 use nonempty_collections::{
-    IntoNonEmptyIterator, NEIndexMap, NEIndexSet, NEMap, NESet, NonEmptyIterator,
+    IntoNonEmptyIterator, NEBTreeMap, NEBTreeSet, NEIndexMap, NEIndexSet, NEMap, NESet,
+    NonEmptyIterator,
 };
-use std::collections::{HashMap, HashSet};
+use std::collections::{BTreeMap, BTreeSet, HashMap, HashSet};
 use std::test::Fail;
 
-fn look_up_hashed(map: &mut NEMap<u32, u32>) -> Result<(), Fail> {
+// Fails unless so many answers and items were counted.
+fn counts(calls: &str, given: [usize; 3], wanted: [usize; 3]) -> Result<(), Fail> {
+    if given == wanted {
+        return Ok(());
+    }
+    Err(Fail::new(format_args!("{calls}: {given:?}, and not {wanted:?}")))
+}
+
+// Counts the answers that are `true`.
+fn holding(answers: &[bool]) -> usize {
+    answers.iter().filter(|answer| **answer).count()
+}
+
+// Counts the items.
+fn counted<I: Iterator + Drop>(items: I) -> usize
+where
+    I::Item: Drop,
+    requires { I.can_next items × IsFinite (I.remaining items) }
+{
+    let mut count = 0usize;
+    for _ in items {
+        count = count.wrapping_add(1);
+    }
+    count
+}
+
+fn look_up_tree(map: &mut NEBTreeMap<u32, u32>) -> usize {
     if let Some(place) = map.get_mut(&2) {
         *place = 21;
     }
@@ -19,16 +49,55 @@ fn look_up_hashed(map: &mut NEMap<u32, u32>) -> Result<(), Fail> {
     for (_key, value) in map.nonempty_iter_mut() {
         *value = value.wrapping_add(1);
     }
-    let found = (map.get(&2).copied(), map.get_key_value(&3).is_some());
-    let has = (map.contains_key(&2), map.len().get(), map.as_ref().len());
-    answers("look-ups", (found, has), ((Some(23), false), (true, 1, 1)))?;
-    answers("==", map == map, true)
+    let found = [map.get(&2).is_some(), map.get_key_value(&3).is_some()];
+    let has = [map.contains_key(&2), map == map, map.as_ref().len() == 1];
+    holding(&found).wrapping_add(holding(&has))
 }
 
-fn walk_hashed(map: &NEMap<u32, u32>) -> Result<(), Fail> {
-    walks("iter", map.iter().map(|(_, value)| *value), &[23])?;
-    walks("keys", map.keys().into_iter().copied(), &[2])?;
-    walks("values", map.values().into_iter().copied(), &[23])
+fn walk_tree(map: &NEBTreeMap<u32, u32>) -> usize {
+    counted(map.iter())
+        .wrapping_add(counted(map.keys().into_iter()))
+        .wrapping_add(counted(map.values().into_iter()))
+}
+
+#[test]
+fn tree_map(rt: HostRuntime) -> Result<(), Fail> {
+    let call = "NEBTreeMap::new behind looks";
+    let Ok(mut map) = NEBTreeMap::new(rt.alloc(), 2, 20) else {
+        return tell(&rt, "not reached", call);
+    };
+    let found = look_up_tree(&mut map);
+    let items = walk_tree(&map);
+    let inner = BTreeMap::from(map);
+    let map = NEBTreeMap::try_from_map(inner).ok_or("no key")?;
+    counts(
+        call,
+        [found, items, counted(map.into_nonempty_iter().into_iter())],
+        [4, 3, 1],
+    )?;
+    let answer = NEBTreeMap::new(rt.alloc(), 1, 10);
+    tell(&rt, if answer.is_ok() { "made" } else { "refused" }, call)
+}
+
+fn look_up_hashed(map: &mut NEMap<u32, u32>) -> usize {
+    if let Some(place) = map.get_mut(&2) {
+        *place = 21;
+    }
+    for (_key, value) in map.iter_mut() {
+        *value = value.wrapping_add(1);
+    }
+    for (_key, value) in map.nonempty_iter_mut() {
+        *value = value.wrapping_add(1);
+    }
+    let found = [map.get(&2).is_some(), map.get_key_value(&3).is_some()];
+    let has = [map.contains_key(&2), map == map, map.as_ref().len() == 1];
+    holding(&found).wrapping_add(holding(&has))
+}
+
+fn walk_hashed(map: &NEMap<u32, u32>) -> usize {
+    counted(map.iter())
+        .wrapping_add(counted(map.keys().into_iter()))
+        .wrapping_add(counted(map.values().into_iter()))
 }
 
 #[test]
@@ -37,74 +106,38 @@ fn hashed_map(rt: HostRuntime) -> Result<(), Fail> {
     let Ok(mut map) = NEMap::new(rt.alloc(), 2, 20) else {
         return tell(&rt, "not reached", call);
     };
-    look_up_hashed(&mut map)?;
-    walk_hashed(&map)?;
+    let found = look_up_hashed(&mut map);
+    let items = walk_hashed(&map);
     let inner = HashMap::from(map);
     let map = NEMap::try_from_map(inner).ok_or("no key")?;
-    walks(
-        "into_nonempty_iter",
-        map.into_nonempty_iter().into_iter().map(|p| p.0),
-        &[2],
+    counts(
+        call,
+        [found, items, counted(map.into_nonempty_iter().into_iter())],
+        [4, 3, 1],
     )?;
     let answer = NEMap::new(rt.alloc(), 1, 10);
     tell(&rt, if answer.is_ok() { "made" } else { "refused" }, call)
 }
 
-fn look_up_hashed_set(set: &NESet<u32>) -> Result<(), Fail> {
-    let found = (set.get(&2).copied(), set.contains(&3));
-    let lens = (set.len().get(), set.as_ref().len());
-    answers("look-ups", (found, lens), ((Some(2), false), (1, 1)))?;
-    let comparisons = (
-        set == set,
-        set.is_subset(set),
-        set.is_superset(set),
-        set.is_disjoint(set),
-    );
-    answers("comparisons", comparisons, (true, true, true, false))
-}
-
-fn walk_hashed_set(set: &NESet<u32>) -> Result<(), Fail> {
-    walks("iter", set.iter().copied(), &[2])?;
-    walks("difference", set.difference(set).copied(), &[])?;
-    walks("intersection", set.intersection(set).copied(), &[2])?;
-    walks("union", set.union(set).into_iter().copied(), &[2])
-}
-
-#[test]
-fn hashed_set(rt: HostRuntime) -> Result<(), Fail> {
-    let call = "NESet::reserve behind looks";
-    let Ok(set) = NESet::new(rt.alloc(), 2) else {
-        return tell(&rt, "not reached", call);
-    };
-    look_up_hashed_set(&set)?;
-    walk_hashed_set(&set)?;
-    let inner = HashSet::from(set);
-    let mut set = NESet::try_from_set(inner).ok_or("no item")?;
-    let answer = set.reserve(100);
-    look_up_hashed_set(&set)?;
-    tell(&rt, if answer.is_ok() { "made" } else { "refused" }, call)
-}
-
-fn look_up_index(map: &mut NEIndexMap<u32, u32>) -> Result<(), Fail> {
+fn look_up_index(map: &mut NEIndexMap<u32, u32>) -> usize {
     if let Some(place) = map.get_mut(&2) {
         *place = 21;
     }
-    let found = (map.get(&2).copied(), map.get_key_value(&3).is_some());
-    let has = (map.contains_key(&2), map.len().get(), map.as_ref().len());
-    answers("look-ups", (found, has), ((Some(21), false), (true, 1, 1)))?;
-    answers(
-        "places",
-        (map.get_index_of(&2), map[0], map.first(), map.last()),
-        (Some(0), 21, (&2, &21), (&2, &21)),
-    )?;
     map.swap_indices(0, 0);
-    answers("==", map == map, true)
+    let ends = [*map.first().0 == 2, *map.last().1 == 21, map[0] == 21];
+    let found = [map.get(&2).is_some(), map.get_key_value(&3).is_some()];
+    let has = [map.contains_key(&2), map == map, map.as_ref().len() == 1];
+    let is_first = usize::from(map.get_index_of(&2) == Some(0));
+    holding(&ends)
+        .wrapping_add(holding(&found))
+        .wrapping_add(holding(&has))
+        .wrapping_add(is_first)
 }
 
-fn walk_index(map: &NEIndexMap<u32, u32>) -> Result<(), Fail> {
-    walks("iter", map.iter().map(|(_, value)| *value), &[21])?;
-    walks("keys", map.keys().into_iter().copied(), &[2])?;
-    walks("values", map.values().into_iter().copied(), &[21])
+fn walk_index(map: &NEIndexMap<u32, u32>) -> usize {
+    counted(map.iter())
+        .wrapping_add(counted(map.keys().into_iter()))
+        .wrapping_add(counted(map.values().into_iter()))
 }
 
 #[test]
@@ -113,37 +146,79 @@ fn index_map(rt: HostRuntime) -> Result<(), Fail> {
     let Ok(mut map) = NEIndexMap::new(rt.alloc(), 2, 20) else {
         return tell(&rt, "not reached", call);
     };
-    look_up_index(&mut map)?;
-    walk_index(&map)?;
+    let found = look_up_index(&mut map);
+    let items = walk_index(&map);
     let inner = IndexMap::from(map);
     let map = NEIndexMap::try_from_map(inner).ok_or("no key")?;
-    walks(
-        "into_nonempty_iter",
-        map.into_nonempty_iter().into_iter().map(|p| p.0),
-        &[2],
+    counts(
+        call,
+        [found, items, counted(map.into_nonempty_iter().into_iter())],
+        [8, 3, 1],
     )?;
     let answer = NEIndexMap::new(rt.alloc(), 1, 10);
     tell(&rt, if answer.is_ok() { "made" } else { "refused" }, call)
 }
 
-fn look_up_index_set(set: &NEIndexSet<u32>) -> Result<(), Fail> {
-    let found = (set.get(&2).copied(), set.contains(&3));
-    let lens = (set.len().get(), set.as_ref().len());
-    answers("look-ups", (found, lens), ((Some(2), false), (1, 1)))?;
-    let comparisons = (
+fn look_up_hashed_set(set: &NESet<u32>) -> usize {
+    let found = [
+        set.get(&2).is_some(),
+        set.contains(&3),
+        set.as_ref().len() == 1,
+    ];
+    let compared = [
         set == set,
         set.is_subset(set),
         set.is_superset(set),
         set.is_disjoint(set),
-    );
-    answers("comparisons", comparisons, (true, true, true, false))
+    ];
+    holding(&found).wrapping_add(holding(&compared))
 }
 
-fn walk_index_set(set: &NEIndexSet<u32>) -> Result<(), Fail> {
-    walks("iter", set.iter().copied(), &[2])?;
-    walks("difference", set.difference(set).copied(), &[])?;
-    walks("intersection", set.intersection(set).copied(), &[2])?;
-    walks("union", set.union(set).into_iter().copied(), &[2])
+fn walk_hashed_set(set: &NESet<u32>) -> usize {
+    counted(set.iter())
+        .wrapping_add(counted(set.difference(set)))
+        .wrapping_add(counted(set.intersection(set)))
+        .wrapping_add(counted(set.union(set).into_iter()))
+}
+
+#[test]
+fn hashed_set(rt: HostRuntime) -> Result<(), Fail> {
+    let call = "NESet::reserve behind looks";
+    let Ok(set) = NESet::new(rt.alloc(), 2) else {
+        return tell(&rt, "not reached", call);
+    };
+    let (found, items) = (look_up_hashed_set(&set), walk_hashed_set(&set));
+    let inner = HashSet::from(set);
+    let mut set = NESet::try_from_set(inner).ok_or("no item")?;
+    let answer = set.reserve(100);
+    counts(
+        call,
+        [found, items, counted(set.into_nonempty_iter().into_iter())],
+        [5, 3, 1],
+    )?;
+    tell(&rt, if answer.is_ok() { "made" } else { "refused" }, call)
+}
+
+fn look_up_index_set(set: &NEIndexSet<u32>) -> usize {
+    let found = [
+        set.get(&2).is_some(),
+        set.contains(&3),
+        set.as_ref().len() == 1,
+    ];
+    let compared = [
+        set == set,
+        set.is_subset(set),
+        set.is_superset(set),
+        set.is_disjoint(set),
+    ];
+    holding(&found).wrapping_add(holding(&compared))
+}
+
+fn walk_index_set(set: &NEIndexSet<u32>) -> usize {
+    counted(set.iter())
+        .wrapping_add(counted(set.difference(set)))
+        .wrapping_add(counted(set.intersection(set)))
+        .wrapping_add(counted(set.union(set).into_iter()))
 }
 
 #[test]
@@ -152,11 +227,54 @@ fn index_set(rt: HostRuntime) -> Result<(), Fail> {
     let Ok(set) = NEIndexSet::new(rt.alloc(), 2) else {
         return tell(&rt, "not reached", call);
     };
-    look_up_index_set(&set)?;
-    walk_index_set(&set)?;
+    let (found, items) = (look_up_index_set(&set), walk_index_set(&set));
     let inner = IndexSet::from(set);
     let mut set = NEIndexSet::try_from_set(inner).ok_or("no item")?;
     let answer = set.reserve(100);
-    look_up_index_set(&set)?;
+    counts(
+        call,
+        [found, items, counted(set.into_nonempty_iter().into_iter())],
+        [5, 3, 1],
+    )?;
+    tell(&rt, if answer.is_ok() { "made" } else { "refused" }, call)
+}
+
+fn look_up_tree_set(set: &NEBTreeSet<u32>) -> usize {
+    let found = [
+        set.get(&2).is_some(),
+        set.contains(&3),
+        set.as_ref().len() == 1,
+    ];
+    let compared = [
+        set == set,
+        set.is_subset(set),
+        set.is_superset(set),
+        set.is_disjoint(set),
+    ];
+    holding(&found).wrapping_add(holding(&compared))
+}
+
+fn walk_tree_set(set: &NEBTreeSet<u32>) -> usize {
+    counted(set.iter())
+        .wrapping_add(counted(set.difference(set)))
+        .wrapping_add(counted(set.intersection(set)))
+        .wrapping_add(counted(set.union(set).into_iter()))
+}
+
+#[test]
+fn tree_set(rt: HostRuntime) -> Result<(), Fail> {
+    let call = "NEBTreeSet::new behind looks";
+    let Ok(set) = NEBTreeSet::new(rt.alloc(), 2) else {
+        return tell(&rt, "not reached", call);
+    };
+    let (found, items) = (look_up_tree_set(&set), walk_tree_set(&set));
+    let inner = BTreeSet::from(set);
+    let set = NEBTreeSet::try_from_set(inner).ok_or("no item")?;
+    counts(
+        call,
+        [found, items, counted(set.into_nonempty_iter().into_iter())],
+        [5, 3, 1],
+    )?;
+    let answer = NEBTreeSet::new(rt.alloc(), 1);
     tell(&rt, if answer.is_ok() { "made" } else { "refused" }, call)
 }

@@ -1,0 +1,421 @@
+//! The six types, and the rows of calls that are tried on each.
+
+use super::{Change, Item, Items, Key, Make, Owner, Row, Table, every_call};
+use nonempty_collections::{
+    NEBTreeMap, NEBTreeSet, NEIndexMap, NEIndexSet, NEMap, NESet, Singleton, neis, nes,
+};
+use std::alloc::{AllocError, Global};
+use std::hash::BuildHasherDefault;
+use std::num::NonZeroUsize;
+use std::test::Fail;
+
+// A node of a tree holds fifteen keys. For one more it becomes two nodes, below a third.
+impl Table for NEBTreeMap<Key, Owner> {
+    fn room() -> u32 {
+        15
+    }
+
+    fn takes_none_again() -> bool {
+        true
+    }
+
+    fn make(alloc: Global, call: Make, item: Item) -> Result<Self, AllocError> {
+        let (key, value) = item;
+        match call {
+            Make::New => NEBTreeMap::new(alloc, key, value),
+            _ => Singleton::singleton(alloc, (key, value)),
+        }
+    }
+
+    fn change(&mut self, call: Change, item: Item) -> Result<(), AllocError> {
+        let (key, value) = item;
+        match call {
+            Change::Insert => self.insert(key, value).map(|_| ()),
+            _ => self.extend_one((key, value)),
+        }
+    }
+
+    fn extend_by(&mut self, items: Items<'_>) -> Result<(), AllocError> {
+        self.extend(items)
+    }
+
+    fn count(&self) -> usize {
+        let mut next = 1u32..;
+        let rises = self.iter().all(|(key, _)| next.next() == Some(key.0));
+        if rises { self.len().get() } else { 0 }
+    }
+}
+
+impl Table for NEBTreeSet<Item> {
+    fn room() -> u32 {
+        15
+    }
+
+    fn takes_none_again() -> bool {
+        true
+    }
+
+    fn make(alloc: Global, call: Make, item: Item) -> Result<Self, AllocError> {
+        match call {
+            Make::New => NEBTreeSet::new(alloc, item),
+            _ => Singleton::singleton(alloc, item),
+        }
+    }
+
+    fn change(&mut self, call: Change, item: Item) -> Result<(), AllocError> {
+        match call {
+            Change::Insert => self.insert(item).map(|_| ()),
+            Change::Replace => self.replace(item).map(|_| ()),
+            _ => self.extend_one(item),
+        }
+    }
+
+    fn extend_by(&mut self, items: Items<'_>) -> Result<(), AllocError> {
+        self.extend(items)
+    }
+
+    fn count(&self) -> usize {
+        let mut next = 1u32..;
+        let rises = self.iter().all(|item| next.next() == Some(item.0.0));
+        if rises { self.len().get() } else { 0 }
+    }
+}
+
+// The order of a hashed table is unspecified: the numbers, no two of which are equal, are those
+// from 1 on if none is greater than the number of them.
+impl Table for NEMap<Key, Owner> {
+    fn room() -> u32 {
+        9
+    }
+
+    fn takes_none_again() -> bool {
+        false
+    }
+
+    fn make(alloc: Global, call: Make, item: Item) -> Result<Self, AllocError> {
+        let hasher = BuildHasherDefault::new();
+        let (one, forty) = (NonZeroUsize::MIN, NonZeroUsize::new(40).unwrap());
+        let (key, value) = item;
+        match call {
+            Make::New => NEMap::new(alloc, key, value),
+            Make::WithCapacity => NEMap::with_capacity(alloc, one, key, value),
+            Make::WithHasher => NEMap::with_hasher(alloc, hasher, key, value),
+            Make::WithCapacityAndHasher => {
+                NEMap::with_capacity_and_hasher(alloc, forty, hasher, key, value)
+            }
+            Make::Singleton | Make::Written => Singleton::singleton(alloc, (key, value)),
+        }
+    }
+
+    fn change(&mut self, call: Change, item: Item) -> Result<(), AllocError> {
+        let (key, value) = item;
+        match call {
+            Change::Insert | Change::Replace => self.insert(key, value).map(|_| ()),
+            Change::ExtendOne => self.extend_one((key, value)),
+            _ => self.shrink_to_fit(),
+        }
+    }
+
+    fn extend_by(&mut self, items: Items<'_>) -> Result<(), AllocError> {
+        self.extend(items)
+    }
+
+    fn count(&self) -> usize {
+        let len = self.len().get();
+        let all = self
+            .iter()
+            .all(|(key, _)| 0 < key.0 && key.0 as usize <= len);
+        if all { len } else { 0 }
+    }
+}
+
+impl Table for NESet<Item> {
+    fn room() -> u32 {
+        9
+    }
+
+    fn takes_none_again() -> bool {
+        false
+    }
+
+    fn make(alloc: Global, call: Make, item: Item) -> Result<Self, AllocError> {
+        let hasher = BuildHasherDefault::new();
+        let (one, forty) = (NonZeroUsize::MIN, NonZeroUsize::new(40).unwrap());
+        match call {
+            Make::New => NESet::new(alloc, item),
+            Make::WithCapacity => NESet::with_capacity(alloc, one, item),
+            Make::WithHasher => NESet::with_hasher(alloc, hasher, item),
+            Make::WithCapacityAndHasher => {
+                NESet::with_capacity_and_hasher(alloc, forty, hasher, item)
+            }
+            Make::Singleton => Singleton::singleton(alloc, item),
+            Make::Written => nes![alloc; item],
+        }
+    }
+
+    fn change(&mut self, call: Change, item: Item) -> Result<(), AllocError> {
+        match call {
+            Change::Insert => self.insert(item).map(|_| ()),
+            Change::Replace => self.replace(item).map(|_| ()),
+            Change::ExtendOne => self.extend_one(item),
+            _ => self.shrink_to_fit(),
+        }
+    }
+
+    fn extend_by(&mut self, items: Items<'_>) -> Result<(), AllocError> {
+        self.extend(items)
+    }
+
+    fn count(&self) -> usize {
+        let len = self.len().get();
+        let all = self
+            .iter()
+            .all(|item| 0 < item.0.0 && item.0.0 as usize <= len);
+        if all { len } else { 0 }
+    }
+}
+
+impl Table for NEIndexMap<Key, Owner> {
+    fn room() -> u32 {
+        9
+    }
+
+    fn takes_none_again() -> bool {
+        false
+    }
+
+    fn make(alloc: Global, call: Make, item: Item) -> Result<Self, AllocError> {
+        let hasher = BuildHasherDefault::new();
+        let (one, forty) = (NonZeroUsize::MIN, NonZeroUsize::new(40).unwrap());
+        let (key, value) = item;
+        match call {
+            Make::New => NEIndexMap::new(alloc, key, value),
+            Make::WithCapacity => NEIndexMap::with_capacity(alloc, one, key, value),
+            Make::WithHasher => NEIndexMap::with_hasher(alloc, hasher, key, value),
+            Make::WithCapacityAndHasher => {
+                NEIndexMap::with_capacity_and_hasher(alloc, forty, hasher, key, value)
+            }
+            Make::Singleton | Make::Written => Singleton::singleton(alloc, (key, value)),
+        }
+    }
+
+    fn change(&mut self, call: Change, item: Item) -> Result<(), AllocError> {
+        let (key, value) = item;
+        match call {
+            Change::Insert | Change::Replace => self.insert(key, value).map(|_| ()),
+            Change::ExtendOne => self.extend_one((key, value)),
+            _ => self.shrink_to_fit(),
+        }
+    }
+
+    fn extend_by(&mut self, items: Items<'_>) -> Result<(), AllocError> {
+        self.extend(items)
+    }
+
+    fn count(&self) -> usize {
+        let mut next = 1u32..;
+        let rises = self.iter().all(|(key, _)| next.next() == Some(key.0));
+        if rises { self.len().get() } else { 0 }
+    }
+}
+
+impl Table for NEIndexSet<Item> {
+    fn room() -> u32 {
+        9
+    }
+
+    fn takes_none_again() -> bool {
+        false
+    }
+
+    fn make(alloc: Global, call: Make, item: Item) -> Result<Self, AllocError> {
+        let hasher = BuildHasherDefault::new();
+        let (one, forty) = (NonZeroUsize::MIN, NonZeroUsize::new(40).unwrap());
+        match call {
+            Make::New => NEIndexSet::new(alloc, item),
+            Make::WithCapacity => NEIndexSet::with_capacity(alloc, one, item),
+            Make::WithHasher => NEIndexSet::with_hasher(alloc, hasher, item),
+            Make::WithCapacityAndHasher => {
+                NEIndexSet::with_capacity_and_hasher(alloc, forty, hasher, item)
+            }
+            Make::Singleton => Singleton::singleton(alloc, item),
+            Make::Written => neis![alloc; item],
+        }
+    }
+
+    fn change(&mut self, call: Change, item: Item) -> Result<(), AllocError> {
+        match call {
+            Change::Insert => self.insert(item).map(|_| ()),
+            Change::Replace => self.replace(item).map(|_| ()),
+            Change::ExtendOne => self.extend_one(item),
+            _ => self.shrink_to_fit(),
+        }
+    }
+
+    fn extend_by(&mut self, items: Items<'_>) -> Result<(), AllocError> {
+        self.extend(items)
+    }
+
+    fn count(&self) -> usize {
+        let mut next = 1u32..;
+        let rises = self.iter().all(|item| next.next() == Some(item.0.0));
+        if rises { self.len().get() } else { 0 }
+    }
+}
+
+#[test]
+fn tree_map(rt: HostRuntime) -> Result<(), Fail> {
+    let rows: [Row; 4] = [
+        (
+            (Make::New, "NEBTreeMap::new"),
+            (Change::Insert, "NEBTreeMap::insert"),
+        ),
+        (
+            (Make::Singleton, "Singleton::singleton of a tree map"),
+            (Change::ExtendOne, "Singleton::extend_one of a tree map"),
+        ),
+        ((Make::New, ""), (Change::Extend, "NEBTreeMap::extend")),
+        ((Make::New, ""), (Change::Clone, "NEBTreeMap::clone")),
+    ];
+    every_call::<NEBTreeMap<Key, Owner>>(&rt, rt.alloc(), &rows, "collect into NEBTreeMap")
+}
+
+#[test]
+fn tree_set(rt: HostRuntime) -> Result<(), Fail> {
+    let rows: [Row; 5] = [
+        (
+            (Make::New, "NEBTreeSet::new"),
+            (Change::Insert, "NEBTreeSet::insert"),
+        ),
+        (
+            (Make::Singleton, "Singleton::singleton of a tree set"),
+            (Change::ExtendOne, "Singleton::extend_one of a tree set"),
+        ),
+        ((Make::New, ""), (Change::Extend, "NEBTreeSet::extend")),
+        ((Make::New, ""), (Change::Clone, "NEBTreeSet::clone")),
+        ((Make::New, ""), (Change::Replace, "NEBTreeSet::replace")),
+    ];
+    every_call::<NEBTreeSet<Item>>(&rt, rt.alloc(), &rows, "collect into NEBTreeSet")
+}
+
+#[test]
+fn hashed_map(rt: HostRuntime) -> Result<(), Fail> {
+    let rows: [Row; 5] = [
+        ((Make::New, "NEMap::new"), (Change::Insert, "NEMap::insert")),
+        (
+            (Make::Singleton, "Singleton::singleton of a hashed map"),
+            (Change::ExtendOne, "Singleton::extend_one of a hashed map"),
+        ),
+        (
+            (
+                Make::WithCapacityAndHasher,
+                "NEMap::with_capacity_and_hasher",
+            ),
+            (Change::ShrinkToFit, "NEMap::shrink_to_fit"),
+        ),
+        (
+            (Make::WithCapacity, "NEMap::with_capacity"),
+            (Change::Extend, "NEMap::extend"),
+        ),
+        (
+            (Make::WithHasher, "NEMap::with_hasher"),
+            (Change::Clone, "NEMap::clone"),
+        ),
+    ];
+    every_call::<NEMap<Key, Owner>>(&rt, rt.alloc(), &rows, "collect into NEMap")
+}
+
+#[test]
+fn hashed_set(rt: HostRuntime) -> Result<(), Fail> {
+    let rows: [Row; 6] = [
+        ((Make::New, "NESet::new"), (Change::Insert, "NESet::insert")),
+        (
+            (Make::Singleton, "Singleton::singleton of a hashed set"),
+            (Change::ExtendOne, "Singleton::extend_one of a hashed set"),
+        ),
+        (
+            (
+                Make::WithCapacityAndHasher,
+                "NESet::with_capacity_and_hasher",
+            ),
+            (Change::ShrinkToFit, "NESet::shrink_to_fit"),
+        ),
+        (
+            (Make::WithCapacity, "NESet::with_capacity"),
+            (Change::Extend, "NESet::extend"),
+        ),
+        (
+            (Make::WithHasher, "NESet::with_hasher"),
+            (Change::Clone, "NESet::clone"),
+        ),
+        (
+            (Make::Written, "nes of one item"),
+            (Change::Replace, "NESet::replace"),
+        ),
+    ];
+    every_call::<NESet<Item>>(&rt, rt.alloc(), &rows, "collect into NESet")
+}
+
+#[test]
+fn index_map(rt: HostRuntime) -> Result<(), Fail> {
+    let rows: [Row; 5] = [
+        (
+            (Make::New, "NEIndexMap::new"),
+            (Change::Insert, "NEIndexMap::insert"),
+        ),
+        (
+            (Make::Singleton, "Singleton::singleton of an index map"),
+            (Change::ExtendOne, "Singleton::extend_one of an index map"),
+        ),
+        (
+            (
+                Make::WithCapacityAndHasher,
+                "NEIndexMap::with_capacity_and_hasher",
+            ),
+            (Change::ShrinkToFit, "NEIndexMap::shrink_to_fit"),
+        ),
+        (
+            (Make::WithCapacity, "NEIndexMap::with_capacity"),
+            (Change::Extend, "NEIndexMap::extend"),
+        ),
+        (
+            (Make::WithHasher, "NEIndexMap::with_hasher"),
+            (Change::Clone, "NEIndexMap::clone"),
+        ),
+    ];
+    every_call::<NEIndexMap<Key, Owner>>(&rt, rt.alloc(), &rows, "collect into NEIndexMap")
+}
+
+#[test]
+fn index_set(rt: HostRuntime) -> Result<(), Fail> {
+    let rows: [Row; 6] = [
+        (
+            (Make::New, "NEIndexSet::new"),
+            (Change::Insert, "NEIndexSet::insert"),
+        ),
+        (
+            (Make::Singleton, "Singleton::singleton of an index set"),
+            (Change::ExtendOne, "Singleton::extend_one of an index set"),
+        ),
+        (
+            (
+                Make::WithCapacityAndHasher,
+                "NEIndexSet::with_capacity_and_hasher",
+            ),
+            (Change::ShrinkToFit, "NEIndexSet::shrink_to_fit"),
+        ),
+        (
+            (Make::WithCapacity, "NEIndexSet::with_capacity"),
+            (Change::Extend, "NEIndexSet::extend"),
+        ),
+        (
+            (Make::WithHasher, "NEIndexSet::with_hasher"),
+            (Change::Clone, "NEIndexSet::clone"),
+        ),
+        (
+            (Make::Written, "neis of one item"),
+            (Change::Replace, "NEIndexSet::replace"),
+        ),
+    ];
+    every_call::<NEIndexSet<Item>>(&rt, rt.alloc(), &rows, "collect into NEIndexSet")
+}
