@@ -1,7 +1,7 @@
 -- What the queue of a scheduler is after a call: the jobs in the order of their turns.
 use Rattle.std.specs.Prelude.{List, [], ◌∷◌, ◌++◌, fold}
-use Rattle.user_programs.specs.declared.schedule.Call.{Call}
-use Rattle.user_programs.specs.declared.schedule.Call.TheVariants.{Add, Rotate, Finish}
+use Rattle.user_examples.specs.declared.queue.Call.{Call}
+use Rattle.user_examples.specs.declared.queue.Call.TheVariants.{Add, Rotate, Finish}
 
 -- The jobs with the first one moved after all others.
 abbrev pub rotated : {J : Type 0} → List J → List J

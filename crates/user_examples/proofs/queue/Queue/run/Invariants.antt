@@ -1,6 +1,6 @@
 use Rattle.std.proofs.Common.{◌≡◌}
-use Rattle.user_programs.specs.Turns.{after_all}
-use Rattle.user_programs.proofs.schedule.Queue.run.Given as goal
+use Rattle.user_examples.specs.Turns.{after_all}
+use Rattle.user_examples.proofs.queue.Queue.run.Given as goal
 
 -- the queue is what the calls so far made of it
 abbrev pub invariant-loop-call : goal.invariant-loop-call

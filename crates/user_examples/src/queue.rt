@@ -22,7 +22,7 @@ ghost use Rattle.std.specs.Prelude.{
   slice_get,
 };
 ghost use Rattle.std.specs.List.{All, Contains, scan};
-ghost use Rattle.user_programs.specs.Turns.{rotated, finished, after, after_all};
+ghost use Rattle.user_examples.specs.Turns.{rotated, finished, after, after_all};
 
 use nonempty_collections::{NEVec, NonEmptyIterator};
 use std::alloc::{AllocError, Global};
