@@ -1,8 +1,8 @@
 //! Reads rows `KEY VALUE`, one a line, and prints a line for each key, in ascending order: the key,
 //! how many rows it has, and the least, the greatest and the total of their values.
 //!
-//! A key and a value are numbers below 2^32. A row that is none is named by its line, and then no
-//! line is printed.
+//! A key and a value are numbers below 2^32. If a line is no row, nothing is printed but an error
+//! that names the first such line.
 #![tactic(auto)]
 
 mod report;

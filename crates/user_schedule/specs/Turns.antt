@@ -5,8 +5,8 @@ use Rattle.std.specs.Map.{set_value}
 use Rattle.nonempty_collections.specs.Consumers.{IsFirstLeast}
 use Rattle.user_schedule.specs.declared.schedule.Job.{Job}
 
--- The job of this name comes next: no job is due earlier, and each job before it in the list is due
--- later.
+-- This job, with its name, comes next: no job is due earlier, and each job before it in the list is
+-- due later.
 abbrev pub ComesNext : List (ℕ × Job) → ℕ × Job → Type 0
 ComesNext jobs next = IsFirstLeast (λ p q. ltb p.1.due q.1.due) jobs next
 
