@@ -10,7 +10,7 @@ use Rattle.user_queries.specs.declared.description.Fault.TheVariants.{SecondTabl
 use Rattle.user_queries.specs.declared.description.Line.{Line}
 use Rattle.user_queries.specs.declared.description.Line.TheVariants.{Table, Column, Where}
 
--- what a line of each kind names, if it is of that kind
+-- What a line of each kind names, if it is of that kind.
 abbrev pub table_of : Line → Option (String Global)
 table_of (Table name) = Some name
 table_of (Column name) = None
@@ -26,7 +26,7 @@ condition_of (Table name) = None
 condition_of (Column name) = None
 condition_of (Where condition) = Some condition
 
--- the conditions of a query, of which there may be none
+-- The conditions of a query, of which there may be none.
 abbrev pub all_of : Option (List (String Global)) → List (String Global)
 all_of None = []
 all_of (Some conditions) = conditions
@@ -46,7 +46,7 @@ pub record IsDescribedBy (lines : List Line) (q : Query) : Type 0 where
   pub columns : filter_map column_of lines ≡ q.columns
   pub conditions : filter_map condition_of lines ≡ all_of q.conditions
 
--- what each fault says of the lines
+-- What each fault says of the lines.
 abbrev pub IsWrong : List Line → Fault → Type 0
 IsWrong lines NoTable = (name : String Global) → BeginsWithTable lines name → ⊥
 IsWrong lines NoColumn = (name : String Global) → GoesOnWithColumn lines name → ⊥

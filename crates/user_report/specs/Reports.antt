@@ -8,11 +8,11 @@ use Rattle.std.specs.Option.{option_map}
 use Rattle.user_report.specs.declared.report.Row.{Row}
 use Rattle.user_report.specs.declared.report.Summary.{Summary}
 
--- the values of rows, in order
+-- The values of rows, in order.
 abbrev pub values : List Row → List ℕ
 values rows = map (λ r. r.value) rows
 
--- the rows with the key k, in order
+-- The rows with the key k, in order.
 abbrev pub rows_of : ℕ → List Row → List Row
 rows_of k rows = filter (λ r. nat_eq r.key k) rows
 
@@ -50,6 +50,6 @@ pub record IsReport (rows : List Row) (lines : List Summary) : Type 0 where
   pub all_keys : All (λ r. Contains (map (λ s. s.key) lines) r.key) rows
   pub each : All (λ s. IsSummary (rows_of s.key rows) s) lines
 
--- what is printed of a line: its numbers in decimal, with a space between each two
+-- What is printed of a line: its numbers in decimal, with a space between each two.
 abbrev pub line_text : Summary → List ℕ
 line_text s = join_by decimal (codes " ") (s.key ∷ s.count ∷ s.least ∷ s.greatest ∷ s.total ∷ [])

@@ -10,11 +10,11 @@ use Rattle.user_schedule.specs.declared.schedule.Job.{Job}
 abbrev pub ComesNext : List (ℕ × Job) → ℕ × Job → Type 0
 ComesNext jobs next = IsFirstLeast (λ p q. ltb p.1.due q.1.due) jobs next
 
--- of two, the one that is due earlier, and the first if both are due at once
+-- Of two, the one that is due earlier, and the first if both are due at once.
 abbrev pub earlier : ℕ × Job → ℕ × Job → ℕ × Job
 earlier p q = if ltb q.1.due p.1.due then q else p
 
--- when a job is due that was due now
+-- When a job is due that was due now.
 abbrev pub due_again : Job → ℕ
 due_again job = job.due + job.period
 
