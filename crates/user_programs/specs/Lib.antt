@@ -1,4 +1,0 @@
-pub mod Fields
-pub mod Queries
-pub mod Reports
-pub mod Turns

@@ -1,0 +1,22 @@
+//! Reads the description of a query and prints its text. The first line is `table NAME`, the second
+//! `column NAME`, and each further line `column NAME` or `where CONDITION`.
+//!
+//! A description that makes no query is refused, and the error says why.
+#![tactic(auto)]
+
+mod builder;
+mod description;
+#[cfg(test)]
+mod tests;
+
+use anyhow::Result;
+use std::io;
+
+fn main(rt: HostRuntime) -> Result<()> {
+    let alloc = rt.alloc();
+    let text = io::read_to_string(alloc, rt.reader())?;
+    let lines = description::read(alloc, text.as_str())?;
+    let query = description::query(alloc, lines)?;
+    rt.println(query.to_text(alloc)?)?;
+    Ok(())
+}

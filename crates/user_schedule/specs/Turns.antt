@@ -1,0 +1,25 @@
+-- Which job comes next, and what is left after its turn. A schedule is seen as the list of its jobs
+-- with their names, in the order in which they were added.
+use Rattle.std.specs.Prelude.{ℕ, ◌+◌, ltb, List, nat_eq, if◌then◌else◌}
+use Rattle.std.specs.Map.{set_value}
+use Rattle.nonempty_collections.specs.Consumers.{IsFirstLeast}
+use Rattle.user_schedule.specs.declared.schedule.Job.{Job}
+
+-- This job, with its name, comes next: no job is due earlier, and each job before it in the list is
+-- due later.
+abbrev pub ComesNext : List (ℕ × Job) → ℕ × Job → Type 0
+ComesNext jobs next = IsFirstLeast (λ p q. ltb p.1.due q.1.due) jobs next
+
+-- Of two, the one that is due earlier, and the first if both are due at once.
+abbrev pub earlier : ℕ × Job → ℕ × Job → ℕ × Job
+earlier p q = if ltb q.1.due p.1.due then q else p
+
+-- When a job is due that was due now.
+abbrev pub due_again : Job → ℕ
+due_again job = job.due + job.period
+
+-- The jobs after a turn of the one of this name: it is due a period later. All others, the names
+-- and the order are as before.
+abbrev pub after_turn : List (ℕ × Job) → ℕ × Job → List (ℕ × Job)
+after_turn jobs next = set_value (nat_eq next.0) jobs
+    (record { period = next.1.period; due = due_again next.1 })

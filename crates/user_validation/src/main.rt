@@ -1,0 +1,30 @@
+//! Reads a form, one field a line, in which each field has to be a number below 2^32. It prints the
+//! numbers, or each fault with the place of its field, counted from 1.
+#![tactic(auto)]
+
+mod validation;
+
+use anyhow::{Context, Result};
+use nonempty_collections::NEVec;
+use std::io;
+use validation::validate;
+
+fn main(rt: HostRuntime) -> Result<()> {
+    let alloc = rt.alloc();
+    let text = io::read_to_string(alloc, rt.reader())?;
+    let fields: Vec<&str> = text.lines().collect(alloc)?;
+    let fields = NEVec::try_from_vec(fields).context("there is no field")?;
+    match validate(alloc, &fields)? {
+        Ok(numbers) => {
+            for number in numbers.iter() {
+                println!(rt; "{number}")?;
+            }
+        }
+        Err(faults) => {
+            for fault in faults.iter() {
+                println!(rt; "{fault}")?;
+            }
+        }
+    }
+    Ok(())
+}
