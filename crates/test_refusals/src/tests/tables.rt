@@ -28,14 +28,14 @@ pub(super) fn item(alloc: Global, token: &Rc<u32>, number: u32) -> Result<Item, 
     Ok((key, one_more(alloc, token)?))
 }
 
-// Items with numbers from `next` on, `left` of them. The hint is 0, so no room is requested
-// beforehand.
+// Items with numbers from `next` on, `left` of them. The hint is 0 at first.
 #[derive(Drop)]
 pub(super) struct Items<'a> {
     alloc: Global,
     token: &'a Rc<u32>,
     next: u32,
     left: u32,
+    hint: usize,
 }
 
 impl<'a> Items<'a> {
@@ -45,6 +45,7 @@ impl<'a> Items<'a> {
             token,
             next,
             left,
+            hint: 0,
         }
     }
 }
@@ -62,6 +63,10 @@ impl<'a> Iterator for Items<'a> {
         let number = self.next;
         self.next = number.wrapping_add(1);
         item(self.alloc, self.token, number).ok()
+    }
+
+    fn size_hint(&self) -> (usize, Option<usize>) {
+        (self.hint, None)
     }
 }
 
@@ -96,6 +101,9 @@ type Row = ((Make, &'static str), (Change, &'static str));
 trait Table: Singleton<Item = Item> + FromNonEmptyIterator<Item> + Clone + Drop {
     // How many items there is room for, in a table that is made of one.
     fn room() -> u32;
+
+    // A hint for which collecting requests no room: 0, or more than any memory holds.
+    fn hint() -> usize;
 
     // Whether a call with an item that is there already does without memory.
     fn takes_none_again() -> bool;
@@ -233,7 +241,8 @@ fn collected<C: Table>(rt: &impl Print, alloc: Global, call: &str) -> Result<(),
     let Ok(token) = token(alloc) else {
         return tell(rt, "not reached", call);
     };
-    let rest = Items::new(alloc, &token, 2, C::room());
+    let mut rest = Items::new(alloc, &token, 2, C::room());
+    rest.hint = C::hint();
     let answer: Result<C, AllocError> = once(item(alloc, &token, 1)?).chain(rest).collect(alloc);
     let Ok(table) = answer else {
         owned(call, &token, 0)?;

@@ -15,6 +15,10 @@ impl Table for NEBTreeMap<Key, Owner> {
         15
     }
 
+    fn hint() -> usize {
+        0
+    }
+
     fn takes_none_again() -> bool {
         true
     }
@@ -49,6 +53,10 @@ impl Table for NEBTreeMap<Key, Owner> {
 impl Table for NEBTreeSet<Item> {
     fn room() -> u32 {
         15
+    }
+
+    fn hint() -> usize {
+        0
     }
 
     fn takes_none_again() -> bool {
@@ -86,6 +94,10 @@ impl Table for NEBTreeSet<Item> {
 impl Table for NEMap<Key, Owner> {
     fn room() -> u32 {
         9
+    }
+
+    fn hint() -> usize {
+        usize::MAX
     }
 
     fn takes_none_again() -> bool {
@@ -134,6 +146,10 @@ impl Table for NESet<Item> {
         9
     }
 
+    fn hint() -> usize {
+        usize::MAX
+    }
+
     fn takes_none_again() -> bool {
         false
     }
@@ -180,6 +196,10 @@ impl Table for NEIndexMap<Key, Owner> {
         9
     }
 
+    fn hint() -> usize {
+        usize::MAX
+    }
+
     fn takes_none_again() -> bool {
         false
     }
@@ -222,6 +242,10 @@ impl Table for NEIndexMap<Key, Owner> {
 impl Table for NEIndexSet<Item> {
     fn room() -> u32 {
         9
+    }
+
+    fn hint() -> usize {
+        usize::MAX
     }
 
     fn takes_none_again() -> bool {
