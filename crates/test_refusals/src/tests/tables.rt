@@ -8,7 +8,7 @@ mod kinds;
 mod looks;
 mod written;
 
-ghost use Rattle.std.specs.Prelude.{◌+◌, ◌^◌};
+ghost use Rattle.std.specs.Prelude.{◌+◌};
 ghost use Rattle.std.specs.Iterator.{at_most};
 
 use super::owners::{Key, Owner, one_more, owned, token};
@@ -53,7 +53,7 @@ impl<'a> Items<'a> {
 impl<'a> Iterator for Items<'a> {
     type Item = Item;
 
-    ghost remaining = { λ s. at_most (2 ^ 64 + s.left) };
+    ghost remaining = { λ s. at_most (s.hint + s.left) };
 
     fn next(&mut self) -> Option<Item> {
         if self.left == 0 {
