@@ -8,6 +8,7 @@ mod calls;
 mod changes;
 mod clones;
 mod collected;
+mod consumers;
 mod drops;
 mod makes;
 mod owners;

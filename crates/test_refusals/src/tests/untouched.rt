@@ -1,8 +1,11 @@
 //! The calls that do not allocate: whichever request is refused, they return the same as ever.
 
-use super::{pair, same, tell};
+use super::{holds, pair, same, tell};
 use nonempty_collections::{NESlice, NEVec};
+use rand::SeedableRng;
+use rand::rngs::SmallRng;
 use std::alloc::{AllocError, Global};
+use std::cmp::Ordering;
 use std::convert::AsSlice;
 use std::num::NonZeroUsize;
 use std::test::Fail;
@@ -66,5 +69,26 @@ fn looks(rt: HostRuntime) -> Result<(), Fail> {
         Vec::from(items).as_slice(),
         &[1, 2, 3, 4, 5, 6, 6],
     )?;
+    tell(&rt, "made", call)
+}
+
+#[test]
+fn draws(rt: HostRuntime) -> Result<(), Fail> {
+    let call = "draws and comparisons";
+    let (Ok(mut items), Ok(others)) = (seven(rt.alloc()), seven(rt.alloc())) else {
+        return tell(&rt, "not reached", call);
+    };
+    holds(
+        "==",
+        items == others && items.cmp(&others) == Ordering::Equal,
+    )?;
+    let mut small = SmallRng::seed_from_u64(7);
+    items.shuffle(&mut small);
+    holds("choose", items.choose(&mut small).is_some())?;
+    items.sort_by_key(|it| *it)?;
+    holds("shuffle", items == others)?;
+    let items = NEVec::try_from_vec(Vec::from(items)).ok_or("no item")?;
+    let items = NEVec::try_from(Vec::from(items)).ok().ok_or("no item")?;
+    holds("conversions", items == others)?;
     tell(&rt, "made", call)
 }
