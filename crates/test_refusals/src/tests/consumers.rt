@@ -1,6 +1,6 @@
 //! The methods of sources and slices that do not allocate: each is called once, and what comes of
-//! all of them is made into a number. The first request of a test is that of the call at its end, as
-//! the gate requires.
+//! all of them is made into a number. The first request of a test is that of the call at its end,
+//! as the gate requires.
 ghost use Rattle.std.specs.Iterator.{IsFinite};
 
 use super::{gives, holds};
