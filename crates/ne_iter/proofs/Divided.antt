@@ -7,7 +7,7 @@ use Rattle.std.specs.Borrow.{Bor}
 use Rattle.std.specs.Fn.{Mut}
 use Rattle.std.specs.Iterator.{ActsAsAt, Drains}
 use Rattle.std.specs.List.{AllByRecursion}
-use Rattle.ne_vec.specs.Divisions.{joined, IsRun, IsDivision, by_first}
+use Rattle.ne_vec.specs.Divisions.{concat, IsRun, IsDivision, by_first}
 use Rattle.ne_iter.specs.Calls.{ShownEach}
 use Rattle.ne_iter.specs.Keys.{items_of, same_key, DividesByKey}
 use Rattle.ne_iter.specs.GroupingRuns.{IsOver, StandsAt, HasRead}
@@ -15,14 +15,14 @@ use Rattle.ne_iter.specs.GroupingLaws.{nil_mapped}
 use Rattle.ne_iter.specs.Grouping.{Grouping, Ahead, Unread, Held, Ended}
 
 joined_mapped : {A B : Type 0} (f : A → B) (rs : List (List A))
-    → joined (map (map f) rs) ≡ map f (joined rs)
+    → concat (map (map f) rs) ≡ map f (concat rs)
 joined_mapped f [] = refl
 joined_mapped f (r ∷ rs) = ap (λ l. map f r ++ l) (joined_mapped f rs)
-    ∙ sym (map-append f r (joined rs))
+    ∙ sym (map-append f r (concat rs))
 
 pub runs_join : {A K : Type 0} (eq : K → K → Bool) (ps : List (A × K)) (rs : List (List A))
-    → DividesByKey eq ps rs → joined rs ≡ items_of ps
-runs_join eq ps rs d = ap joined d.2 ∙ (joined_mapped (λ p. p.0) d.0 ∙ ap items_of d.1.whole)
+    → DividesByKey eq ps rs → concat rs ≡ items_of ps
+runs_join eq ps rs d = ap concat d.2 ∙ (joined_mapped (λ p. p.0) d.0 ∙ ap items_of d.1.whole)
 
 all_some : {A K : Type 0} (eq : K → K → Bool) (runs : List (List (A × K)))
     → AllByRecursion (IsRun (by_first (same_key eq))) runs

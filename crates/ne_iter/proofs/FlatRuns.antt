@@ -13,7 +13,7 @@ use Rattle.std.proofs.lemmas.Bool.{MatchBool-at_false}
 use Rattle.ne_iter.specs.Sources.{Reads}
 use Rattle.ne_iter.specs.Gives.{ReadsEach}
 use Rattle.ne_iter.proofs.JoinedRuns.{Yields-append}
-use Rattle.ne_vec.specs.Divisions.{joined}
+use Rattle.ne_vec.specs.Divisions.{concat}
 
 module _ {S U J A : Type 0} (steps : S → Option U → S → Type 0) (becomes : U → J → Type 0)
     (inner : J → Option A → J → Type 0) where
@@ -25,13 +25,13 @@ module _ {S U J A : Type 0} (steps : S → Option U → S → Type 0) (becomes :
   Apart whole s zs = (ys : List A) × (us : List U) × (yss : List (List A))
       × Front (whole || ltb 0 (length us)) (flatten_front s) ys
       × DrainsIf steps (whole ≡ true) (flatten_source s) us
-      × ReadsEach (Reads becomes inner) whole us yss × (zs ≡ ys ++ joined yss)
+      × ReadsEach (Reads becomes inner) whole us yss × (zs ≡ ys ++ concat yss)
 
   -- inner iterators that gave nothing
   empties : (whole : Bool) (cs us : List U) (yss : List (List A))
       → FoldsTo {P = Unit {0}} (λ _ x _. (j : J) × (k : J) × becomes x j × inner j None k) tt cs tt
       → ReadsEach (Reads becomes inner) whole us yss → (e : List (List A))
-      × ReadsEach (Reads becomes inner) whole (cs ++ us) e × (joined e ≡ joined yss)
+      × ReadsEach (Reads becomes inner) whole (cs ++ us) e × (concat e ≡ concat yss)
   empties whole [] us yss c m = (yss, m, refl)
   empties whole (x ∷ cs) us yss c m =
       let more = empties whole cs us yss c.2 m in (
@@ -187,8 +187,8 @@ module _ {S U J A : Type 0} (steps : S → Option U → S → Type 0) (becomes :
       → flatten_back s ≡ None → flatten_done s ≡ false
       → DrainsIf (flatten_steps steps becomes inner) (whole ≡ true) s zs
       → (us : List U) × (yss : List (List A)) × DrainsIf steps (whole ≡ true) (flatten_source s) us
-      × ReadsEach (Reads becomes inner) whole us yss × (zs ≡ joined yss)
+      × ReadsEach (Reads becomes inner) whole us yss × (zs ≡ concat yss)
   DrainsIf-flatten whole s zs none back fresh k =
       let m = apart zs whole s fresh (at_front zs _ s back k) in
       let nothing : m.0 ≡ [] = subst (λ o. Front (whole || ltb 0 (length m.1)) o m.0) none m.3 in
-      (m.1, m.2, m.4, m.5, m.6 ∙ ap (λ l. l ++ joined m.2) nothing)
+      (m.1, m.2, m.4, m.5, m.6 ∙ ap (λ l. l ++ concat m.2) nothing)

@@ -12,7 +12,7 @@ use Rattle.std.specs.Prelude.{ltb, cond, List, [], ◌∷◌, ◌++◌, length, 
 use Rattle.std.specs.Prelude.{refl, ⊤, Option, IsTrue}
 use Rattle.std.specs.List.{All, AllByRecursion, AllZip, cons_option, enumerate_from, filter_map}
 use Rattle.std.specs.List.{flat_map, prefix_len, scan, take_while}
-use Rattle.ne_vec.specs.Divisions.{joined}
+use Rattle.ne_vec.specs.Divisions.{concat}
 use Rattle.ne_vec.specs.Fronts.{AreFirst}
 use Rattle.ne_iter.specs.Gives.{GivesList, ReadsEach}
 use Rattle.ne_iter.specs.Peeks.{with_head}
@@ -140,7 +140,7 @@ zip_front whole a b xs ys us vs same ended f g = (
 joined_front : {X U A : Type 0} (reads : Bool → U → List A → Type 0) (inner : X → List A)
     (whole : Bool) (xs : List X) (us : List U) (yss : List (List A))
     → AllZip (λ x u. GivesList reads u (inner x)) xs us → ReadsEach reads whole us yss
-    → AreFirst whole (flat_map inner xs) (joined yss)
+    → AreFirst whole (flat_map inner xs) (concat yss)
 joined_front reads inner whole [] [] [] beside h = ([], refl, λ _. refl)
 joined_front reads inner whole [] [] (ys ∷ yss) beside h = absurd h
 joined_front reads inner whole [] (u ∷ us) yss beside h = absurd beside
@@ -162,7 +162,7 @@ joined_front reads inner whole (x ∷ z ∷ xs) (u ∷ v ∷ us) (ys ∷ yss) be
     let all = first.1 ∙ ap (λ l. ys ++ l) ended ∙ append-nil ys in (
       others.0,
       ap (λ l. l ++ flat_map inner (z ∷ xs)) all ∙ ap (λ l. ys ++ l) others.1
-          ∙ sym (append_assoc ys (joined yss) others.0),
+          ∙ sym (append_assoc ys (concat yss) others.0),
       others.2,
     )
 
@@ -170,13 +170,13 @@ joined_front reads inner whole (x ∷ z ∷ xs) (u ∷ v ∷ us) (ys ∷ yss) be
 pub joined_fronts : {X U A : Type 0} (reads : Bool → U → List A → Type 0) (inner : X → List A)
     (whole : Bool) (all xs : List X) (us : List U) (yss : List (List A)) → AreFirst whole all xs
     → AllZip (λ x u. GivesList reads u (inner x)) xs us → ReadsEach reads whole us yss
-    → AreFirst whole (flat_map inner all) (joined yss)
+    → AreFirst whole (flat_map inner all) (concat yss)
 joined_fronts reads inner whole all xs us yss f beside h =
     let g = joined_front reads inner whole xs us yss beside h in (
       g.0 ++ flat_map inner f.0,
       ap (flat_map inner) f.1 ∙ flat_map-append inner xs f.0
           ∙ ap (λ l. l ++ flat_map inner f.0) g.1
-          ∙ append_assoc (joined yss) g.0 (flat_map inner f.0),
+          ∙ append_assoc (concat yss) g.0 (flat_map inner f.0),
       λ w. let a = g.2 w in let b = f.2 w in
           ap (λ l. l ++ flat_map inner f.0) a ∙ ap (flat_map inner) b,
     )
@@ -204,7 +204,7 @@ module _ {A U B : Type 0} (reads : Bool → U → List B → Type 0) (source : A
   -- lists given by the sources of items, if only the first of the items came
   pub joined_items : (whole : Bool) (all xs : List A) (yss : List (List B)) → All GivesOwnList all
       → AreFirst whole all xs → ReadsEach reads whole (map source xs) yss
-      → AreFirst whole (flat_map lists all) (joined yss)
+      → AreFirst whole (flat_map lists all) (concat yss)
   joined_items whole all xs yss gives f h =
       joined_fronts reads lists whole all xs (map source xs) yss f
       (own_lists xs (all_front GivesOwnList xs f.0 (subst (All GivesOwnList) f.1 gives))) h
@@ -213,7 +213,7 @@ module _ {A U B : Type 0} (reads : Bool → U → List B → Type 0) (source : A
 pub joined_sources : {U B : Type 0} (reads : Bool → U → List B → Type 0) (lists : U → List B)
     (whole : Bool) (all us : List U) (yss : List (List B))
     → All (λ u. GivesList reads u (lists u)) all → AreFirst whole all us
-    → ReadsEach reads whole us yss → AreFirst whole (flat_map lists all) (joined yss)
+    → ReadsEach reads whole us yss → AreFirst whole (flat_map lists all) (concat yss)
 joined_sources reads lists whole all us yss gives f h =
     joined_items reads (λ u. u) lists whole all us yss gives f
     (subst (λ l. ReadsEach reads whole l yss) (sym (map-id us)) h)

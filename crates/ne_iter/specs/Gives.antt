@@ -9,7 +9,7 @@ use Rattle.std.specs.List.{AllZip, enumerate_from, list_all}
 use Rattle.std.specs.Fn.{Mut, CalledAt}
 use Rattle.std.specs.Borrow.{Bor, MutBor}
 use Rattle.std.proofs.Common.{◌⊎◌}
-use Rattle.ne_vec.specs.Divisions.{joined}
+use Rattle.ne_vec.specs.Divisions.{concat}
 use Rattle.ne_vec.specs.Fronts.{AreFirst}
 use Rattle.ne_iter.specs.Calls.{Calls, CallsWithState, ShownEach, AnswersEachAt}
 use Rattle.ne_iter.specs.Keys.{items_of, DividesByKey}
@@ -127,7 +127,7 @@ module _ {U A : Type 0} (reads : Bool → U → List A → Type 0) where
       pub read : reads whole source items
       pub called : Calls calls f items sources f_then
       pub read_each : ReadsEach inner whole sources lists
-      pub is : zs ≡ joined lists
+      pub is : zs ≡ concat lists
 
   -- zs are the lists of the source's items, one after the other. Each item is itself a source, and
   -- `inner` is what it reads.
@@ -137,7 +137,7 @@ module _ {U A : Type 0} (reads : Bool → U → List A → Type 0) where
     pub lists : List (List B)
     pub read : reads whole source sources
     pub read_each : ReadsEach inner whole sources lists
-    pub is : zs ≡ joined lists
+    pub is : zs ≡ concat lists
 
   -- ys is what f returns, called with the source's items in order and a `&mut` to a state. The
   -- state is init at the first call, and at each later one what the call before left.

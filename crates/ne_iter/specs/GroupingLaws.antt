@@ -4,7 +4,7 @@ use Rattle.std.specs.Prelude.{◌≡◌, Bool, List, [], ◌∷◌, map, Option,
 use Rattle.std.specs.Borrow.{Bor}
 use Rattle.std.specs.Fn.{Mut}
 use Rattle.std.specs.Iterator.{Yields}
-use Rattle.ne_vec.specs.Divisions.{joined}
+use Rattle.ne_vec.specs.Divisions.{concat}
 use Rattle.ne_iter.specs.Keys.{items_of}
 use Rattle.ne_iter.specs.GroupingRuns.{IsOver, StandsAt, HasRead, GivesRun}
 use Rattle.ne_iter.specs.Grouping.{Grouping, Unread, Ended}
@@ -35,7 +35,7 @@ module _ {S K A F : Type 0} (steps : S → Option A → S → Type 0) (asks : Mu
       let none : read.runs ≡ [] = nil_mapped items_of read.runs read.answered in
       let ended : StandsAt steps asks eq Ended s read.drawn h.source read.runs = subst
       (λ a. StandsAt steps asks eq a s read.drawn h.source read.runs) over read.stands in
-      let drawn : read.drawn ≡ [] = sym ended.1.whole ∙ ap joined none in
+      let drawn : read.drawn ≡ [] = sym ended.1.whole ∙ ap concat none in
       let begun : s ≡ ended.0.0 = subst (λ l. Yields steps s (items_of l) ended.0.0) drawn ended.0.1
       in
       (h.source, subst (λ q. steps q None h.source) (sym begun) ended.0.2)

@@ -15,7 +15,7 @@ use Rattle.std.proofs.lemmas.Option.{slice_get-map}
 use Rattle.std.proofs.lemmas.List.FromFn.{length-map-range_with_len}
 use Rattle.std.proofs.lemmas.List.{drop-drop, length-drop, length-take, length-append, append-nil}
 use Rattle.std.proofs.lemmas.List.{take-append-drop}
-use Rattle.ne_vec.specs.Divisions.{joined}
+use Rattle.ne_vec.specs.Divisions.{concat}
 use Rattle.ne_vec.specs.Chunks.{chunk, chunks}
 use Rattle.ne_vec.proofs.Lists.{nil_is_no_append, head_is, tail_is}
 
@@ -131,16 +131,16 @@ first_chunk n m xs part left p same q e l =
 -- ---- all of them
 
 joined_up_to : {X : Type 0} (m n : ℕ) (xs : List X) → 0 < n → length xs ≤ m
-    → joined (chunks n xs) ≡ xs
-joined_up_to m n [] p h = ap joined (chunks_none n [] p refl)
+    → concat (chunks n xs) ≡ xs
+joined_up_to m n [] p h = ap concat (chunks_none n [] p refl)
 joined_up_to zero n (x ∷ xs) p h = absurd (Prim.omega (arith, h))
 joined_up_to (suc m) n (x ∷ xs) p h =
-    ap joined (chunks_step n (x ∷ xs) p (Prim.omega arith))
+    ap concat (chunks_step n (x ∷ xs) p (Prim.omega arith))
     ∙ ap (λ ys. take n (x ∷ xs) ++ ys) (joined_up_to m n (drop n (x ∷ xs)) p
     (Prim.omega (arith, length-drop n (x ∷ xs), h, p)))
     ∙ take-append-drop n (x ∷ xs)
 
-pub chunks_joined : {X : Type 0} (n : ℕ) (xs : List X) → 0 < n → joined (chunks n xs) ≡ xs
+pub chunks_joined : {X : Type 0} (n : ℕ) (xs : List X) → 0 < n → concat (chunks n xs) ≡ xs
 chunks_joined n xs p = joined_up_to (length xs) n xs p (Prim.omega arith)
 
 abbrev Fits : {X : Type 0} → ℕ → List (List X) → List X → Type 0

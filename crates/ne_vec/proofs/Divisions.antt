@@ -2,7 +2,7 @@
 use Rattle.std.proofs.Common.{◌≡◌, ◌≢◌, Bool, true, false, cond, List, [], ◌∷◌, ◌++◌, refl, sym, ap}
 use Rattle.std.proofs.Common.{subst, ◌∙◌, ◌⊎◌, inl, inr, append_assoc, append-nil}
 use Rattle.std.specs.List.{AllByRecursion}
-use Rattle.ne_vec.specs.Divisions.{joined, Adjacent, IsRun, Breaks, IsDivision, runs_from}
+use Rattle.ne_vec.specs.Divisions.{concat, Adjacent, IsRun, Breaks, IsDivision, runs_from}
 use Rattle.ne_vec.proofs.Lists.{nil_is_no_append, head_is, tail_is}
 
 -- where the last item of a list is in a split of it
@@ -56,10 +56,10 @@ module _ {A : Type 0} (goes_on : List A → A → Bool) where
     ];
   }
 
-  joined_cut : (r xs : List A) → joined (runs_from goes_on r xs) ≡ r ++ xs
+  joined_cut : (r xs : List A) → concat (runs_from goes_on r xs) ≡ r ++ xs
   joined_cut r [] = refl
   joined_cut r (x ∷ xs) = elim (goes_on r x) as
-      (λ v. joined (cond v (runs_from goes_on (r ++ x ∷ []) xs) (r ∷ runs_from goes_on (x ∷ []) xs))
+      (λ v. concat (cond v (runs_from goes_on (r ++ x ∷ []) xs) (r ∷ runs_from goes_on (x ∷ []) xs))
       ≡ r ++ x ∷ xs) [
         | true ↦ joined_cut (r ++ x ∷ []) xs ∙ append_assoc r (x ∷ []) xs
         | false ↦ ap (λ l. r ++ l) (joined_cut (x ∷ []) xs)
@@ -110,7 +110,7 @@ module _ {A : Type 0} (goes_on : List A → A → Bool) where
 
   -- ---- and there is no other
 
-  cut_only : (xs r s t : List A) (rs : List (List A)) → t ≡ r ++ s → r ≢ [] → s ++ joined rs ≡ xs
+  cut_only : (xs r s t : List A) (rs : List (List A)) → t ≡ r ++ s → r ≢ [] → s ++ concat rs ≡ xs
       → IsRun goes_on t → AllByRecursion (IsRun goes_on) rs → Adjacent (Breaks goes_on) (t ∷ rs)
       → t ∷ rs ≡ runs_from goes_on r xs
   cut_only [] r [] t [] e ne w h hs b = ap (λ l. l ∷ []) (e ∙ append-nil r)
@@ -139,7 +139,7 @@ module _ {A : Type 0} (goes_on : List A → A → Bool) where
   pub divide_only : (xs : List A) (rs : List (List A)) → IsDivision goes_on xs rs → rs ≡ divide xs
   divide_only [] [] h = refl
   divide_only [] ([] ∷ rs) h = absurd (h.runs.0.some refl)
-  divide_only [] ((y ∷ r) ∷ rs) h = absurd (nil_is_no_append [] y (r ++ joined rs) (sym h.whole))
+  divide_only [] ((y ∷ r) ∷ rs) h = absurd (nil_is_no_append [] y (r ++ concat rs) (sym h.whole))
   divide_only (x ∷ xs) [] h = absurd (nil_is_no_append [] x xs h.whole)
   divide_only (x ∷ xs) ([] ∷ rs) h = absurd (h.runs.0.some refl)
   divide_only (x ∷ xs) ((y ∷ r) ∷ rs) h = cut_only xs (x ∷ []) r (y ∷ r) rs

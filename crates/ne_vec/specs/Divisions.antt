@@ -2,10 +2,10 @@
 use Rattle.std.specs.Prelude.{◌≡◌, ◌≢◌, ⊤, Bool, true, false, cond, List, [], ◌∷◌, ◌++◌}
 use Rattle.std.specs.List.{AllByRecursion}
 
--- the lists joined, one after another
-abbrev pub joined : {A : Type 0} → List (List A) → List A
-joined [] = []
-joined (r ∷ rs) = r ++ joined rs
+-- the lists, one after another
+abbrev pub concat : {A : Type 0} → List (List A) → List A
+concat [] = []
+concat (r ∷ rs) = r ++ concat rs
 
 -- R holds of each list and the next one
 abbrev pub Adjacent : {A : Type 0} → (A → A → Type 0) → List A → Type 0
@@ -38,7 +38,7 @@ module _ {A : Type 0} (goes_on : List A → A → Bool) where
 
   -- rs are the runs of xs
   pub record IsDivision (xs : List A) (rs : List (List A)) : Type 0 where
-    pub whole : joined rs ≡ xs
+    pub whole : concat rs ≡ xs
     pub runs : AllByRecursion IsRun rs
     pub breaks : Adjacent Breaks rs
 

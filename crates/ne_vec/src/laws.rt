@@ -6,7 +6,7 @@ ghost use Rattle.std.specs.List.{AllByRecursion, AllZip};
 ghost use Rattle.std.specs.Cmp.{IsPartialEquivalence};
 ghost use Rattle.std.specs.Cmp.Lexicographic.{pointwise, slice_cmp, slice_partial_cmp};
 ghost use Rattle.std.specs.declared.cmp.Ordering.TheVariants.{Less, Equal, Greater};
-ghost use Rattle.ne_vec.specs.Divisions.{IsDivision, by_first, by_previous, joined, heads};
+ghost use Rattle.ne_vec.specs.Divisions.{IsDivision, by_first, by_previous, concat, heads};
 ghost use Rattle.ne_vec.specs.Divisions.{runs_of};
 ghost use Rattle.ne_vec.specs.Kept.{KeepsFirsts};
 ghost use Rattle.ne_vec.specs.Calls.{CallableAtItems};
@@ -98,7 +98,7 @@ pub fn chunks_make_the_whole<T>()
         → ((j < length (chunks size xs)) ↔ (j * size < length xs)) }
     ensures each { (size : ℕ) (xs : List T) (j : ℕ) → j < length (chunks size xs)
         → slice_get (chunks size xs) j ≡ Some (take size (drop (j * size) xs)) }
-    ensures whole { (size : ℕ) (xs : List T) → 0 < size → joined (chunks size xs) ≡ xs }
+    ensures whole { (size : ℕ) (xs : List T) → 0 < size → concat (chunks size xs) ≡ xs }
     ensures sizes { (size : ℕ) (xs : List T) (front : List (List T)) (last : List T) → 0 < size
         → chunks size xs ≡ front ++ last ∷ [] → AllByRecursion (λ c. length c ≡ size) front
         × (0 < length last) × (length last ≤ size) }

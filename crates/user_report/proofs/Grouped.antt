@@ -14,7 +14,7 @@ use Rattle.std.specs.List.Sorted.{IsStrictlySortedBy, IsPermutation}
 use Rattle.std.specs.Option.{option_map}
 use Rattle.std.specs.Ordering.{nat_cmp}
 use Rattle.nonempty_collections.specs.Consumers.{less_by}
-use Rattle.nonempty_collections.specs.Divisions.{joined, Adjacent, Breaks, IsRun, by_first}
+use Rattle.nonempty_collections.specs.Divisions.{concat, Adjacent, Breaks, IsRun, by_first}
 use Rattle.nonempty_collections.specs.KeyOrder.{KeysAscend, KeepsTies}
 use Rattle.nonempty_collections.specs.Keys.{IsDividedBy}
 use Rattle.user_report.specs.Reports.{rows_of, IsSummary, AreSummaries, IsReport}
@@ -42,7 +42,7 @@ Ascend (r ∷ rows) = AreAtLeast r.key rows × Ascend rows
 abbrev Rise : List (List Row) → Type 0
 Rise [] = ⊤
 Rise ([] ∷ gs) = ⊥
-Rise ((r ∷ g) ∷ gs) = HaveKey r.key g × AreAbove r.key (joined gs) × Rise gs
+Rise ((r ∷ g) ∷ gs) = HaveKey r.key g × AreAbove r.key (concat gs) × Rise gs
 
 by_place : {X : Type 0} (P : X → Type 0) (xs : List X) → All P xs → AllByRecursion P xs
 by_place P [] h = tt
@@ -84,24 +84,24 @@ one_key r front (s ∷ g) run = (
 )
 
 next_above : (r : Row) (g : List Row) (gs : List (List Row)) → AllByRecursion (IsRun goes_on) gs
-    → Adjacent (Breaks goes_on) ((r ∷ g) ∷ gs) → AreAtLeast r.key (joined gs) → Ascend (joined gs)
-    → AreAbove r.key (joined gs)
+    → Adjacent (Breaks goes_on) ((r ∷ g) ∷ gs) → AreAtLeast r.key (concat gs) → Ascend (concat gs)
+    → AreAbove r.key (concat gs)
 next_above r g [] runs breaks least ascend = tt
 next_above r g ([] ∷ gs) runs breaks least ascend = absurd (runs.0.some refl)
 next_above r g ((s ∷ h) ∷ gs) runs breaks least ascend =
     let other : r.key ≢ s.key = eqb-false _ _ breaks.0 in
     let less : r.key < s.key = omega (arith, other, least.0) in
-    (less, weaken r.key s.key (h ++ joined gs) less ascend.0)
+    (less, weaken r.key s.key (h ++ concat gs) less ascend.0)
 
 rises : (gs : List (List Row)) → AllByRecursion (IsRun goes_on) gs
-    → Adjacent (Breaks goes_on) gs → Ascend (joined gs) → Rise gs
+    → Adjacent (Breaks goes_on) gs → Ascend (concat gs) → Rise gs
 rises [] runs breaks ascend = tt
 rises ([] ∷ gs) runs breaks ascend = absurd (runs.0.some refl)
 rises ((r ∷ g) ∷ []) runs breaks ascend = (one_key r [] g runs.0, tt, tt)
 rises ((r ∷ g) ∷ h ∷ gs) runs breaks ascend =
-    let rest = later_ascend (r ∷ g) (joined (h ∷ gs)) ascend in (
+    let rest = later_ascend (r ∷ g) (concat (h ∷ gs)) ascend in (
       one_key r [] g runs.0,
-      next_above r g (h ∷ gs) runs.1 breaks (later r.key g (joined (h ∷ gs)) ascend.0) rest,
+      next_above r g (h ∷ gs) runs.1 breaks (later r.key g (concat (h ∷ gs)) ascend.0) rest,
       rises (h ∷ gs) runs.1 breaks.1 rest,
     )
 
@@ -215,7 +215,7 @@ both_contain j ks (r ∷ g) rows h there = (
 )
 
 says : (gs : List (List Row)) (lines : List Summary) → Rise gs → AreLines gs lines
-    → Says (joined gs) lines
+    → Says (concat gs) lines
 unfolding IsStrictlySortedBy
 says [] [] rise are = record { rising = tt; all_keys = tt; each = tt }
 says [] (s ∷ ss) rise are = absurd are
@@ -225,13 +225,13 @@ says ((r ∷ g) ∷ gs) (s ∷ ss) rise are =
     let ih = says gs ss rise.2 are.1 in
     let key : r.key ≡ s.key = grind (arith, are.0.key) in
     let have : HaveKey s.key (r ∷ g) = subst (λ k. HaveKey k (r ∷ g)) key (refl, rise.0) in
-    let above : AreAbove s.key (joined gs) = subst (λ k. AreAbove k (joined gs)) key rise.1 in
+    let above : AreAbove s.key (concat gs) = subst (λ k. AreAbove k (concat gs)) key rise.1 in
     record {
-      rising = (keys_less s.key (joined gs) ss above ih.each, ih.rising);
-      all_keys = both_contain s.key (map (λ s. s.key) ss) (r ∷ g) (joined gs) have ih.all_keys;
+      rising = (keys_less s.key (concat gs) ss above ih.each, ih.rising);
+      all_keys = both_contain s.key (map (λ s. s.key) ss) (r ∷ g) (concat gs) have ih.all_keys;
       each = (
-        subst (λ l. IsSummary l s) (sym (rows_in_front s.key (r ∷ g) (joined gs) have above)) are.0,
-        push_behind s.key (r ∷ g) (joined gs) ss have above ih.each,
+        subst (λ l. IsSummary l s) (sym (rows_in_front s.key (r ∷ g) (concat gs) have above)) are.0,
+        push_behind s.key (r ∷ g) (concat gs) ss have above ih.each,
       );
     }
 
@@ -247,7 +247,7 @@ pub is_report : (rows sorted : List Row) (gs : List (List Row)) (lines : List Su
 unfolding IsDividedBy KeepsTies
 is_report rows sorted gs lines same ascend ties divided are =
     let rise = rises gs divided.runs divided.breaks
-    (ascends (joined gs) (subst (KeysAscend (λ r. r.key) nat_cmp) (sym divided.whole) ascend)) in
+    (ascends (concat gs) (subst (KeysAscend (λ r. r.key) nat_cmp) (sym divided.whole) ascend)) in
     let all : Says sorted lines = subst (λ l. Says l lines) divided.whole
     (says gs lines rise (are_lines gs lines are)) in
     record {

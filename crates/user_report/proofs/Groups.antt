@@ -5,7 +5,7 @@ use Rattle.std.proofs.lemmas.List.Sums.{sum-map, sum_by-append}
 use Rattle.std.proofs.lemmas.List.Sorted.{sum_by-IsPermutation}
 use Rattle.std.specs.Prelude.{All, sum}
 use Rattle.std.specs.List.Sorted.{IsPermutation}
-use Rattle.nonempty_collections.specs.Divisions.{joined}
+use Rattle.nonempty_collections.specs.Divisions.{concat}
 use Rattle.nonempty_collections.specs.Keys.{IsDividedBy}
 use Rattle.user_report.specs.Reports.{values}
 use Rattle.user_report.specs.declared.report.Row.{Row}
@@ -18,11 +18,11 @@ sum_of_both g rows = sum-map value (g ++ rows) ∙ sum_by-append value g rows
     value r = r.value
 
 group_fits : (gs : List (List Row)) (i : ℕ) (d : List Row) → i < length gs
-    → sum (values (get_or gs i d)) ≤ sum (values (joined gs))
+    → sum (values (get_or gs i d)) ≤ sum (values (concat gs))
 group_fits [] i d h = absurd (omega (arith, h))
-group_fits (g ∷ gs) zero d h = omega (arith, sum_of_both g (joined gs))
+group_fits (g ∷ gs) zero d h = omega (arith, sum_of_both g (concat gs))
 group_fits (g ∷ gs) (suc i) d h =
-    omega (arith, sum_of_both g (joined gs), group_fits gs i d (omega (arith, h)))
+    omega (arith, sum_of_both g (concat gs), group_fits gs i d (omega (arith, h)))
 
 pub groups_fit : (rows : List Row) (gs : List (List Row)) (n : ℕ)
     → IsDividedBy (λ r. r.key) nat_eq rows gs → sum (values rows) < n

@@ -3,7 +3,7 @@ use Rattle.std.specs.Prelude.{◌≡◌, ◌≤◌, ℕ, Bool, true, ◌||◌, �
 use Rattle.std.specs.Prelude.{IsTrue}
 use Rattle.std.specs.Fn.{Mut}
 use Rattle.std.specs.List.{enumerate_from}
-use Rattle.ne_vec.specs.Divisions.{joined}
+use Rattle.ne_vec.specs.Divisions.{concat}
 use Rattle.ne_iter.specs.Calls.{Calls}
 use Rattle.ne_iter.specs.Gives.{ReadsEach}
 
@@ -19,9 +19,9 @@ module _ {F W B C : Type 0} (inner : Bool → W → List B → Type 0) (complete
     pub f_then : F
     pub called : Calls calls f xs sources f_then
     pub read_each : ReadsEach inner whole sources lists
-    pub is_whole : whole ≡ complete c && ltb (length (joined lists)) n
-    pub at_most : length (joined lists) ≤ n
-    pub made : collected (enumerate_from 0 (joined lists)) c
+    pub is_whole : whole ≡ complete c && ltb (length (concat lists)) n
+    pub at_most : length (concat lists) ≤ n
+    pub made : collected (enumerate_from 0 (concat lists)) c
 
 -- c is made of the lists of the sources that f returns for the items that the source gives; if
 -- `whole` is true, the source has ended.

@@ -2,7 +2,7 @@
 use Rattle.std.specs.Prelude.{Bool, List}
 use Rattle.std.specs.Borrow.{MutBor}
 use Rattle.std.specs.Fn.{Mut}
-use Rattle.ne_vec.specs.Divisions.{joined}
+use Rattle.ne_vec.specs.Divisions.{concat}
 use Rattle.ne_iter.specs.Calls.{CallsWithState}
 use Rattle.ne_iter.specs.Gives.{ReadsEach}
 
@@ -20,5 +20,5 @@ pub record IsScanOfAll {S U A D T F C : Type 0}
   pub state_then : T
   pub read : reads (complete c) source sources
   pub read_each : ReadsEach inner (complete c) sources lists
-  pub called : CallsWithState calls f init (joined lists) answers f_then state_then
+  pub called : CallsWithState calls f init (concat lists) answers f_then state_then
   pub made : collected answers c

@@ -2,7 +2,7 @@
 ghost use Rattle.std.specs.Prelude.{◌≡◌, ◌≢◌, Bool, List, [], ◌++◌, Option, Result};
 ghost use Rattle.std.specs.Iterator.{ActsAsAt, Drains};
 ghost use Rattle.std.specs.List.{AllByRecursion, FoldsTo};
-ghost use Rattle.ne_vec.specs.Divisions.{IsDivision, by_first, joined};
+ghost use Rattle.ne_vec.specs.Divisions.{IsDivision, by_first, concat};
 ghost use Rattle.ne_iter.specs.Calls.{ShownEach};
 ghost use Rattle.ne_iter.specs.Keys.{items_of, DividesByKey, IsDividedBy};
 ghost use Rattle.ne_iter.specs.GroupingRuns.{IsOver, HasRead, GivesRun, AnswersOn};
@@ -56,7 +56,7 @@ pub fn runs_make_the_whole<T, K>()
     ensures unique { (eq : K → K → Bool) (ps : List (T × K)) (rs others : List (List T))
         → DividesByKey eq ps rs → DividesByKey eq ps others → rs ≡ others }
     ensures whole { (eq : K → K → Bool) (ps : List (T × K)) (rs : List (List T))
-        → DividesByKey eq ps rs → joined rs ≡ items_of ps }
+        → DividesByKey eq ps rs → concat rs ≡ items_of ps }
     ensures some { (eq : K → K → Bool) (ps : List (T × K)) (rs : List (List T))
         → DividesByKey eq ps rs → AllByRecursion (λ r. r ≢ []) rs }
 {

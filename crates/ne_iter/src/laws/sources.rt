@@ -4,7 +4,7 @@ ghost use Rattle.std.specs.Prelude.{length, map, Vec};
 ghost use Rattle.std.specs.Global.{Global};
 ghost use Rattle.std.specs.Borrow.{Bor, MutBor};
 ghost use Rattle.std.specs.Slice.Iter.{iter_mut_rest};
-ghost use Rattle.ne_vec.specs.Divisions.{IsDivision, by_first, by_previous, joined};
+ghost use Rattle.ne_vec.specs.Divisions.{IsDivision, by_first, by_previous, concat};
 ghost use Rattle.ne_vec.specs.Fronts.{GivesItems, Lists};
 ghost use Rattle.ne_vec.specs.Lends.{std_walk};
 ghost use Rattle.ne_vec.specs.SliceRuns.{Cutting, ActsAsAtPair};
@@ -180,5 +180,5 @@ pub fn lists_follow_one_another<U: IntoIterator>()
         → ((u : U) → GivesList (⟦<U as SourceWords>⟧.reads) u (lists u))
         → (whole : Bool) (all us : List U) (yss : List (List U.Item)) → AreFirst whole all us
         → ReadsEach (⟦<U as SourceWords>⟧.reads) whole us yss
-        → AreFirst whole (flat_map lists all) (joined yss) }
+        → AreFirst whole (flat_map lists all) (concat yss) }
 {}

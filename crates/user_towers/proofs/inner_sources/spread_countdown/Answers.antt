@@ -5,7 +5,7 @@ use Rattle.std.specs.List.{enumerate_from}
 use Rattle.std.proofs.lemmas.List.Folds.{flat_map-map}
 use Rattle.std.proofs.lemmas.List.FromFn.{length-enumerate_from}
 use Rattle.std.proofs.lemmas.Result.{IfOk-weaker}
-use Rattle.ne_vec.specs.Divisions.{joined}
+use Rattle.ne_vec.specs.Divisions.{concat}
 use Rattle.ne_vec.specs.Fronts.{AreFirst}
 use Rattle.user_towers.specs.OwnSources.{counted_down, start_of, left_of}
 use Rattle.user_towers.proofs.inner_sources.spread_countdown.Goals as goal
@@ -15,7 +15,7 @@ returns c = IfOk-weaker c.spread.result _ _ (λ v h.
     let n = non_zero_usize_get c.args.n in
     let twice = λ (x : ℕ). x ∷ x ∷ [] in
     let down = counted_down (start_of c.args.source) in
-    let items = joined h.joins.lists in
+    let items = concat h.joins.lists in
     let numbers = c.sources_give_what_is_left.ensures (λ it. counted_down (left_of it))
     (λ it rest x came. came) (λ it rest ended. ended.0) c.args.source down
     (λ it made. ap counted_down made) h.whole h.items h.read in
