@@ -185,16 +185,23 @@ fn sum(numbers: &NEVec<u32>) -> u64
     numbers.nonempty_iter().copied().map(u64::from).sum()
 }
 
-// Adds a row to a text: its first number, then the others.
+// Adds numbers to a text, as a row: the first, and each of the rest after a space.
+macro_rules! push_numbers {
+    ($text:expr, $first:expr, $rest:expr) => {{
+        write!($text, "{}", $first)?;
+        for number in $rest {
+            write!($text, " {number}")?;
+        }
+        $text.push('\n')
+    }};
+}
+
+// Adds a number and those after it to a text, as a row.
 fn push_row(text: &mut String, first: u64, rest: &[u64]) -> Result<(), AllocError>
     ensures { OnOk result (string_bytes text.new ≡ string_bytes text.old
         ++ row_text (first ∷ rest.now)) }
 {
-    write!(text, "{first}")?;
-    for number in rest {
-        write!(text, " {number}")?;
-    }
-    text.push('\n')
+    push_numbers!(text, first, rest)
 }
 
 // Adds the numbers of a set to a text, as a row in their order.
@@ -203,11 +210,7 @@ fn push_set(text: &mut String, numbers: &NEIndexSet<u32>) -> Result<(), AllocErr
         ++ row_text numbers.now.keys) }
 {
     let (first, rest) = numbers.nonempty_iter().next();
-    write!(text, "{first}")?;
-    for number in rest {
-        write!(text, " {number}")?;
-    }
-    text.push('\n')
+    push_numbers!(text, first, rest)
 }
 
 // Adds a run to a text, as a row.
@@ -216,9 +219,5 @@ fn push_run(text: &mut String, run: &NESlice<'_, u32>) -> Result<(), AllocError>
 {
     let first = run.first();
     let rest = &run.as_slice()[1..];
-    write!(text, "{first}")?;
-    for number in rest {
-        write!(text, " {number}")?;
-    }
-    text.push('\n')
+    push_numbers!(text, first, rest)
 }
