@@ -5,20 +5,24 @@ use Rattle.std.proofs.lemmas.List.Elements.{All-map}
 use Rattle.std.proofs.lemmas.Option.{get_or_from_slice_get, slice_get-get_or, slice_get-map}
 use Rattle.std.proofs.lemmas.Option.{same_Some}
 use Rattle.std.specs.Prelude.{◌≡◌, ℕ, zero, suc, ◌<◌, Bool, false, true, List, [], ◌∷◌, length, map}
-use Rattle.std.specs.Prelude.{slice_get, All, Contains, Option, Some, refl}
+use Rattle.std.specs.Prelude.{slice_get, All, Contains, Option, None, Some, IfSome, IsSomeAnd}
+use Rattle.std.specs.Prelude.{refl}
 use Rattle.std.specs.Option.{option_map}
 use Rattle.std.specs.Borrow.{Bor}
-use Rattle.std.specs.Fn.{Mut}
+use Rattle.std.specs.Fn.{CalledAt, Mut}
 use Rattle.std.specs.Iterator.{ActsAsAt}
+use Rattle.std.specs.Iterator.Runs.{AnyItem, CallKeepsClosure}
 use Rattle.ne_vec.specs.Fronts.{Lists, mark}
 use Rattle.ne_vec.specs.FrontLaws.{marked}
-use Rattle.ne_iter.specs.Consumers.{IsFirstLeast}
+use Rattle.ne_iter.specs.Consumers.{IsFirstLeast, NoKeyBeats}
 use Rattle.ne_iter.specs.Calls.{ShownEach}
 use Rattle.ne_iter.specs.Keys.{items_of}
 use Rattle.ne_iter.specs.Sources.{Reads}
+use Rattle.ne_iter.specs.SourceRuns.{RunsWhole}
 use Rattle.ne_iter.proofs.Extremes.{best_is}
 use Rattle.ne_iter.proofs.FunctionCalls.{shown_values}
 use Rattle.ne_iter.proofs.ReadLists.{of_read}
+use Rattle.ne_iter.proofs.Traced.{unbeaten_at, whole_run_of}
 
 -- at each place of a list paired with its values is an item and its value
 pair_at : {A B : Type 0} (h : A → B) (xs : List A) (i : ℕ) (p : A × B)
@@ -36,6 +40,19 @@ among ps m k place within here = (
   get_or_from_slice_get (items_of ps) place m m
       (slice_get-map (λ p. p.0) ps place ∙ ap (option_map (λ p. p.0)) here),
 )
+
+-- if no call changes f, it was called for each item as it is
+called_at : {A B F : Type 0} (calls : Mut F (Bor A × Unit {0}) B) (f : F)
+    → CallKeepsClosure calls f → (ps : List (A × B)) (g : F) → ShownEach calls f ps g
+    → (i : ℕ) (p : A × B) → slice_get ps i ≡ Some p → CalledAt calls f p.0 p.1 f
+called_at calls f keeps [] g shown i p here = let e = here in cc
+called_at calls f keeps ((x, y) ∷ ps) g (q, call, rest) zero p here =
+    let same = keeps (call.shown, tt) y q call.called in
+    subst (λ p. CalledAt calls f p.0 p.1 f) (same_Some _ _ here)
+    (subst (CalledAt calls f x y) same call)
+called_at calls f keeps ((x, y) ∷ ps) g (q, call, rest) (suc i) p here =
+    let same = keeps (call.shown, tt) y q call.called in
+    called_at calls f keeps ps g (subst (λ q. ShownEach calls q ps g) same rest) i p here
 
 module _ {A B F : Type 0} (calls : Mut F (Bor A × Unit {0}) B) (f : F) (beats : B → B → Bool)
     (ps : List (A × B)) (m : A) (k : B) (g : F) (shown : ShownEach calls f ps g)
@@ -78,5 +95,37 @@ module _ {A B F : Type 0} (calls : Mut F (Bor A × Unit {0}) B) (f : F) (beats :
             of_all (λ l. All (λ y. beats y (h m) ≡ false) (map h l)) (items_of ps) read
                 (unbeaten h acts),
           ),
+        ),
+      )
+
+  at_place : CallKeepsClosure calls f → (i : ℕ) (o : Option (A × B)) → slice_get ps i ≡ o
+      → IfSome (option_map (λ p. p.0) o)
+      (λ x. (j : B) × CalledAt calls f x j f × (beats j k ≡ false))
+  at_place keeps i None here = tt
+  at_place keeps i (Some p) here = (
+    p.1,
+    called_at calls f keeps ps g shown i p here,
+    unbeaten_at (λ p q. beats p.1 q.1) ps (m, k) best.0 best.1 best.2 i (Some p) here,
+  )
+
+  -- the item is in a run that gave the items, and no key there beats its key
+  pub best_key_run_of : {U S : Type 0} {becomes : U → S → Type 0}
+      {steps : S → Option A → S → Type 0} {u : U} → Reads becomes steps true u (items_of ps)
+      → RunsWhole becomes steps u (λ p. AnyItem p (λ x. x ≡ m) × NoKeyBeats p calls f beats m)
+  best_key_run_of h =
+      let item = slice_get-map (λ p. p.0) ps best.0 ∙ ap (option_map (λ p. p.0)) best.2 in
+      whole_run_of h
+      (λ p. AnyItem p (λ x. x ≡ m) × NoKeyBeats p calls f beats m) (
+        (
+          best.0,
+          omega (arith, best.1.0, length-map ps (λ p. p.0)),
+          subst (λ o. IsSomeAnd o (λ x. x ≡ m)) (sym item) refl,
+        ),
+        λ keeps. (
+          k,
+          called_at calls f keeps ps g shown best.0 (m, k) best.2,
+          λ i. subst (λ o. IfSome o (λ x. (j : B) × CalledAt calls f x j f
+              × (beats j k ≡ false))) (sym (slice_get-map (λ p. p.0) ps i))
+              (at_place keeps i (slice_get ps i) refl),
         ),
       )

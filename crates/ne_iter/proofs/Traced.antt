@@ -1,8 +1,9 @@
 -- What a source reads, as a run in std's terms.
 use Rattle.std.proofs.Common.{refl, subst, sym, ap, arith}
 use Rattle.std.proofs.iter.runs.Made.{run, took}
-use Rattle.std.proofs.lemmas.Option.{slice_get_within, get_or_from_slice_get}
+use Rattle.std.proofs.lemmas.Option.{slice_get_within, slice_get-get_or, get_or_from_slice_get}
 use Rattle.std.specs.Prelude.{◌≡◌, ℕ, zero, suc, ◌<◌, Bool, true, false, List, [], ◌∷◌, length, map}
+use Rattle.std.specs.Prelude.{Contains}
 use Rattle.std.specs.Prelude.{Option, Some, None, IsSomeAnd, IfSome, slice_get, slice_index_or}
 use Rattle.std.specs.Iterator.Runs.{Run, AllItems, AnyItem}
 use Rattle.std.specs.List.{IsFirstBest}
@@ -22,9 +23,9 @@ module _ {U S A : Type 0} {becomes : U → S → Type 0} {steps : S → Option A
 
 module _ {A : Type 0} (beats : A → A → Bool) (xs : List A) (m : A) (place : ℕ)
     (best : IsFirstBest beats xs (length xs) place) (here : slice_get xs place ≡ Some m) where
-  unbeaten : (k : ℕ) (o : Option A) → slice_get xs k ≡ o → IfSome o (λ x. beats x m ≡ false)
-  unbeaten k None e = tt
-  unbeaten k (Some x) e =
+  pub unbeaten_at : (k : ℕ) (o : Option A) → slice_get xs k ≡ o → IfSome o (λ x. beats x m ≡ false)
+  unbeaten_at k None e = tt
+  unbeaten_at k (Some x) e =
       subst (λ y. beats x y ≡ false) (get_or_from_slice_get xs place m x here)
       (subst (λ y. beats y (slice_index_or xs place x) ≡ false) (get_or_from_slice_get xs k x x e)
       (best.1 k x (slice_get_within xs k x e)))
@@ -43,10 +44,25 @@ module _ {A : Type 0} (beats : A → A → Bool) (xs : List A) (m : A) (place : 
       refl,
       (
         (place, best.0, subst (λ o. IsSomeAnd o (λ x. x ≡ m)) (sym here) refl),
-        λ k. unbeaten k (slice_get xs k) refl,
+        λ k. unbeaten_at k (slice_get xs k) refl,
       ),
     ),
   )
+
+-- an item of a list is an item of a run that gave the list
+pub whole_run_with : {U S A : Type 0} {becomes : U → S → Type 0} {steps : S → Option A → S → Type 0}
+    {u : U} {xs : List A} → Reads becomes steps true u xs → (P : List A → Type 0) → P xs → (m : A)
+    → Contains xs m → RunsWhole becomes steps u (λ p. AnyItem p (λ x. x ≡ m) × P p.items)
+whole_run_with {xs = xs} h P k m there =
+    whole_run_of h (λ p. AnyItem p (λ x. x ≡ m) × P p.items) (
+      (
+        there.0,
+        there.1,
+        subst (λ o. IsSomeAnd o (λ x. x ≡ m))
+            (sym (slice_get-get_or xs there.0 m there.1)) there.2,
+      ),
+      k,
+    )
 
 -- a mapped list, place by place
 pub indexes : {A B : Type 0} (xs : List A) (v : A → B) → (length (map v xs) ≡ length xs)

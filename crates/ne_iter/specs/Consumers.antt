@@ -7,6 +7,7 @@ use Rattle.std.specs.Borrow.{Bor}
 use Rattle.std.specs.Cmp.{IsStrictWeakOrder}
 use Rattle.std.specs.Fn.{Called, CalledAt, Mut, Shared, FnReturnsAtPair}
 use Rattle.std.specs.Iterator.{ActsAsAt, Yields}
+use Rattle.std.specs.Iterator.Runs.{AllItems, CallKeepsClosure, Run}
 use Rattle.std.specs.List.{All, IsFirstBest, Contains}
 use Rattle.std.specs.Ordering.{is_gt, is_lt}
 use Rattle.std.specs.declared.cmp.Ordering.{Ordering}
@@ -165,3 +166,9 @@ module _ {A K F : Type 0} (calls : Mut F (Bor A × Unit {0}) K) (cmp : K → K �
   abbrev pub HasLeastKey : Type 0
   HasLeastKey = Contains xs m × ((h : A → K) → ActsAsAt calls f h → (map h xs ≡ map h xs)
       × All (λ k. less_by cmp k (h m) ≡ false) (map h xs))
+
+-- If no call changes f, no item of the run has a key that beats the key of m.
+abbrev pub NoKeyBeats : {S A K F : Type 0} {steps : S → Option A → S → Type 0} → Run steps
+    → Mut F (Bor A × Unit {0}) K → F → (K → K → Bool) → A → Type 0
+NoKeyBeats {K = K} p calls f beats m = CallKeepsClosure calls f → (k : K) × CalledAt calls f m k f
+    × AllItems p (λ x. (j : K) × CalledAt calls f x j f × (beats j k ≡ false))

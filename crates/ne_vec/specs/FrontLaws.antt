@@ -8,7 +8,7 @@ use Rattle.std.specs.Slice.Iter.{iter_steps, iter_rest}
 use Rattle.std.specs.Vec.Iter.{into_iter_items, into_iter_len, into_iter_steps}
 use Rattle.std.specs.declared.slice.Iter.{Iter}
 use Rattle.std.specs.declared.vec.IntoIter.{IntoIter}
-use Rattle.ne_vec.specs.Fronts.{mark, view_mark}
+use Rattle.ne_vec.specs.Fronts.{Became, mark, view_mark}
 
 -- an iterator that takes the first item of the list it has left at each call
 module _ {S A B : Type 0} (steps : S → Option A → S → Type 0) (view : A → B) (rest : S → List B)
@@ -64,3 +64,8 @@ marked u xs = refl
 pub view_marked : {U A B : Type 0} (view : A → B) (u : U) (xs : List B) → view_mark view u xs ≡ 0
 unfolding view_mark
 view_marked view u xs = refl
+
+pub became : {U S : Type 0} (becomes : U → S → Type 0) (u : U) (it : S) → becomes u it
+    → Became becomes u it
+unfolding Became
+became becomes u it made = made

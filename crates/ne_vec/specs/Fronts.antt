@@ -3,7 +3,7 @@ use Rattle.std.specs.Prelude.{◌≡◌, ◌≤◌, ◌<◌, ℕ, Bool, slice_ge
 use Rattle.std.specs.Prelude.{Option}
 use Rattle.std.specs.List.{fold}
 use Rattle.std.specs.Iterator.{DrainsIf}
-use Rattle.std.specs.Iterator.Runs.{EachRunFrom, FoldIsAtMost}
+use Rattle.std.specs.Iterator.Runs.{EachRunFrom, FoldIsAtMost, Run, Trigger}
 
 -- us are the first items of xs, and all of them if `whole` is true
 abbrev pub AreFirst : {A : Type 0} → Bool → List A → List A → Type 0
@@ -37,29 +37,49 @@ module _ {U S A : Type 0} (becomes : U → S → Type 0) (steps : S → Option A
   Shown view u xs = (mark u xs ≡ 0) × (view_mark view u xs ≡ 0) × Shows view u xs
 
 module _ {S A : Type 0} (steps : S → Option A → S → Type 0) where
-  -- What `grind` learns about each run of an iterator that gives the items of xs: at most as
-  -- many came; all of them if the run is whole; a fold that never decreases is at most the fold
-  -- over xs; and which item is at each place.
-  abbrev pub GivesFronts : List A → S → Type 0
-  GivesFronts xs it = EachRunFrom steps it (λ p.
-      (p.len ≤ length xs) × (p.whole ≡ true → p.items ≡ xs)
+  -- What `grind` learns about a run of an iterator that gives the items of xs: at most as many
+  -- came; all of them if the run is whole; a fold that never decreases is at most the fold over
+  -- xs; and which item is at each place.
+  abbrev pub IsFrontRun : List A → Run steps → Type 0
+  IsFrontRun xs p = (p.len ≤ length xs) × (p.whole ≡ true → p.items ≡ xs)
       × ((h : ℕ → A → ℕ) (n : ℕ) → ((a : ℕ) (x : A) → a ≤ h a x)
       → fold h n p.items ≤ fold h n xs)
-      × ((k : ℕ) → k < p.len → p.at k ≡ slice_get xs k))
+      × ((k : ℕ) → k < p.len → p.at k ≡ slice_get xs k)
 
-  -- What `grind` learns about each run of an iterator whose items, through `view`, are those of xs.
-  abbrev pub ShowsFronts : {B : Type 0} → (A → B) → List B → S → Type 0
-  ShowsFronts {B} view xs it = EachRunFrom steps it (λ p.
-      (p.len ≤ length xs) × (p.whole ≡ true → p.len ≡ length xs)
+  abbrev pub GivesFronts : List A → S → Type 0
+  GivesFronts xs it = EachRunFrom steps it (λ p. IsFrontRun xs p)
+
+  -- What `grind` learns about a run of an iterator whose items, through `view`, are those of xs.
+  abbrev pub ShowsFrontRun : {B : Type 0} → (A → B) → List B → Run steps → Type 0
+  ShowsFrontRun {B} view xs p = (p.len ≤ length xs) × (p.whole ≡ true → p.len ≡ length xs)
       × ((h : B → ℕ) → p.whole ≡ true → map (λ x. h (view x)) p.items ≡ map h xs)
-      × FoldIsAtMost p view xs)
+      × FoldIsAtMost p view xs
+
+  abbrev pub ShowsFronts : {B : Type 0} → (A → B) → List B → S → Type 0
+  ShowsFronts view xs it = EachRunFrom steps it (λ p. ShowsFrontRun view xs p)
+
+-- The source u becomes the iterator it. `grind` does not unfold it, so it meets this as a premise
+-- at once.
+unfoldable pub Became : {U S : Type 0} → (U → S → Type 0) → U → S → Type 0
+Became becomes u it = becomes u it
 
 module _ {U S A : Type 0} (becomes : U → S → Type 0) (steps : S → Option A → S → Type 0) where
+  -- P holds for each run of an iterator that the source becomes. The iterator is no variable of its
+  -- own: `grind` finds only what a conclusion shows.
+  abbrev pub EachRunOf : U → (Run steps → Type 0) → Type 0
+  EachRunOf u P = (p : Run steps) → Trigger p.len → Became becomes u p.from → P p
+
+  -- P holds for the items of each of these runs
+  abbrev pub EachFront : (List A → Type 0) → U → Type 0
+  EachFront P u = EachRunOf u (λ p. becomes u p.from → P p.items)
+
   -- all that `grind` learns about a source that gives the items of xs
   abbrev pub GivesItems : U → List A → Type 0
   GivesItems u xs = Listed becomes steps u xs
       × ((it : S) → becomes u it → GivesFronts steps xs it)
+      × EachRunOf u (λ p. IsFrontRun steps xs p)
 
   abbrev pub GivesShown : {B : Type 0} → (A → B) → U → List B → Type 0
   GivesShown {B} view u xs = Shown becomes steps view u xs
       × ((it : S) → becomes u it → ShowsFronts steps view xs it)
+      × EachRunOf u (λ p. ShowsFrontRun steps view xs p)

@@ -56,7 +56,7 @@ ghost use Rattle.ne_iter.specs.Consumers.{TellsAll, TellsAny, FindsFirst, GivesN
 ghost use Rattle.ne_iter.specs.Consumers.{ReducesAll, IsFirstGreatest, IsFirstLeast, PicksGreatest};
 ghost use Rattle.ne_iter.specs.Consumers.{PicksLeast, CallableOnTwo, less_by};
 ghost use Rattle.ne_iter.specs.Consumers.{PicksGreatestKey, PicksLeastKey, HasGreatestKey};
-ghost use Rattle.ne_iter.specs.Consumers.{HasLeastKey};
+ghost use Rattle.ne_iter.specs.Consumers.{HasLeastKey, NoKeyBeats};
 
 use super::best::{best, best_by_key};
 use super::collected::FromNonEmptyIterator;
@@ -649,6 +649,8 @@ pub trait NonEmptyIterator: IntoIterator {
             × PicksGreatest F.Fn compare xs result }
         ensures lists { EachList (⟦<Self as SourceWords>⟧.lists) self (λ xs.
             PicksGreatest F.Fn compare xs result) }
+        ensures runs { RunsWhole Self.into_iter_gives Self.IntoIter.next_gives self (λ p.
+            AnyItem p (λ x. x ≡ result) × PicksGreatest F.Fn compare p.items result) }
     {
         best(
             self,
@@ -676,6 +678,9 @@ pub trait NonEmptyIterator: IntoIterator {
             self key result }
         ensures lists { EachList (⟦<Self as SourceWords>⟧.lists) self (λ xs.
             HasGreatestKey F.FnMut B.cmp key xs result) }
+        ensures runs { RunsWhole Self.into_iter_gives Self.IntoIter.next_gives self (λ p.
+            AnyItem p (λ x. x ≡ result)
+            × NoKeyBeats p F.FnMut key (λ j k. less_by B.cmp k j) result) }
     {
         best_by_key(self, key, |kept, next| kept < next)
     }
@@ -722,6 +727,8 @@ pub trait NonEmptyIterator: IntoIterator {
             × PicksLeast F.Fn compare xs result }
         ensures lists { EachList (⟦<Self as SourceWords>⟧.lists) self (λ xs.
             PicksLeast F.Fn compare xs result) }
+        ensures runs { RunsWhole Self.into_iter_gives Self.IntoIter.next_gives self (λ p.
+            AnyItem p (λ x. x ≡ result) × PicksLeast F.Fn compare p.items result) }
     {
         best(
             self,
@@ -749,6 +756,9 @@ pub trait NonEmptyIterator: IntoIterator {
             self key result }
         ensures lists { EachList (⟦<Self as SourceWords>⟧.lists) self (λ xs.
             HasLeastKey F.FnMut B.cmp key xs result) }
+        ensures runs { RunsWhole Self.into_iter_gives Self.IntoIter.next_gives self (λ p.
+            AnyItem p (λ x. x ≡ result)
+            × NoKeyBeats p F.FnMut key (λ j k. less_by B.cmp j k) result) }
     {
         best_by_key(self, key, |kept, next| next < kept)
     }
@@ -915,8 +925,7 @@ pub trait NonEmptyIterator: IntoIterator {
     where
         Self: Sized,
         requires ends { ⟦<Self as SourceWords>⟧.ends self }
-        requires fits { (it : Self.IntoIter) → Self.into_iter_gives self it
-            → EachRunFrom Self.IntoIter.next_gives it (λ p. S.can_sum p.items) }
+        requires fits { ⟦<Self as SourceWords>⟧.each_front S.can_sum self }
         ensures gives { (xs : List Self.Item)
             × (S.is_complete result → ⟦<Self as SourceWords>⟧.reads true self xs)
             × S.sum_gives xs result }
@@ -991,8 +1000,7 @@ pub trait NonEmptyIterator: IntoIterator {
     where
         Self: Sized,
         requires ends { ⟦<Self as SourceWords>⟧.ends self }
-        requires fits { (it : Self.IntoIter) → Self.into_iter_gives self it
-            → EachRunFrom Self.IntoIter.next_gives it (λ p. P.can_product p.items) }
+        requires fits { ⟦<Self as SourceWords>⟧.each_front P.can_product self }
         ensures gives { (xs : List Self.Item)
             × (P.is_complete result → ⟦<Self as SourceWords>⟧.reads true self xs)
             × P.product_gives xs result }

@@ -1,7 +1,7 @@
 //! What a source may give, in contracts; and values that become sources.
 ghost use Rattle.std.specs.Prelude.{◌≡◌, ℕ, Bool, List};
 ghost use Rattle.std.specs.Iterator.{IsFiniteIterable};
-ghost use Rattle.ne_vec.specs.Fronts.{Lists, Shows, GivesItems, GivesShown};
+ghost use Rattle.ne_vec.specs.Fronts.{Lists, Shows, EachFront, GivesItems, GivesShown};
 ghost use Rattle.ne_iter.specs.Sources.{Reads, SameLists};
 ghost use Rattle.ne_iter.specs.SourceLaws.{SameLists-self};
 
@@ -17,7 +17,8 @@ use super::NonEmptyIterator;
 /// `lists source xs` says that `source` gives the items `xs` and no others, as far as they are
 /// taken. `shows view source xs` says the same of what `view` makes of its items. The search of the
 /// checker does not unfold these two; `gives_items` and `gives_shown` add what it learns about each
-/// run of the iterator.
+/// run of the iterator. `each_front P source` says that `P` holds for the first items that come,
+/// however many are taken.
 pub trait SourceWords: IntoIterator {
     ghost reads: { Bool → Self → List Self.Item → Type 0 };
 
@@ -28,6 +29,8 @@ pub trait SourceWords: IntoIterator {
     ghost gives_items: { Self → List Self.Item → Type 0 };
 
     ghost gives_shown: { (Self.Item → ℕ) → Self → List ℕ → Type 0 };
+
+    ghost each_front: { (List Self.Item → Type 0) → Self → Type 0 };
 
     ghost starts: { Self → Type 0 };
 
@@ -44,6 +47,8 @@ impl<S: IntoIterator> SourceWords for S {
     ghost gives_items = { GivesItems S.into_iter_gives S.IntoIter.next_gives };
 
     ghost gives_shown = { GivesShown S.into_iter_gives S.IntoIter.next_gives };
+
+    ghost each_front = { EachFront S.into_iter_gives S.IntoIter.next_gives };
 
     ghost starts = { λ s. (it : S.IntoIter) → S.into_iter_gives s it → S.IntoIter.can_next it };
 

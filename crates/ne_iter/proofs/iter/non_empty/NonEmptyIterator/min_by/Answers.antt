@@ -4,6 +4,7 @@ use Rattle.ne_iter.proofs.Best.{AnswersAs-through, Contains-kept, IsFirstLeast-k
 use Rattle.ne_iter.specs.Consumers.{PicksLeast}
 use Rattle.ne_vec.specs.FrontLaws.{marked}
 use Rattle.ne_iter.proofs.ReadLists.{of_read}
+use Rattle.ne_iter.proofs.Traced.{whole_run_with}
 use Rattle.ne_iter.proofs.iter.non_empty.NonEmptyIterator.min_by.Goals as goal
 
 pub returns-clause-gives : goal.returns-clause-gives
@@ -27,3 +28,9 @@ returns-clause-lists g c xs lists =
       marked _ xs,
       of_read _ _ _ xs lists (λ l. PicksLeast g.F.Fn c.args.compare l c.best.result) r.0 r.1 r.2,
     )
+
+pub returns-clause-runs : goal.returns-clause-runs
+returns-clause-runs g c =
+    let r = returns-clause-gives g c in
+    whole_run_with r.1 (λ l. PicksLeast g.F.Fn c.args.compare l c.best.result) r.2
+    c.best.result r.2.0

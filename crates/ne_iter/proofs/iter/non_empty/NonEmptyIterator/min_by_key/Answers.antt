@@ -2,7 +2,7 @@ use Rattle.std.proofs.Common.{◌∷◌, rules}
 use Rattle.std.proofs.lemmas.List.MinMax.{ranks_by}
 use Rattle.ne_iter.specs.Consumers.{less_by}
 use Rattle.ne_iter.proofs.Best.{IsFirstLeast-kept, less_by-from_partial_lt}
-use Rattle.ne_iter.proofs.KeyedBest.{has_best_key}
+use Rattle.ne_iter.proofs.KeyedBest.{best_key_run_of, has_best_key}
 use Rattle.ne_iter.proofs.iter.non_empty.NonEmptyIterator.min_by_key.Goals as goal
 
 pub returns-clause-gives : goal.returns-clause-gives
@@ -29,3 +29,9 @@ returns-clause-lists g c xs lists =
     r.shown r.is_best
     g.Self.IntoIterator.into_iter_gives g.Self.IntoIter.Iterator.next_gives c.args.self xs lists
     r.read
+
+pub returns-clause-runs : goal.returns-clause-runs
+returns-clause-runs g c =
+    let r = returns-clause-gives g c in
+    best_key_run_of g.F.FnMut c.args.key (less_by g.B.Ord.cmp) r.keyed
+    c.best_by_key.result r.key r.f_then r.shown r.is_best r.read

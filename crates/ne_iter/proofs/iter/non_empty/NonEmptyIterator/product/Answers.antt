@@ -1,4 +1,5 @@
-use Rattle.ne_vec.specs.FrontLaws.{marked}
+use Rattle.std.proofs.Common.{subst, sym}
+use Rattle.ne_vec.specs.FrontLaws.{became, marked}
 use Rattle.ne_iter.proofs.ReadLists.{of_drained}
 use Rattle.ne_iter.proofs.iter.non_empty.NonEmptyIterator.product.Goals as goal
 
@@ -10,3 +11,9 @@ returns-clause-lists g c xs lists =
           c.into_iter.result
           ran.0 c.into_iter.ensures.into_iter_gives (ran.1 complete) ran.2,
     )
+
+pub product-requires-clause-fits : goal.product-requires-clause-fits
+product-requires-clause-fits g c p seen from =
+    let made = subst (g.Self.IntoIterator.into_iter_gives c.args.self) (sym from)
+    c.into_iter.ensures.into_iter_gives in
+    c.requires.fits p seen (became _ _ _ made) made
