@@ -1,11 +1,13 @@
 """The public calls that may report a failed allocation, as the sources of the library declare them:
-the functions that return an `AllocError`, and the macros. For each, the clauses of its contract
-that say what stands after a refusal."""
+the functions that return an `AllocError`, with where they stand, and the macros. For each, the
+clauses of its contract that say what stands after a refusal."""
 
 import glob
 import os
 import re
 from collections import defaultdict
+from itertools import pairwise
+from typing import NamedTuple
 
 from scratch import ROOT, read
 
@@ -37,22 +39,46 @@ EXCUSED = {
 }
 
 
+class Function(NamedTuple):
+    """A function that returns an `AllocError`, as a file declares it."""
+
+    # The name that the tests have for it.
+    case: str
+    # Its path, as `NEVec::push`, `Singleton for NEVec::extend_one` or `run_vec`.
+    path: str
+    # What stands between its name and its body.
+    signature: str
+    # Where the signature ends in the file.
+    end: int
+
+
+def sources():
+    """Yields the files of the library, each with its text."""
+    for crate in CRATES:
+        paths = glob.glob(os.path.join(ROOT, "crates", crate, "src", "**", "*.rt"), recursive=True)
+        for path in sorted(paths):
+            yield os.path.relpath(path, ROOT), read(path)
+
+
 def blocks(text):
-    """Yields the top-level blocks of a file, each with the lines that open it."""
-    for block in re.split(r"^(?=(?:impl|pub trait)\b)", text, flags=re.M)[1:]:
-        body = block.partition("\n}")[0]
+    """Yields the top-level blocks of a file, each with where it begins and the lines that open
+    it."""
+    begins = [it.start() for it in re.finditer(r"^(?:impl|pub trait)\b", text, re.M)]
+    for begin, end in pairwise([*begins, len(text)]):
+        body = text[begin:end].partition("\n}")[0]
         head = re.split(r"\{\n|^    ghost ", body, maxsplit=1, flags=re.M)[0]
-        yield " ".join(head.split()), body
+        yield begin, " ".join(head.split()), body
 
 
-def refusing(text, indent):
+def refusing(text, indent, begin=0):
     """Yields the functions at this indent that return an `AllocError`: the words before `fn`, the
-    name, and the clauses on a refusal."""
+    name, the signature, and where that ends. The text begins at `begin` of its file."""
     signature = rf"^{indent}((?:pub |final )?)fn (\w+)(.*?)(?=^{indent}\{{|\{{$|;$)"
-    for words, name, rest in re.findall(signature, text, re.M | re.S):
+    for it in re.finditer(signature, text, re.M | re.S):
+        words, name, rest = it.groups()
         returned = re.search(r"->(.*?)(?=\bwhere\b|\brequires\b|\bensures\b|$)", rest, re.S)
         if returned and "AllocError" in returned[1]:
-            yield words.strip(), name, re.findall(CLAUSE, rest)
+            yield words.strip(), name, rest, begin + it.end()
 
 
 def plain(head):
@@ -80,21 +106,52 @@ def case(head, name):
     return "run_map" if trait == "NonEmptyMap" else f"{kind}::{name}"
 
 
+def path(head, name):
+    """Returns the path of a method of this block. Its trait has its type arguments, since a type
+    may implement a trait several times."""
+    implemented = re.match(r"impl(?:<.*?>)? (\w+(?:<.*>)? for )(\w+|\[.*?\])", head)
+    if implemented:
+        return f"{implemented[1]}{implemented[2]}::{name}"
+    words = plain(head).split()
+    return f"{words[2].rstrip(':') if words[0] == 'pub' else words[-1]}::{name}"
+
+
+def functions(text):
+    """Yields the functions of a file that may report a failed allocation and are public."""
+    for words, name, signature, end in refusing(text, ""):
+        if words == "pub":
+            yield Function(name, name, signature, end)
+    for begin, head, body in blocks(text):
+        shown = head.startswith("pub trait") or " for " in head
+        for words, name, signature, end in refusing(body, "    ", begin):
+            if words or shown:
+                yield Function(case(head, name), path(head, name), signature, end)
+
+
+def macros(text):
+    """Returns the macros of a file, each with the library's functions and macros that it calls."""
+    found = {}
+    for name, body in re.findall(r"^macro_rules! (\w+) \{\n(.*?)^\}", text, re.M | re.S):
+        made = re.findall(r"\$crate::(\w+)::(\w+)\(", body)
+        changed = [(made[0][0], it) for it in re.findall(r"\b\w+\.(insert|push)\(", body)]
+        found[name] = {"::".join(it) for it in made + changed}
+        found[name].update(re.findall(r"\$crate::(\w+)!", body))
+    return found
+
+
 def cases():
     """Returns the names that the tests have for all of these calls, each with the clauses that say
     what stands after a refusal."""
     found = defaultdict(list)
-    for crate in CRATES:
-        paths = glob.glob(os.path.join(ROOT, "crates", crate, "src", "**", "*.rt"), recursive=True)
-        for text in map(read, sorted(paths)):
-            for macro in re.findall(r"^macro_rules! (\w+)", text, re.M):
-                found[macro] = []
-            for words, name, clauses in refusing(text, ""):
-                if words == "pub":
-                    found[name] += clauses
-            for head, body in blocks(text):
-                shown = head.startswith("pub trait") or " for " in head
-                for words, name, clauses in refusing(body, "    "):
-                    if words or shown:
-                        found[case(head, name)] += clauses
+    for _, text in sources():
+        for macro in macros(text):
+            found[macro] = []
+        for it in functions(text):
+            found[it.case] += re.findall(CLAUSE, it.signature)
     return {name: found[name] for name in found if name not in EXCUSED}
+
+
+def declared(line, names):
+    """Returns the one of these names that the line of a test begins with, or "" if there is
+    none."""
+    return max((it for it in names if f"{line} ".startswith(f"{it} ")), key=len, default="")

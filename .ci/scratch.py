@@ -138,14 +138,21 @@ def errors_of(said):
     return re.findall(row, said, re.M)
 
 
-def failed_tests(folder, crate):
-    """Returns the paths of the tests of a crate of the scratch copy that fail."""
+def tested(folder, crate):
+    """Returns what the tests of a crate of the scratch copy print. They are compiled, but not
+    proved."""
     how = {**QUIET, "cwd": os.path.join(folder, "crates", crate)}
     said = subprocess.run(["rt", "try", "--test"], **how).stdout
     errors = errors_of(said)
     if errors or "test result: " not in said:
         stop("\n".join([f"the tests of {crate} do not run:", *errors[:9], said[-2000:]]))
-    return {f"{crate}::{it}" for it in re.findall(r"^test (\S+) .*FAILED", said, re.M)}
+    return said
+
+
+def failed_tests(folder, crate):
+    """Returns the paths of the tests of a crate of the scratch copy that fail."""
+    failed = re.findall(r"^test (\S+) .*FAILED", tested(folder, crate), re.M)
+    return {f"{crate}::{it}" for it in failed}
 
 
 def printed(folder, script):
