@@ -40,7 +40,7 @@ impl Table for NEBTreeMap<Key, Owner> {
     }
 
     fn extend_by(&mut self, items: Items<'_>) -> Result<(), AllocError> {
-        self.extend(items)
+        Extend::extend(self, items)
     }
 
     fn count(&self) -> usize {
@@ -79,7 +79,7 @@ impl Table for NEBTreeSet<Item> {
     }
 
     fn extend_by(&mut self, items: Items<'_>) -> Result<(), AllocError> {
-        self.extend(items)
+        Extend::extend(self, items)
     }
 
     fn count(&self) -> usize {
@@ -129,7 +129,7 @@ impl Table for NEMap<Key, Owner> {
     }
 
     fn extend_by(&mut self, items: Items<'_>) -> Result<(), AllocError> {
-        self.extend(items)
+        Extend::extend(self, items)
     }
 
     fn count(&self) -> usize {
@@ -179,7 +179,7 @@ impl Table for NESet<Item> {
     }
 
     fn extend_by(&mut self, items: Items<'_>) -> Result<(), AllocError> {
-        self.extend(items)
+        Extend::extend(self, items)
     }
 
     fn count(&self) -> usize {
@@ -229,7 +229,7 @@ impl Table for NEIndexMap<Key, Owner> {
     }
 
     fn extend_by(&mut self, items: Items<'_>) -> Result<(), AllocError> {
-        self.extend(items)
+        Extend::extend(self, items)
     }
 
     fn count(&self) -> usize {
@@ -277,7 +277,7 @@ impl Table for NEIndexSet<Item> {
     }
 
     fn extend_by(&mut self, items: Items<'_>) -> Result<(), AllocError> {
-        self.extend(items)
+        Extend::extend(self, items)
     }
 
     fn count(&self) -> usize {
