@@ -1,0 +1,9 @@
+//! The examples in the comments of tree maps, hashed maps and index maps, of the sets of each kind
+//! and of their macros, as functions that are proved.
+//!
+//! A function has the code of one example, and returns the values that its comments say. Its
+//! contract states them.
+#![tactic(auto)]
+
+pub mod tree_map;
+pub mod tree_set;
