@@ -5,5 +5,6 @@
 //! contract states them.
 #![tactic(auto)]
 
+pub mod macros;
 pub mod tree_map;
 pub mod tree_set;
