@@ -5,6 +5,7 @@
 //! contract states them.
 #![tactic(auto)]
 
+pub mod index_map;
 pub mod index_set;
 pub mod macros;
 pub mod tree_map;
