@@ -91,9 +91,9 @@ pub fn contains(alloc: Global) -> Result<(bool, bool), AllocError>
 
 /// Iterates over the items that are only in the first set.
 pub fn difference(alloc: Global) -> Result<Vec<u32>, AllocError>
-    ensures { IfOk result (λ v. v.items ≡ 2 ∷ []) }
+    ensures { IfOk result (λ v. v.items ≡ 2 ∷ 4 ∷ []) }
 {
-    let (a, b) = (neis![alloc; 2, 4]?, neis![alloc; 4, 6]?);
+    let (a, b) = (neis![alloc; 2, 4, 6]?, neis![alloc; 6]?);
     let left = a.difference(&b);
     Ok(left.copied().collect(alloc)?)
 }

@@ -5,6 +5,8 @@
 //! contract states them.
 #![tactic(auto)]
 
+pub mod hashed_map;
+pub mod hashed_set;
 pub mod index_map;
 pub mod index_set;
 pub mod macros;
