@@ -197,7 +197,7 @@ pub fn swap_indices(alloc: Global) -> Result<NEIndexMap<u32, u32>, AllocError>
 }
 
 /// Inserts pairs, one of them with a key that is there.
-/// What it makes is only run, as what std's own `extend` makes is not found either.
+/// What it makes is only run, as what `indexmap`'s own `extend` makes is not found either.
 pub fn extend(alloc: Global) -> Result<NEIndexMap<u32, u32>, AllocError> {
     let mut map = neim![alloc; 4 => 22, 2 => 21]?;
     map.extend([(6, 23), (2, 24)])?;

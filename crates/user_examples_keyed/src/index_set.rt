@@ -179,7 +179,7 @@ pub fn with_hasher(alloc: Global) -> Result<NEIndexSet<u32>, AllocError>
 }
 
 /// Inserts items, one of which is there.
-/// What it makes is only run, as what std's own `extend` makes is not found either.
+/// What it makes is only run, as what `indexmap`'s own `extend` makes is not found either.
 pub fn extend(alloc: Global) -> Result<NEIndexSet<u32>, AllocError> {
     let mut set = NEIndexSet::new(alloc, 2)?;
     set.extend([4, 2])?;
