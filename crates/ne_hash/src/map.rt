@@ -125,10 +125,12 @@ impl<K: Eq + Hash, V, S: BuildHasher> NEMap<K, V, S> {
     /// the hasher stay as they are, and nothing is allocated.
     ///
     /// ```
-    /// let inner: HashMap<u32, u32> = [(4, 1), (2, 2)].into_iter().collect(alloc)?;
+    /// let mut inner = HashMap::new(alloc);
+    /// inner.insert(4, 1)?;
+    /// inner.insert(2, 2)?;
     /// let some = NEMap::try_from_map(inner); // Some({2: 2, 4: 1})
-    /// let inner: HashMap<u32, u32> = Vec::new(alloc).into_iter().collect(alloc)?;
-    /// let none = NEMap::try_from_map(inner); // None
+    /// let empty: HashMap<u32, u32> = HashMap::new(alloc);
+    /// let none = NEMap::try_from_map(empty); // None
     /// ```
     pub fn try_from_map(map: HashMap<K, V, S>) -> Option<Self>
     where

@@ -194,10 +194,12 @@ impl<T: Eq + Hash, S: BuildHasher> NESet<T, S> {
     /// hasher stay as they are, and nothing is allocated.
     ///
     /// ```
-    /// let inner: HashSet<u32> = [2, 4].into_iter().collect(alloc)?;
+    /// let mut inner = HashSet::new(alloc);
+    /// inner.insert(2)?;
+    /// inner.insert(4)?;
     /// let some = NESet::try_from_set(inner); // Some({2, 4})
-    /// let inner: HashSet<u32> = Vec::new(alloc).into_iter().collect(alloc)?;
-    /// let none = NESet::try_from_set(inner); // None
+    /// let empty: HashSet<u32> = HashSet::new(alloc);
+    /// let none = NESet::try_from_set(empty); // None
     /// ```
     pub fn try_from_set(set: HashSet<T, S>) -> Option<Self>
     where
@@ -231,8 +233,8 @@ impl<T: Eq + Hash, S: BuildHasher> NESet<T, S> {
     /// may be none, so this is std's iterator.
     ///
     /// ```
-    /// let (a, b) = (nes![alloc; 2, 4, 6]?, nes![alloc; 6, 8, 10]?);
-    /// let left = a.difference(&b); // &2 and &4, in some order
+    /// let (a, b) = (nes![alloc; 2, 4]?, nes![alloc; 4, 6]?);
+    /// let left: Vec<u32> = a.difference(&b).copied().collect(alloc)?; // [2]
     /// ```
     pub fn difference<'a>(&'a self, other: &'a NESet<T, S>) -> hash_set::Difference<'a, T, S>
         ensures members { IsDifference T.eq self.now other.now result }
@@ -247,8 +249,8 @@ impl<T: Eq + Hash, S: BuildHasher> NESet<T, S> {
     /// Returns the item equal to `value`, as it is in the set, or `None` if there is no such item.
     ///
     /// ```
-    /// let set = nes![alloc; 1, 3, 6, 8, 12]?;
-    /// let eight = set.get(&8); // Some(&8)
+    /// let set = NESet::new(alloc, 8)?;
+    /// let (eight, none) = (set.get(&8), set.get(&6)); // Some(&8) and None
     /// ```
     pub fn get(&self, value: &T) -> Option<&T>
         ensures item { option_copied result ≡ get T.eq self.now value.now }
@@ -290,8 +292,8 @@ impl<T: Eq + Hash, S: BuildHasher> NESet<T, S> {
     /// may be none, so this is std's iterator. Which of two equal items it returns is unspecified.
     ///
     /// ```
-    /// let (a, b) = (nes![alloc; 0, 3]?, nes![alloc; 0, 5, 4, 3, 2, 1]?);
-    /// let shared = a.intersection(&b); // &0 and &3, in some order
+    /// let (a, b) = (nes![alloc; 0, 3]?, nes![alloc; 3, 1]?);
+    /// let shared = a.intersection(&b); // &3
     /// ```
     pub fn intersection<'a>(&'a self, other: &'a NESet<T, S>) -> hash_set::Intersection<'a, T, S>
         ensures members { IsIntersection T.eq self.now other.now result }
@@ -318,7 +320,7 @@ impl<T: Eq + Hash, S: BuildHasher> NESet<T, S> {
     /// Returns whether every item of this set is in `other`.
     ///
     /// ```
-    /// let (a, b) = (nes![alloc; 2, 4, 6]?, nes![alloc; 2, 4, 6, 8]?);
+    /// let (a, b) = (nes![alloc; 4]?, nes![alloc; 2, 4]?);
     /// let subset = a.is_subset(&b); // true
     /// ```
     pub fn is_subset(&self, other: &NESet<T, S>) -> bool
@@ -330,7 +332,7 @@ impl<T: Eq + Hash, S: BuildHasher> NESet<T, S> {
     /// Returns whether every item of `other` is in this set.
     ///
     /// ```
-    /// let (a, b) = (nes![alloc; 2, 4, 6]?, nes![alloc; 6, 4]?);
+    /// let (a, b) = (nes![alloc; 2, 4]?, nes![alloc; 4]?);
     /// let superset = a.is_superset(&b); // true
     /// ```
     pub fn is_superset(&self, other: &NESet<T, S>) -> bool
@@ -346,8 +348,9 @@ impl<T: Eq + Hash, S: BuildHasher> NESet<T, S> {
     /// for a new item; the items are then unchanged and the new one is dropped.
     ///
     /// ```
-    /// let mut set = nes![alloc; 1, 3, 6, 8, 12]?;
+    /// let mut set = NESet::new(alloc, 8)?;
     /// let old = set.replace(8)?; // Some(8)
+    /// let none = set.replace(6)?; // None: no item equals it
     /// ```
     pub fn replace(&mut self, value: T) -> Result<Option<T>, AllocError>
     where

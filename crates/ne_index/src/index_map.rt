@@ -525,7 +525,7 @@ impl<K: Eq + Hash, V, S: BuildHasher> NEIndexMap<K, V, S> {
     ///
     /// ```
     /// let map = neim![alloc; 4 => 26, 2 => 24, 6 => 23, 8 => 25]?;
-    /// let same = map.clone()? == map; // true
+    /// let copy = map.clone()?; // {4: 26, 2: 24, 6: 23, 8: 25}
     /// ```
     pub fn clone(&self) -> Result<Self, AllocError>
     where

@@ -228,7 +228,7 @@ impl<T: Eq + Hash, S: BuildHasher> NEIndexSet<T, S> {
     /// be none, so this is the crate `indexmap`'s iterator.
     ///
     /// ```
-    /// let (a, b) = (neis![alloc; 2, 4, 6]?, neis![alloc; 6, 8, 10]?);
+    /// let (a, b) = (neis![alloc; 2, 4, 6]?, neis![alloc; 6]?);
     /// let left = a.difference(&b); // &2 and &4
     /// ```
     pub fn difference<'a>(&'a self, other: &'a NEIndexSet<T, S>) -> set::Difference<'a, T, S>
@@ -284,8 +284,8 @@ impl<T: Eq + Hash, S: BuildHasher> NEIndexSet<T, S> {
     /// be none, so this is the crate `indexmap`'s iterator.
     ///
     /// ```
-    /// let (a, b) = (neis![alloc; 0, 3]?, neis![alloc; 0, 1, 2, 3]?);
-    /// let shared = a.intersection(&b); // &0 and &3
+    /// let (a, b) = (neis![alloc; 0, 3]?, neis![alloc; 3, 1]?);
+    /// let shared = a.intersection(&b); // &3
     /// ```
     pub fn intersection<'a>(&'a self, other: &'a NEIndexSet<T, S>) -> set::Intersection<'a, T, S>
         ensures items { result ≡ intersection T.eq self.now other.now }
@@ -300,8 +300,8 @@ impl<T: Eq + Hash, S: BuildHasher> NEIndexSet<T, S> {
     /// Returns whether no item is in both sets.
     ///
     /// ```
-    /// let (a, b) = (neis![alloc; 2, 4, 6]?, neis![alloc; 6, 8, 10]?);
-    /// let disjoint = a.is_disjoint(&b); // false: 6 is in both
+    /// let (a, b) = (neis![alloc; 2, 4]?, neis![alloc; 4, 6]?);
+    /// let disjoint = a.is_disjoint(&b); // false: 4 is in both
     /// ```
     pub fn is_disjoint(&self, other: &NEIndexSet<T, S>) -> bool
         ensures { IsTrue result ↔ IsDisjoint T.eq self.now other.now }

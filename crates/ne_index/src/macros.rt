@@ -12,8 +12,7 @@
 /// as it is inserted.
 ///
 /// ```
-/// let map = neim![alloc; "b" => 10, "a" => 11]?;
-/// let same = ne_indexmap![alloc; "b" => 10, "a" => 11]? == map; // true
+/// let map = ne_indexmap![alloc; 2 => 10, 1 => 11]?; // {2: 10, 1: 11}
 /// ```
 #[macro_export]
 macro_rules! ne_indexmap {

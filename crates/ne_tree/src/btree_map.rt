@@ -93,10 +93,12 @@ impl<K: Ord, V> NEBTreeMap<K, V> {
     /// as they are, and nothing is allocated.
     ///
     /// ```
-    /// let inner: BTreeMap<u32, u32> = [(4, 1), (2, 2)].into_iter().collect(alloc)?;
+    /// let mut inner = BTreeMap::new(alloc);
+    /// inner.insert(4, 1)?;
+    /// inner.insert(2, 2)?;
     /// let some = NEBTreeMap::try_from_map(inner); // Some({2: 2, 4: 1})
-    /// let inner: BTreeMap<u32, u32> = Vec::new(alloc).into_iter().collect(alloc)?;
-    /// let none = NEBTreeMap::try_from_map(inner); // None
+    /// let empty: BTreeMap<u32, u32> = BTreeMap::new(alloc);
+    /// let none = NEBTreeMap::try_from_map(empty); // None
     /// ```
     pub fn try_from_map(map: BTreeMap<K, V>) -> Option<Self>
     where

@@ -136,10 +136,12 @@ impl<T: Ord> NEBTreeSet<T> {
     /// they are, and nothing is allocated.
     ///
     /// ```
-    /// let inner: BTreeSet<u32> = [2, 4].into_iter().collect(alloc)?;
+    /// let mut inner = BTreeSet::new(alloc);
+    /// inner.insert(2)?;
+    /// inner.insert(4)?;
     /// let some = NEBTreeSet::try_from_set(inner); // Some({2, 4})
-    /// let inner: BTreeSet<u32> = Vec::new(alloc).into_iter().collect(alloc)?;
-    /// let none = NEBTreeSet::try_from_set(inner); // None
+    /// let empty: BTreeSet<u32> = BTreeSet::new(alloc);
+    /// let none = NEBTreeSet::try_from_set(empty); // None
     /// ```
     pub fn try_from_set(set: BTreeSet<T>) -> Option<Self>
     where

@@ -1,0 +1,230 @@
+//! The examples of hashed maps.
+ghost use Rattle.std.specs.Prelude.{◌≡◌, ◌+◌, ◌≤◌, [], ◌∷◌, true, false, length, nat_eq};
+ghost use Rattle.std.specs.Prelude.{Contains, IfOk, None, Some};
+ghost use Rattle.std.specs.HashMap.{get, hash_map_len, spare};
+ghost use Rattle.std.specs.Map.{lookup};
+ghost use Rattle.std.specs.Option.{IsSomeAnd};
+ghost use Rattle.std.specs.Set.{is_member};
+
+use nonempty_collections::{NEMap, NEVec, NonEmptyIterator, nem};
+use std::alloc::{AllocError, Global};
+use std::collections::HashMap;
+use std::hash::{BuildHasherDefault, RandomState};
+use std::io;
+use std::num::NonZeroUsize;
+
+/// Creates a map whose hasher has a random seed.
+pub fn random_state(
+    alloc: Global,
+    rt: &HostRuntime,
+) -> Result<NEMap<u32, char, RandomState>, io::Error>
+    ensures { IfOk result (λ m. m.entries ≡ (1, 97) ∷ []) }
+{
+    let map = NEMap::with_hasher(alloc, RandomState::new(&rt)?, 1, 'a')?;
+    Ok(map)
+}
+
+/// Looks up keys of a map that is written out, and counts them.
+pub fn get_and_len(alloc: Global) -> Result<(Option<u32>, Option<u32>, usize), AllocError>
+    ensures one { IfOk result (λ r. r.0 ≡ Some 30) }
+    ensures three { IfOk result (λ r. r.1 ≡ None) }
+    ensures len { IfOk result (λ r. r.2 ≡ 2) }
+{
+    let map = nem![alloc; 1 => 10, 2 => 20, 1 => 30]?;
+    let (one, three) = (map.get(&1), map.get(&3));
+    let len = map.len().get();
+    Ok((one.copied(), three.copied(), len))
+}
+
+/// Creates a map of one key.
+pub fn new(alloc: Global) -> Result<NEMap<u32, u32>, AllocError>
+    ensures { IfOk result (λ m. m.entries ≡ (4, 20) ∷ []) }
+{
+    let map = NEMap::new(alloc, 4, 20)?;
+    Ok(map)
+}
+
+/// Creates a map of one key that has room for more.
+pub fn with_capacity(alloc: Global) -> Result<NEMap<u32, u32>, AllocError>
+    ensures entries { IfOk result (λ m. m.entries ≡ (2, 1) ∷ []) }
+    ensures room { IfOk result (λ m. 9 ≤ hash_map_len m + spare m) }
+{
+    let room = NonZeroUsize::new(9).unwrap();
+    let map = NEMap::with_capacity(alloc, room, 2, 1)?;
+    Ok(map)
+}
+
+/// Converts std's maps, one that has keys and one that is empty.
+pub fn try_from_map(
+    alloc: Global,
+) -> Result<(Option<NEMap<u32, u32>>, Option<NEMap<u32, u32>>), AllocError>
+    ensures two { IfOk result (λ r. IsSomeAnd r.0 (λ m. get nat_eq m 2 ≡ Some 2)) }
+    ensures four { IfOk result (λ r. IsSomeAnd r.0 (λ m. get nat_eq m 4 ≡ Some 1)) }
+    ensures len { IfOk result (λ r. IsSomeAnd r.0 (λ m. hash_map_len m ≡ 2)) }
+    ensures none { IfOk result (λ r. r.1 ≡ None) }
+{
+    let mut inner = HashMap::new(alloc);
+    inner.insert(4, 1)?;
+    inner.insert(2, 2)?;
+    let some = NEMap::try_from_map(inner);
+    let empty: HashMap<u32, u32> = HashMap::new(alloc);
+    let none = NEMap::try_from_map(empty);
+    Ok((some, none))
+}
+
+/// Iterates over the pairs by std's iterator.
+pub fn iter(alloc: Global) -> Result<Vec<(u32, u32)>, AllocError>
+    ensures zero { IfOk result (λ v. lookup (nat_eq 0) v.items ≡ Some 3) }
+    ensures two { IfOk result (λ v. lookup (nat_eq 2) v.items ≡ Some 1) }
+    ensures len { IfOk result (λ v. length v.items ≡ 2) }
+{
+    let map = nem![alloc; 0 => 3, 2 => 1]?;
+    let pairs = map.iter();
+    Ok(pairs.map(|(k, v)| (*k, *v)).collect(alloc)?)
+}
+
+/// Writes each value through std's iterator, which keeps the number of keys.
+/// What the loop writes is only run, as what it writes by std's own `iter_mut` is not found either.
+pub fn iter_mut(alloc: Global) -> Result<NEMap<u32, u32>, AllocError>
+    ensures { IfOk result (λ m. hash_map_len m ≡ 2) }
+{
+    let mut map = nem![alloc; 2 => 0u32, 4 => 1]?;
+    for (_key, value) in map.iter_mut() {
+        *value = value.wrapping_mul(31).wrapping_add(1);
+    }
+    Ok(map)
+}
+
+/// Iterates over the pairs.
+pub fn nonempty_iter(alloc: Global) -> Result<NEVec<(u32, u32)>, AllocError>
+    ensures zero { IfOk result (λ v. lookup (nat_eq 0) v ≡ Some 3) }
+    ensures two { IfOk result (λ v. lookup (nat_eq 2) v ≡ Some 1) }
+    ensures len { IfOk result (λ v. length v ≡ 2) }
+{
+    let map = nem![alloc; 0 => 3, 2 => 1]?;
+    let pairs = map.nonempty_iter();
+    Ok(pairs.map(|(k, v)| (*k, *v)).collect(alloc)?)
+}
+
+/// Writes each value, which keeps the number of keys.
+/// What the loop writes is only run, as what it writes by std's own `iter_mut` is not found either.
+pub fn nonempty_iter_mut(alloc: Global) -> Result<NEMap<u32, u32>, AllocError>
+    ensures { IfOk result (λ m. hash_map_len m ≡ 2) }
+{
+    let mut map = nem![alloc; 2 => 1u32, 4 => 32]?;
+    for (_key, value) in map.nonempty_iter_mut() {
+        *value = value.wrapping_mul(31).wrapping_add(2);
+    }
+    Ok(map)
+}
+
+/// Iterates over the keys.
+pub fn keys(alloc: Global) -> Result<NEVec<u32>, AllocError>
+    ensures zero { IfOk result (λ v. is_member nat_eq v 0 ≡ true) }
+    ensures two { IfOk result (λ v. is_member nat_eq v 2 ≡ true) }
+    ensures len { IfOk result (λ v. length v ≡ 2) }
+{
+    let map = nem![alloc; 0 => 3, 2 => 1]?;
+    let keys = map.keys();
+    Ok(keys.copied().collect(alloc)?)
+}
+
+/// Counts the keys of a map that is written out with one of them twice.
+pub fn len(alloc: Global) -> Result<usize, AllocError>
+    ensures { IfOk result (λ len. len ≡ 2) }
+{
+    let len = nem![alloc; 1 => 10, 2 => 20, 1 => 30]?.len().get();
+    Ok(len)
+}
+
+/// Iterates over the values.
+pub fn values(alloc: Global) -> Result<NEVec<u32>, AllocError>
+    ensures three { IfOk result (λ v. Contains v 3) }
+    ensures one { IfOk result (λ v. Contains v 1) }
+    ensures len { IfOk result (λ v. length v ≡ 2) }
+{
+    let map = nem![alloc; 0 => 3, 2 => 1]?;
+    let values = map.values();
+    Ok({
+        // The contract of `get` says that what it returns is among the values.
+        let _three = map.get(&0);
+        let _one = map.get(&2);
+        let _len = map.len();
+        values.copied().collect(alloc)?
+    })
+}
+
+/// Asks for a key that is there and for one that isn't.
+pub fn contains_key(alloc: Global) -> Result<(bool, bool), AllocError>
+    ensures there { IfOk result (λ r. r.0 ≡ true) }
+    ensures absent { IfOk result (λ r. r.1 ≡ false) }
+{
+    let map = nem![alloc; 2 => 24, 4 => 26, 6 => 23, 8 => 25]?;
+    let (there, absent) = (map.contains_key(&2), map.contains_key(&10));
+    Ok((there, absent))
+}
+
+/// Looks up a key that is there and one that isn't.
+pub fn get(alloc: Global) -> Result<(Option<u32>, Option<u32>), AllocError>
+    ensures one { IfOk result (λ r. r.0 ≡ Some 30) }
+    ensures three { IfOk result (λ r. r.1 ≡ None) }
+{
+    let map = nem![alloc; 1 => 10, 2 => 20, 1 => 30]?;
+    let (one, three) = (map.get(&1), map.get(&3));
+    Ok((one.copied(), three.copied()))
+}
+
+/// Writes the value of a key.
+pub fn get_mut(alloc: Global) -> Result<NEMap<u32, u32>, AllocError>
+    ensures two { IfOk result (λ m. get nat_eq m 2 ≡ Some 24) }
+    ensures four { IfOk result (λ m. get nat_eq m 4 ≡ Some 27) }
+    ensures six { IfOk result (λ m. get nat_eq m 6 ≡ Some 23) }
+    ensures eight { IfOk result (λ m. get nat_eq m 8 ≡ Some 25) }
+    ensures len { IfOk result (λ m. hash_map_len m ≡ 4) }
+{
+    let mut map = nem![alloc; 2 => 24, 4 => 26, 6 => 23, 8 => 25]?;
+    if let Some(value) = map.get_mut(&4) {
+        *value = 27;
+    }
+    Ok(map)
+}
+
+/// Inserts a new key, and a key that is there.
+pub fn insert(alloc: Global) -> Result<(Option<u32>, Option<u32>, NEMap<u32, u32>), AllocError>
+    ensures none { IfOk result (λ r. r.0 ≡ None) }
+    ensures old { IfOk result (λ r. r.1 ≡ Some 20) }
+    ensures two { IfOk result (λ r. get nat_eq r.2 2 ≡ Some 21) }
+    ensures four { IfOk result (λ r. get nat_eq r.2 4 ≡ Some 22) }
+    ensures len { IfOk result (λ r. hash_map_len r.2 ≡ 2) }
+{
+    let mut map = NEMap::new(alloc, 4, 20)?;
+    let none = map.insert(2, 21)?;
+    let old = map.insert(4, 22)?;
+    Ok((none, old, map))
+}
+
+/// Creates a map of one key with a hasher.
+pub fn with_hasher(alloc: Global) -> Result<NEMap<u32, u32>, AllocError>
+    ensures { IfOk result (λ m. m.entries ≡ (5, 60) ∷ []) }
+{
+    let hasher = BuildHasherDefault::new();
+    let map: NEMap<u32, u32> = NEMap::with_hasher(alloc, hasher, 5, 60)?;
+    Ok(map)
+}
+
+/// Inserts pairs, one of them with a key that is there.
+/// What it makes is only run, as what std's own `extend` makes is not found either.
+pub fn extend(alloc: Global) -> Result<NEMap<u32, u32>, AllocError> {
+    let mut map = nem![alloc; 2 => 21, 4 => 22]?;
+    map.extend([(6, 23), (2, 24)])?;
+    Ok(map)
+}
+
+/// Compares a map with its clone.
+pub fn clone(alloc: Global) -> Result<bool, AllocError>
+    ensures { IfOk result (λ same. same ≡ true) }
+{
+    let map = nem![alloc; 2 => 24, 4 => 26, 6 => 23, 8 => 25]?;
+    let same = map.clone()? == map;
+    Ok(same)
+}

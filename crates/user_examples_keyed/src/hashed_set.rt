@@ -1,0 +1,228 @@
+//! The examples of hashed sets.
+ghost use Rattle.std.specs.Prelude.{◌≡◌, ◌+◌, ◌≤◌, [], ◌∷◌, true, false, length, nat_eq};
+ghost use Rattle.std.specs.Prelude.{IfOk, None, Some};
+ghost use Rattle.std.specs.HashSet.{contains, hash_set_len, spare};
+ghost use Rattle.std.specs.Option.{IsSomeAnd};
+ghost use Rattle.std.specs.Set.{is_member};
+ghost use Rattle.nonempty_collections.specs.Collected.{IsSetOf};
+
+use nonempty_collections::{NESet, NEVec, NonEmptyIterator, nes};
+use std::alloc::{AllocError, Global};
+use std::collections::HashSet;
+use std::hash::{BuildHasherDefault, RandomState};
+use std::io;
+use std::num::NonZeroUsize;
+
+/// Creates a set whose hasher has a random seed.
+pub fn random_state(alloc: Global, rt: &HostRuntime) -> Result<NESet<u32, RandomState>, io::Error>
+    ensures { IfOk result (λ s. s.keys ≡ 1 ∷ []) }
+{
+    let set = NESet::with_hasher(alloc, RandomState::new(&rt)?, 1)?;
+    Ok(set)
+}
+
+/// Asks for items of a set that is written out, and counts them.
+pub fn contains_and_len(alloc: Global) -> Result<(bool, bool, usize), AllocError>
+    ensures two { IfOk result (λ r. r.0 ≡ true) }
+    ensures three { IfOk result (λ r. r.1 ≡ false) }
+    ensures len { IfOk result (λ r. r.2 ≡ 2) }
+{
+    let set = nes![alloc; 2, 1, 2]?;
+    let (two, three) = (set.contains(&2), set.contains(&3));
+    let len = set.len().get();
+    Ok((two, three, len))
+}
+
+/// Iterates over the items by std's iterator.
+pub fn iter(alloc: Global) -> Result<Vec<u32>, AllocError>
+    ensures two { IfOk result (λ v. is_member nat_eq v.items 2 ≡ true) }
+    ensures four { IfOk result (λ v. is_member nat_eq v.items 4 ≡ true) }
+    ensures eight { IfOk result (λ v. is_member nat_eq v.items 8 ≡ true) }
+    ensures ten { IfOk result (λ v. is_member nat_eq v.items 10 ≡ true) }
+    ensures len { IfOk result (λ v. length v.items ≡ 4) }
+{
+    let set = nes![alloc; 10, 2, 8, 4]?;
+    let items = set.iter();
+    Ok(items.copied().collect(alloc)?)
+}
+
+/// Iterates over the items.
+pub fn nonempty_iter(alloc: Global) -> Result<NEVec<u32>, AllocError>
+    ensures two { IfOk result (λ v. is_member nat_eq v 2 ≡ true) }
+    ensures four { IfOk result (λ v. is_member nat_eq v 4 ≡ true) }
+    ensures eight { IfOk result (λ v. is_member nat_eq v 8 ≡ true) }
+    ensures ten { IfOk result (λ v. is_member nat_eq v 10 ≡ true) }
+    ensures len { IfOk result (λ v. length v ≡ 4) }
+{
+    let set = nes![alloc; 10, 2, 8, 4]?;
+    let items = set.nonempty_iter();
+    Ok(items.copied().collect(alloc)?)
+}
+
+/// Counts the items of a set that is written out with one of them twice.
+pub fn len(alloc: Global) -> Result<usize, AllocError>
+    ensures { IfOk result (λ len. len ≡ 2) }
+{
+    let len = nes![alloc; 2, 1, 2]?.len().get();
+    Ok(len)
+}
+
+/// Creates a set of one item.
+pub fn new(alloc: Global) -> Result<NESet<u32>, AllocError>
+    ensures { IfOk result (λ s. s.keys ≡ 2 ∷ []) }
+{
+    let set = NESet::new(alloc, 2)?;
+    Ok(set)
+}
+
+/// Creates a set of one item that has room for more.
+pub fn with_capacity(alloc: Global) -> Result<NESet<u32>, AllocError>
+    ensures items { IfOk result (λ s. s.keys ≡ 2 ∷ []) }
+    ensures room { IfOk result (λ s. 9 ≤ hash_set_len s + spare s) }
+{
+    let room = NonZeroUsize::new(9).unwrap();
+    let set = NESet::with_capacity(alloc, room, 2)?;
+    Ok(set)
+}
+
+/// Converts std's sets, one that has items and one that is empty.
+pub fn try_from_set(alloc: Global) -> Result<(Option<NESet<u32>>, Option<NESet<u32>>), AllocError>
+    ensures two { IfOk result (λ r. IsSomeAnd r.0 (λ s. contains nat_eq s 2 ≡ true)) }
+    ensures four { IfOk result (λ r. IsSomeAnd r.0 (λ s. contains nat_eq s 4 ≡ true)) }
+    ensures len { IfOk result (λ r. IsSomeAnd r.0 (λ s. hash_set_len s ≡ 2)) }
+    ensures none { IfOk result (λ r. r.1 ≡ None) }
+{
+    let mut inner = HashSet::new(alloc);
+    inner.insert(2)?;
+    inner.insert(4)?;
+    let some = NESet::try_from_set(inner);
+    let empty: HashSet<u32> = HashSet::new(alloc);
+    let none = NESet::try_from_set(empty);
+    Ok((some, none))
+}
+
+/// Asks for an item that is there and for one that isn't.
+pub fn contains(alloc: Global) -> Result<(bool, bool), AllocError>
+    ensures there { IfOk result (λ r. r.0 ≡ true) }
+    ensures absent { IfOk result (λ r. r.1 ≡ false) }
+{
+    let set = nes![alloc; 2, 4, 6]?;
+    let (there, absent) = (set.contains(&6), set.contains(&8));
+    Ok((there, absent))
+}
+
+/// Iterates over the items that are only in the first set.
+pub fn difference(alloc: Global) -> Result<Vec<u32>, AllocError>
+    ensures { IfOk result (λ v. IsSetOf nat_eq (2 ∷ []) v.items) }
+{
+    let (a, b) = (nes![alloc; 2, 4]?, nes![alloc; 4, 6]?);
+    let left: Vec<u32> = a.difference(&b).copied().collect(alloc)?;
+    Ok(left)
+}
+
+/// Looks up an item that is there and one that isn't.
+pub fn get(alloc: Global) -> Result<(Option<u32>, Option<u32>), AllocError>
+    ensures eight { IfOk result (λ r. r.0 ≡ Some 8) }
+    ensures none { IfOk result (λ r. r.1 ≡ None) }
+{
+    let set = NESet::new(alloc, 8)?;
+    let (eight, none) = (set.get(&8), set.get(&6));
+    Ok((eight.copied(), none.copied()))
+}
+
+/// Inserts an item twice.
+pub fn insert(alloc: Global) -> Result<(bool, bool, NESet<u32>), AllocError>
+    ensures added { IfOk result (λ r. r.0 ≡ true) }
+    ensures again { IfOk result (λ r. r.1 ≡ false) }
+    ensures two { IfOk result (λ r. contains nat_eq r.2 2 ≡ true) }
+    ensures six { IfOk result (λ r. contains nat_eq r.2 6 ≡ true) }
+    ensures eight { IfOk result (λ r. contains nat_eq r.2 8 ≡ true) }
+    ensures len { IfOk result (λ r. hash_set_len r.2 ≡ 3) }
+{
+    let mut set = nes![alloc; 2, 6]?;
+    let added = set.insert(8)?;
+    let again = set.insert(8)?;
+    Ok((added, again, set))
+}
+
+/// Iterates over the items that are in both sets.
+pub fn intersection(alloc: Global) -> Result<Vec<u32>, AllocError>
+    ensures { IfOk result (λ v. IsSetOf nat_eq (3 ∷ []) v.items) }
+{
+    let (a, b) = (nes![alloc; 0, 3]?, nes![alloc; 3, 1]?);
+    let shared = a.intersection(&b);
+    Ok(shared.copied().collect(alloc)?)
+}
+
+/// Asks whether two sets that have an item in common have none.
+pub fn is_disjoint(alloc: Global) -> Result<bool, AllocError>
+    ensures { IfOk result (λ disjoint. disjoint ≡ false) }
+{
+    let (a, b) = (nes![alloc; 2, 4, 6]?, nes![alloc; 6, 8, 10]?);
+    let disjoint = a.is_disjoint(&b);
+    Ok(disjoint)
+}
+
+/// Asks whether the second set has each item of the first.
+pub fn is_subset(alloc: Global) -> Result<bool, AllocError>
+    ensures { IfOk result (λ subset. subset ≡ true) }
+{
+    let (a, b) = (nes![alloc; 4]?, nes![alloc; 2, 4]?);
+    let subset = a.is_subset(&b);
+    Ok(subset)
+}
+
+/// Asks whether the first set has each item of the second.
+pub fn is_superset(alloc: Global) -> Result<bool, AllocError>
+    ensures { IfOk result (λ superset. superset ≡ true) }
+{
+    let (a, b) = (nes![alloc; 2, 4]?, nes![alloc; 4]?);
+    let superset = a.is_superset(&b);
+    Ok(superset)
+}
+
+/// Replaces an item by an equal one, and adds one that equals none.
+pub fn replace(alloc: Global) -> Result<(Option<u32>, Option<u32>), AllocError>
+    ensures old { IfOk result (λ r. r.0 ≡ Some 8) }
+    ensures none { IfOk result (λ r. r.1 ≡ None) }
+{
+    let mut set = NESet::new(alloc, 8)?;
+    let old = set.replace(8)?;
+    let none = set.replace(6)?;
+    Ok((old, none))
+}
+
+/// Makes room for 20 more items, and returns the capacity.
+pub fn reserve(alloc: Global) -> Result<usize, AllocError>
+    ensures { IfOk result (λ capacity. 21 ≤ capacity) }
+{
+    let mut set = NESet::new(alloc, 2)?;
+    set.reserve(20)?;
+    Ok(set.capacity().get())
+}
+
+/// Creates a set of one item with a hasher.
+pub fn with_hasher(alloc: Global) -> Result<NESet<u32>, AllocError>
+    ensures { IfOk result (λ s. s.keys ≡ 8 ∷ []) }
+{
+    let hasher = BuildHasherDefault::new();
+    let set: NESet<u32> = NESet::with_hasher(alloc, hasher, 8)?;
+    Ok(set)
+}
+
+/// Inserts items, one of which is there.
+/// What it makes is only run, as what std's own `extend` makes is not found either.
+pub fn extend(alloc: Global) -> Result<NESet<u32>, AllocError> {
+    let mut set = NESet::new(alloc, 2)?;
+    set.extend([4, 2])?;
+    Ok(set)
+}
+
+/// Compares a set with its clone.
+pub fn clone(alloc: Global) -> Result<bool, AllocError>
+    ensures { IfOk result (λ same. same ≡ true) }
+{
+    let set = nes![alloc; 2, 4, 6]?;
+    let same = set.clone()? == set;
+    Ok(same)
+}

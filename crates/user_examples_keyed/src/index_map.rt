@@ -1,0 +1,223 @@
+//! The examples of index maps.
+ghost use Rattle.std.specs.Prelude.{◌≡◌, ◌+◌, ◌≤◌, [], ◌∷◌, true, false, IfOk, None, Some};
+ghost use Rattle.std.specs.Option.{IsSomeAnd};
+ghost use Rattle.indexmap.specs.IndexMap.{index_map_len, spare};
+
+use indexmap::IndexMap;
+use nonempty_collections::{NEIndexMap, NEVec, NonEmptyIterator, neim};
+use std::alloc::{AllocError, Global};
+use std::hash::BuildHasherDefault;
+use std::num::NonZeroUsize;
+
+/// Looks up keys of a map that is written out, and counts them.
+pub fn get_and_len(alloc: Global) -> Result<(Option<u32>, Option<u32>, usize), AllocError>
+    ensures one { IfOk result (λ r. r.0 ≡ Some 30) }
+    ensures three { IfOk result (λ r. r.1 ≡ None) }
+    ensures len { IfOk result (λ r. r.2 ≡ 2) }
+{
+    let map = neim![alloc; 1 => 10, 2 => 20, 1 => 30]?;
+    let (one, three) = (map.get(&1), map.get(&3));
+    let len = map.len().get();
+    Ok((one.copied(), three.copied(), len))
+}
+
+/// Iterates over the pairs by the iterator of `indexmap`.
+pub fn iter(alloc: Global) -> Result<Vec<(u32, u32)>, AllocError>
+    ensures { IfOk result (λ v. v.items ≡ (0, 3) ∷ (2, 1) ∷ []) }
+{
+    let map = neim![alloc; 0 => 3, 2 => 1]?;
+    let pairs = map.iter();
+    Ok(pairs.map(|(k, v)| (*k, *v)).collect(alloc)?)
+}
+
+/// Iterates over the pairs.
+pub fn nonempty_iter(alloc: Global) -> Result<NEVec<(u32, u32)>, AllocError>
+    ensures { IfOk result (λ v. v ≡ (0, 3) ∷ (2, 1) ∷ []) }
+{
+    let map = neim![alloc; 0 => 3, 2 => 1]?;
+    let pairs = map.nonempty_iter();
+    Ok(pairs.map(|(k, v)| (*k, *v)).collect(alloc)?)
+}
+
+/// Iterates over the keys.
+pub fn keys(alloc: Global) -> Result<NEVec<u32>, AllocError>
+    ensures { IfOk result (λ v. v ≡ 0 ∷ 2 ∷ []) }
+{
+    let map = neim![alloc; 0 => 3, 2 => 1]?;
+    let keys = map.keys();
+    Ok(keys.copied().collect(alloc)?)
+}
+
+/// Counts the keys of a map that is written out with one of them twice.
+pub fn len(alloc: Global) -> Result<usize, AllocError>
+    ensures { IfOk result (λ len. len ≡ 2) }
+{
+    let len = neim![alloc; 1 => 10, 2 => 20, 1 => 30]?.len().get();
+    Ok(len)
+}
+
+/// Iterates over the values.
+pub fn values(alloc: Global) -> Result<NEVec<u32>, AllocError>
+    ensures { IfOk result (λ v. v ≡ 3 ∷ 1 ∷ []) }
+{
+    let map = neim![alloc; 0 => 3, 2 => 1]?;
+    let values = map.values();
+    Ok(values.copied().collect(alloc)?)
+}
+
+/// Reads the first pair.
+pub fn first(alloc: Global) -> Result<(u32, u32), AllocError>
+    ensures { IfOk result (λ first. first ≡ (0, 1)) }
+{
+    let map = neim![alloc; 0 => 1, 2 => 2, 4 => 3, 6 => 4, 8 => 5, 10 => 6]?;
+    let first = map.first();
+    Ok((*first.0, *first.1))
+}
+
+/// Reads the last pair.
+pub fn last(alloc: Global) -> Result<(u32, u32), AllocError>
+    ensures { IfOk result (λ last. last ≡ (10, 6)) }
+{
+    let map = neim![alloc; 0 => 1, 2 => 2, 4 => 3, 6 => 4, 8 => 5, 10 => 6]?;
+    let last = map.last();
+    Ok((*last.0, *last.1))
+}
+
+/// Creates a map of one key.
+pub fn new(alloc: Global) -> Result<NEIndexMap<u32, u32>, AllocError>
+    ensures { IfOk result (λ m. m.entries ≡ (4, 20) ∷ []) }
+{
+    let map = NEIndexMap::new(alloc, 4, 20)?;
+    Ok(map)
+}
+
+/// Creates a map of one key that has room for more.
+pub fn with_capacity(alloc: Global) -> Result<NEIndexMap<u32, u32>, AllocError>
+    ensures entries { IfOk result (λ m. m.entries ≡ (2, 1) ∷ []) }
+    ensures room { IfOk result (λ m. 9 ≤ index_map_len m + spare m) }
+{
+    let room = NonZeroUsize::new(9).unwrap();
+    let map = NEIndexMap::with_capacity(alloc, room, 2, 1)?;
+    Ok(map)
+}
+
+/// Converts maps of `indexmap`, one that has keys and one that is empty.
+pub fn try_from_map(
+    alloc: Global,
+) -> Result<(Option<NEIndexMap<u32, u32>>, Option<NEIndexMap<u32, u32>>), AllocError>
+    ensures some { IfOk result (λ r. IsSomeAnd r.0 (λ m. m.entries ≡ (4, 1) ∷ (2, 2) ∷ [])) }
+    ensures none { IfOk result (λ r. r.1 ≡ None) }
+{
+    let inner: IndexMap<u32, u32> = [(4, 1), (2, 2)].into_iter().collect(alloc)?;
+    let some = NEIndexMap::try_from_map(inner);
+    let inner: IndexMap<u32, u32> = Vec::new(alloc).into_iter().collect(alloc)?;
+    let none = NEIndexMap::try_from_map(inner);
+    Ok((some, none))
+}
+
+/// Asks for a key that is there and for one that isn't.
+pub fn contains_key(alloc: Global) -> Result<(bool, bool), AllocError>
+    ensures there { IfOk result (λ r. r.0 ≡ true) }
+    ensures absent { IfOk result (λ r. r.1 ≡ false) }
+{
+    let map = neim![alloc; 4 => 26, 2 => 24, 6 => 23, 8 => 25]?;
+    let (there, absent) = (map.contains_key(&2), map.contains_key(&10));
+    Ok((there, absent))
+}
+
+/// Looks up a key that is there and one that isn't.
+pub fn get(alloc: Global) -> Result<(Option<u32>, Option<u32>), AllocError>
+    ensures one { IfOk result (λ r. r.0 ≡ Some 30) }
+    ensures three { IfOk result (λ r. r.1 ≡ None) }
+{
+    let map = neim![alloc; 1 => 10, 2 => 20, 1 => 30]?;
+    let (one, three) = (map.get(&1), map.get(&3));
+    Ok((one.copied(), three.copied()))
+}
+
+/// Looks up a key and its value.
+pub fn get_key_value(alloc: Global) -> Result<Option<(u32, u32)>, AllocError>
+    ensures { IfOk result (λ pair. pair ≡ Some (2, 1)) }
+{
+    let map = neim![alloc; 0 => 3, 2 => 1]?;
+    let pair = map.get_key_value(&2);
+    Ok(pair.map(|(k, v)| (*k, *v)))
+}
+
+/// Writes the value of a key.
+pub fn get_mut(alloc: Global) -> Result<NEIndexMap<u32, u32>, AllocError>
+    ensures { IfOk result (λ m. m.entries ≡ (4, 27) ∷ (2, 24) ∷ (6, 23) ∷ (8, 25) ∷ []) }
+{
+    let mut map = neim![alloc; 4 => 26, 2 => 24, 6 => 23, 8 => 25]?;
+    if let Some(value) = map.get_mut(&4) {
+        *value = 27;
+    }
+    Ok(map)
+}
+
+/// Asks for the indices of a key that is there and of one that isn't.
+pub fn get_index_of(alloc: Global) -> Result<(Option<usize>, Option<usize>), AllocError>
+    ensures index { IfOk result (λ r. r.0 ≡ Some 1) }
+    ensures none { IfOk result (λ r. r.1 ≡ None) }
+{
+    let map = neim![alloc; 0 => 3, 2 => 1]?;
+    let index = map.get_index_of(&2);
+    let none = map.get_index_of(&4);
+    Ok((index, none))
+}
+
+/// Inserts a new key, and a key that is there.
+pub fn insert(alloc: Global) -> Result<(Option<u32>, Option<u32>, NEIndexMap<u32, u32>), AllocError>
+    ensures none { IfOk result (λ r. r.0 ≡ None) }
+    ensures old { IfOk result (λ r. r.1 ≡ Some 20) }
+    ensures map { IfOk result (λ r. r.2.entries ≡ (4, 22) ∷ (2, 21) ∷ []) }
+{
+    let mut map = NEIndexMap::new(alloc, 4, 20)?;
+    let none = map.insert(2, 21)?;
+    let old = map.insert(4, 22)?;
+    Ok((none, old, map))
+}
+
+/// Creates a map of one key with a hasher.
+pub fn with_hasher(alloc: Global) -> Result<NEIndexMap<u32, u32>, AllocError>
+    ensures { IfOk result (λ m. m.entries ≡ (8, 50) ∷ []) }
+{
+    let hasher = BuildHasherDefault::new();
+    let map: NEIndexMap<u32, u32> = NEIndexMap::with_hasher(alloc, hasher, 8, 50)?;
+    Ok(map)
+}
+
+/// Exchanges the first two pairs.
+pub fn swap_indices(alloc: Global) -> Result<NEIndexMap<u32, u32>, AllocError>
+    ensures { IfOk result (λ m. m.entries ≡ (2, 7) ∷ (0, 5) ∷ (4, 3) ∷ []) }
+{
+    let mut map = neim![alloc; 0 => 5, 2 => 7, 4 => 3]?;
+    map.swap_indices(0, 1);
+    Ok(map)
+}
+
+/// Inserts pairs, one of them with a key that is there.
+/// What it makes is only run, as what `indexmap`'s own `extend` makes is not found either.
+pub fn extend(alloc: Global) -> Result<NEIndexMap<u32, u32>, AllocError> {
+    let mut map = neim![alloc; 4 => 22, 2 => 21]?;
+    map.extend([(6, 23), (2, 24)])?;
+    Ok(map)
+}
+
+/// Clones a map.
+pub fn clone(alloc: Global) -> Result<NEIndexMap<u32, u32>, AllocError>
+    ensures { IfOk result (λ m. m.entries ≡ (4, 26) ∷ (2, 24) ∷ (6, 23) ∷ (8, 25) ∷ []) }
+{
+    let map = neim![alloc; 4 => 26, 2 => 24, 6 => 23, 8 => 25]?;
+    let copy = map.clone()?;
+    Ok(copy)
+}
+
+/// Reads a value by its index.
+pub fn index(alloc: Global) -> Result<u32, AllocError>
+    ensures { IfOk result (λ value. value ≡ 2) }
+{
+    let map = neim![alloc; 0 => 1, 2 => 2, 4 => 3, 6 => 4, 8 => 5, 10 => 6]?;
+    let value = map[1];
+    Ok(value)
+}

@@ -1,0 +1,196 @@
+//! The examples of index sets.
+ghost use Rattle.std.specs.Prelude.{◌≡◌, ◌+◌, ◌≤◌, [], ◌∷◌, true, false, IfOk, None, Some};
+ghost use Rattle.std.specs.Option.{IsSomeAnd};
+ghost use Rattle.indexmap.specs.IndexSet.{index_set_len, spare};
+
+use indexmap::IndexSet;
+use nonempty_collections::{NEIndexSet, NEVec, NonEmptyIterator, neis};
+use std::alloc::{AllocError, Global};
+use std::hash::BuildHasherDefault;
+use std::num::NonZeroUsize;
+
+/// Asks for items of a set that is written out, and counts them.
+pub fn contains_and_len(alloc: Global) -> Result<(bool, bool, usize), AllocError>
+    ensures two { IfOk result (λ r. r.0 ≡ true) }
+    ensures three { IfOk result (λ r. r.1 ≡ false) }
+    ensures len { IfOk result (λ r. r.2 ≡ 2) }
+{
+    let set = neis![alloc; 2, 1, 2]?;
+    let (two, three) = (set.contains(&2), set.contains(&3));
+    let len = set.len().get();
+    Ok((two, three, len))
+}
+
+/// Iterates over the items by the iterator of `indexmap`.
+pub fn iter(alloc: Global) -> Result<Vec<u32>, AllocError>
+    ensures { IfOk result (λ v. v.items ≡ 10 ∷ 2 ∷ 8 ∷ 4 ∷ []) }
+{
+    let set = neis![alloc; 10, 2, 8, 4]?;
+    let items = set.iter();
+    Ok(items.copied().collect(alloc)?)
+}
+
+/// Iterates over the items.
+pub fn nonempty_iter(alloc: Global) -> Result<NEVec<u32>, AllocError>
+    ensures { IfOk result (λ v. v ≡ 10 ∷ 2 ∷ 8 ∷ 4 ∷ []) }
+{
+    let set = neis![alloc; 10, 2, 8, 4]?;
+    let items = set.nonempty_iter();
+    Ok(items.copied().collect(alloc)?)
+}
+
+/// Counts the items of a set that is written out with one of them twice.
+pub fn len(alloc: Global) -> Result<usize, AllocError>
+    ensures { IfOk result (λ len. len ≡ 2) }
+{
+    let len = neis![alloc; 2, 1, 2]?.len().get();
+    Ok(len)
+}
+
+/// Creates a set of one item.
+pub fn new(alloc: Global) -> Result<NEIndexSet<u32>, AllocError>
+    ensures { IfOk result (λ s. s.keys ≡ 2 ∷ []) }
+{
+    let set = NEIndexSet::new(alloc, 2)?;
+    Ok(set)
+}
+
+/// Creates a set of one item that has room for more.
+pub fn with_capacity(alloc: Global) -> Result<NEIndexSet<u32>, AllocError>
+    ensures items { IfOk result (λ s. s.keys ≡ 2 ∷ []) }
+    ensures room { IfOk result (λ s. 9 ≤ index_set_len s + spare s) }
+{
+    let room = NonZeroUsize::new(9).unwrap();
+    let set = NEIndexSet::with_capacity(alloc, room, 2)?;
+    Ok(set)
+}
+
+/// Converts sets of `indexmap`, one that has items and one that is empty.
+pub fn try_from_set(
+    alloc: Global,
+) -> Result<(Option<NEIndexSet<u32>>, Option<NEIndexSet<u32>>), AllocError>
+    ensures some { IfOk result (λ r. IsSomeAnd r.0 (λ s. s.keys ≡ 2 ∷ 4 ∷ [])) }
+    ensures none { IfOk result (λ r. r.1 ≡ None) }
+{
+    let inner: IndexSet<u32> = [2, 4].into_iter().collect(alloc)?;
+    let some = NEIndexSet::try_from_set(inner);
+    let inner: IndexSet<u32> = Vec::new(alloc).into_iter().collect(alloc)?;
+    let none = NEIndexSet::try_from_set(inner);
+    Ok((some, none))
+}
+
+/// Asks for an item that is there and for one that isn't.
+pub fn contains(alloc: Global) -> Result<(bool, bool), AllocError>
+    ensures there { IfOk result (λ r. r.0 ≡ true) }
+    ensures absent { IfOk result (λ r. r.1 ≡ false) }
+{
+    let set = neis![alloc; 2, 4, 6]?;
+    let (there, absent) = (set.contains(&6), set.contains(&8));
+    Ok((there, absent))
+}
+
+/// Iterates over the items that are only in the first set.
+pub fn difference(alloc: Global) -> Result<Vec<u32>, AllocError>
+    ensures { IfOk result (λ v. v.items ≡ 2 ∷ 4 ∷ []) }
+{
+    let (a, b) = (neis![alloc; 2, 4, 6]?, neis![alloc; 6]?);
+    let left = a.difference(&b);
+    Ok(left.copied().collect(alloc)?)
+}
+
+/// Inserts an item twice.
+pub fn insert(alloc: Global) -> Result<(bool, bool, NEIndexSet<u32>), AllocError>
+    ensures added { IfOk result (λ r. r.0 ≡ true) }
+    ensures again { IfOk result (λ r. r.1 ≡ false) }
+    ensures set { IfOk result (λ r. r.2.keys ≡ 6 ∷ 2 ∷ 8 ∷ []) }
+{
+    let mut set = neis![alloc; 6, 2]?;
+    let added = set.insert(8)?;
+    let again = set.insert(8)?;
+    Ok((added, again, set))
+}
+
+/// Iterates over the items that are in both sets.
+pub fn intersection(alloc: Global) -> Result<Vec<u32>, AllocError>
+    ensures { IfOk result (λ v. v.items ≡ 3 ∷ []) }
+{
+    let (a, b) = (neis![alloc; 0, 3]?, neis![alloc; 3, 1]?);
+    let shared = a.intersection(&b);
+    Ok(shared.copied().collect(alloc)?)
+}
+
+/// Asks whether two sets that have an item in common have none.
+pub fn is_disjoint(alloc: Global) -> Result<bool, AllocError>
+    ensures { IfOk result (λ disjoint. disjoint ≡ false) }
+{
+    let (a, b) = (neis![alloc; 2, 4]?, neis![alloc; 4, 6]?);
+    let disjoint = a.is_disjoint(&b);
+    Ok(disjoint)
+}
+
+/// Asks whether the second set has each item of the first. The answer is only run.
+pub fn is_subset(alloc: Global) -> Result<bool, AllocError> {
+    let (a, b) = (neis![alloc; 2, 4, 6]?, neis![alloc; 2, 4, 6, 8]?);
+    let subset = a.is_subset(&b);
+    Ok(subset)
+}
+
+/// Asks whether the first set has each item of the second. The answer is only run.
+pub fn is_superset(alloc: Global) -> Result<bool, AllocError> {
+    let (a, b) = (neis![alloc; 2, 4, 6]?, neis![alloc; 6, 4]?);
+    let superset = a.is_superset(&b);
+    Ok(superset)
+}
+
+/// Replaces an item by an equal one.
+pub fn replace(alloc: Global) -> Result<Option<u32>, AllocError>
+    ensures { IfOk result (λ old. old ≡ Some 4) }
+{
+    let mut set = neis![alloc; 0, 3, 4]?;
+    let old = set.replace(4)?;
+    Ok(old)
+}
+
+/// Makes room for 20 more items, and returns the capacity.
+pub fn reserve(alloc: Global) -> Result<usize, AllocError>
+    ensures { IfOk result (λ capacity. 21 ≤ capacity) }
+{
+    let mut set = NEIndexSet::new(alloc, 2)?;
+    set.reserve(20)?;
+    Ok(set.capacity().get())
+}
+
+/// Counts the items of both sets.
+pub fn union(alloc: Global) -> Result<usize, AllocError>
+    ensures { IfOk result (λ count. count ≡ 2) }
+{
+    let (one, two) = (neis![alloc; 1]?, neis![alloc; 2]?);
+    let count = one.union(&two).count().get();
+    Ok(count)
+}
+
+/// Creates a set of one item with a hasher.
+pub fn with_hasher(alloc: Global) -> Result<NEIndexSet<u32>, AllocError>
+    ensures { IfOk result (λ s. s.keys ≡ 5 ∷ []) }
+{
+    let hasher = BuildHasherDefault::new();
+    let set: NEIndexSet<u32> = NEIndexSet::with_hasher(alloc, hasher, 5)?;
+    Ok(set)
+}
+
+/// Inserts items, one of which is there.
+/// What it makes is only run, as what `indexmap`'s own `extend` makes is not found either.
+pub fn extend(alloc: Global) -> Result<NEIndexSet<u32>, AllocError> {
+    let mut set = NEIndexSet::new(alloc, 2)?;
+    set.extend([4, 2])?;
+    Ok(set)
+}
+
+/// Compares a set with its clone.
+pub fn clone(alloc: Global) -> Result<bool, AllocError>
+    ensures { IfOk result (λ same. same ≡ true) }
+{
+    let set = neis![alloc; 2, 4, 6]?;
+    let same = set.clone()? == set;
+    Ok(same)
+}

@@ -1,0 +1,183 @@
+//! The examples of tree maps.
+ghost use Rattle.std.specs.Prelude.{◌≡◌, [], ◌∷◌, true, false, IfOk, None, Some};
+ghost use Rattle.std.specs.BTreeMap.{keys};
+ghost use Rattle.std.specs.Option.{IsSomeAnd};
+
+use nonempty_collections::{NEBTreeMap, NEVec, NonEmptyIterator, nebtm};
+use std::alloc::{AllocError, Global};
+use std::collections::BTreeMap;
+
+/// Looks up keys of a map that is written out, and counts them.
+pub fn get_and_len(alloc: Global) -> Result<(Option<u32>, Option<u32>, usize), AllocError>
+    ensures one { IfOk result (λ r. r.0 ≡ Some 30) }
+    ensures three { IfOk result (λ r. r.1 ≡ None) }
+    ensures len { IfOk result (λ r. r.2 ≡ 2) }
+{
+    let map = nebtm![alloc; 1 => 10, 2 => 20, 1 => 30]?;
+    let (one, three) = (map.get(&1), map.get(&3));
+    let len = map.len().get();
+    Ok((one.copied(), three.copied(), len))
+}
+
+/// Creates a map of one key.
+pub fn new(alloc: Global) -> Result<NEBTreeMap<u32, u32>, AllocError>
+    ensures { IfOk result (λ m. m.entries ≡ (4, 20) ∷ []) }
+{
+    let map = NEBTreeMap::new(alloc, 4, 20)?;
+    Ok(map)
+}
+
+/// Converts std's maps, one that has keys and one that is empty.
+pub fn try_from_map(
+    alloc: Global,
+) -> Result<(Option<NEBTreeMap<u32, u32>>, Option<NEBTreeMap<u32, u32>>), AllocError>
+    ensures some { IfOk result (λ r. IsSomeAnd r.0 (λ m. m.entries ≡ (2, 2) ∷ (4, 1) ∷ [])) }
+    ensures none { IfOk result (λ r. r.1 ≡ None) }
+{
+    let mut inner = BTreeMap::new(alloc);
+    inner.insert(4, 1)?;
+    inner.insert(2, 2)?;
+    let some = NEBTreeMap::try_from_map(inner);
+    let empty: BTreeMap<u32, u32> = BTreeMap::new(alloc);
+    let none = NEBTreeMap::try_from_map(empty);
+    Ok((some, none))
+}
+
+/// Iterates over the pairs by std's iterator.
+pub fn iter(alloc: Global) -> Result<Vec<(u32, u32)>, AllocError>
+    ensures { IfOk result (λ v. v.items ≡ (0, 3) ∷ (2, 1) ∷ []) }
+{
+    let map = nebtm![alloc; 0 => 3, 2 => 1]?;
+    let pairs = map.iter();
+    Ok(pairs.map(|(k, v)| (*k, *v)).collect(alloc)?)
+}
+
+/// Writes each value through std's iterator, which keeps the keys.
+/// The values that the loop writes are only run, as those of std's own `iter_mut` are not found
+/// either.
+pub fn iter_mut(alloc: Global) -> Result<NEBTreeMap<u32, u32>, AllocError>
+    ensures { IfOk result (λ m. keys m ≡ 2 ∷ 4 ∷ []) }
+{
+    let mut map = nebtm![alloc; 2 => 0u32, 4 => 1]?;
+    for (_key, value) in map.iter_mut() {
+        *value = value.wrapping_mul(31).wrapping_add(1);
+    }
+    Ok(map)
+}
+
+/// Iterates over the pairs.
+pub fn nonempty_iter(alloc: Global) -> Result<NEVec<(u32, u32)>, AllocError>
+    ensures { IfOk result (λ v. v ≡ (0, 3) ∷ (2, 1) ∷ []) }
+{
+    let map = nebtm![alloc; 0 => 3, 2 => 1]?;
+    let pairs = map.nonempty_iter();
+    Ok(pairs.map(|(k, v)| (*k, *v)).collect(alloc)?)
+}
+
+/// Writes each value, which keeps the keys.
+/// The values that the loop writes are only run, as those of std's own `iter_mut` are not found
+/// either.
+pub fn nonempty_iter_mut(alloc: Global) -> Result<NEBTreeMap<u32, u32>, AllocError>
+    ensures { IfOk result (λ m. keys m ≡ 2 ∷ 4 ∷ []) }
+{
+    let mut map = nebtm![alloc; 2 => 1u32, 4 => 32]?;
+    for (_key, value) in map.nonempty_iter_mut() {
+        *value = value.wrapping_mul(31).wrapping_add(2);
+    }
+    Ok(map)
+}
+
+/// Iterates over the keys.
+pub fn keys(alloc: Global) -> Result<NEVec<u32>, AllocError>
+    ensures { IfOk result (λ v. v ≡ 0 ∷ 2 ∷ []) }
+{
+    let map = nebtm![alloc; 0 => 3, 2 => 1]?;
+    let keys = map.keys();
+    Ok(keys.copied().collect(alloc)?)
+}
+
+/// Counts the keys of a map that is written out with one of them twice.
+pub fn len(alloc: Global) -> Result<usize, AllocError>
+    ensures { IfOk result (λ len. len ≡ 2) }
+{
+    let len = nebtm![alloc; 1 => 10, 2 => 20, 1 => 30]?.len().get();
+    Ok(len)
+}
+
+/// Iterates over the values.
+pub fn values(alloc: Global) -> Result<NEVec<u32>, AllocError>
+    ensures { IfOk result (λ v. v ≡ 3 ∷ 1 ∷ []) }
+{
+    let map = nebtm![alloc; 0 => 3, 2 => 1]?;
+    let values = map.values();
+    Ok(values.copied().collect(alloc)?)
+}
+
+/// Asks for a key that is there and for one that isn't.
+pub fn contains_key(alloc: Global) -> Result<(bool, bool), AllocError>
+    ensures there { IfOk result (λ r. r.0 ≡ true) }
+    ensures absent { IfOk result (λ r. r.1 ≡ false) }
+{
+    let map = nebtm![alloc; 2 => 24, 4 => 26, 6 => 23, 8 => 25]?;
+    let (there, absent) = (map.contains_key(&2), map.contains_key(&10));
+    Ok((there, absent))
+}
+
+/// Looks up a key that is there and one that isn't.
+pub fn get(alloc: Global) -> Result<(Option<u32>, Option<u32>), AllocError>
+    ensures one { IfOk result (λ r. r.0 ≡ Some 30) }
+    ensures three { IfOk result (λ r. r.1 ≡ None) }
+{
+    let map = nebtm![alloc; 1 => 10, 2 => 20, 1 => 30]?;
+    let (one, three) = (map.get(&1), map.get(&3));
+    Ok((one.copied(), three.copied()))
+}
+
+/// Looks up a key and its value.
+pub fn get_key_value(alloc: Global) -> Result<Option<(u32, u32)>, AllocError>
+    ensures { IfOk result (λ pair. pair ≡ Some (2, 1)) }
+{
+    let map = nebtm![alloc; 0 => 3, 2 => 1]?;
+    let pair = map.get_key_value(&2);
+    Ok(pair.map(|(k, v)| (*k, *v)))
+}
+
+/// Writes the value of a key.
+pub fn get_mut(alloc: Global) -> Result<NEBTreeMap<u32, u32>, AllocError>
+    ensures { IfOk result (λ m. m.entries ≡ (2, 24) ∷ (4, 27) ∷ (6, 23) ∷ (8, 25) ∷ []) }
+{
+    let mut map = nebtm![alloc; 2 => 24, 4 => 26, 6 => 23, 8 => 25]?;
+    if let Some(value) = map.get_mut(&4) {
+        *value = 27;
+    }
+    Ok(map)
+}
+
+/// Inserts a new key, and a key that is there.
+pub fn insert(alloc: Global) -> Result<(Option<u32>, Option<u32>, NEBTreeMap<u32, u32>), AllocError>
+    ensures none { IfOk result (λ r. r.0 ≡ None) }
+    ensures old { IfOk result (λ r. r.1 ≡ Some 20) }
+    ensures map { IfOk result (λ r. r.2.entries ≡ (2, 21) ∷ (4, 22) ∷ []) }
+{
+    let mut map = NEBTreeMap::new(alloc, 4, 20)?;
+    let none = map.insert(2, 21)?;
+    let old = map.insert(4, 22)?;
+    Ok((none, old, map))
+}
+
+/// Inserts pairs, one of them with a key that is there.
+/// What it makes is only run, as what std's own `extend` makes is not found either.
+pub fn extend(alloc: Global) -> Result<NEBTreeMap<u32, u32>, AllocError> {
+    let mut map = nebtm![alloc; 2 => 21, 4 => 22]?;
+    map.extend([(6, 23), (2, 24)])?;
+    Ok(map)
+}
+
+/// Compares a map with its clone.
+pub fn clone(alloc: Global) -> Result<bool, AllocError>
+    ensures { IfOk result (λ same. same ≡ true) }
+{
+    let map = nebtm![alloc; 2 => 24, 4 => 26, 6 => 23, 8 => 25]?;
+    let same = map.clone()? == map;
+    Ok(same)
+}

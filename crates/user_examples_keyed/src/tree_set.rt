@@ -1,0 +1,181 @@
+//! The examples of tree sets.
+ghost use Rattle.std.specs.Prelude.{◌≡◌, [], ◌∷◌, true, false, IfOk, None, Some};
+ghost use Rattle.std.specs.Option.{IsSomeAnd};
+
+use nonempty_collections::{NEBTreeSet, NEVec, NonEmptyIterator, nebts};
+use std::alloc::{AllocError, Global};
+use std::collections::BTreeSet;
+
+/// Asks for items of a set that is written out, and counts them.
+pub fn contains_and_len(alloc: Global) -> Result<(bool, bool, usize), AllocError>
+    ensures two { IfOk result (λ r. r.0 ≡ true) }
+    ensures three { IfOk result (λ r. r.1 ≡ false) }
+    ensures len { IfOk result (λ r. r.2 ≡ 2) }
+{
+    let set = nebts![alloc; 2, 1, 2]?;
+    let (two, three) = (set.contains(&2), set.contains(&3));
+    let len = set.len().get();
+    Ok((two, three, len))
+}
+
+/// Creates a set of one item.
+pub fn new(alloc: Global) -> Result<NEBTreeSet<u32>, AllocError>
+    ensures { IfOk result (λ s. s.keys ≡ 2 ∷ []) }
+{
+    let set = NEBTreeSet::new(alloc, 2)?;
+    Ok(set)
+}
+
+/// Iterates over the items by std's iterator.
+pub fn iter(alloc: Global) -> Result<Vec<u32>, AllocError>
+    ensures { IfOk result (λ v. v.items ≡ 2 ∷ 4 ∷ 8 ∷ 10 ∷ []) }
+{
+    let set = nebts![alloc; 10, 2, 8, 4]?;
+    let items = set.iter();
+    Ok(items.copied().collect(alloc)?)
+}
+
+/// Iterates over the items.
+pub fn nonempty_iter(alloc: Global) -> Result<NEVec<u32>, AllocError>
+    ensures { IfOk result (λ v. v ≡ 2 ∷ 4 ∷ 8 ∷ 10 ∷ []) }
+{
+    let set = nebts![alloc; 10, 2, 8, 4]?;
+    let items = set.nonempty_iter();
+    Ok(items.copied().collect(alloc)?)
+}
+
+/// Counts the items of a set that is written out with one of them twice.
+pub fn len(alloc: Global) -> Result<usize, AllocError>
+    ensures { IfOk result (λ len. len ≡ 2) }
+{
+    let len = nebts![alloc; 2, 1, 2]?.len().get();
+    Ok(len)
+}
+
+/// Converts std's sets, one that has items and one that is empty.
+pub fn try_from_set(
+    alloc: Global,
+) -> Result<(Option<NEBTreeSet<u32>>, Option<NEBTreeSet<u32>>), AllocError>
+    ensures some { IfOk result (λ r. IsSomeAnd r.0 (λ s. s.keys ≡ 2 ∷ 4 ∷ [])) }
+    ensures none { IfOk result (λ r. r.1 ≡ None) }
+{
+    let mut inner = BTreeSet::new(alloc);
+    inner.insert(2)?;
+    inner.insert(4)?;
+    let some = NEBTreeSet::try_from_set(inner);
+    let empty: BTreeSet<u32> = BTreeSet::new(alloc);
+    let none = NEBTreeSet::try_from_set(empty);
+    Ok((some, none))
+}
+
+/// Asks for an item that is there and for one that isn't.
+pub fn contains(alloc: Global) -> Result<(bool, bool), AllocError>
+    ensures there { IfOk result (λ r. r.0 ≡ true) }
+    ensures absent { IfOk result (λ r. r.1 ≡ false) }
+{
+    let set = nebts![alloc; 2, 4, 6]?;
+    let (there, absent) = (set.contains(&6), set.contains(&8));
+    Ok((there, absent))
+}
+
+/// Iterates over the items that are only in the first set.
+pub fn difference(alloc: Global) -> Result<Vec<u32>, AllocError>
+    ensures { IfOk result (λ v. v.items ≡ 2 ∷ 4 ∷ []) }
+{
+    let (a, b) = (nebts![alloc; 2, 4, 6]?, nebts![alloc; 6, 8, 10]?);
+    let left = a.difference(&b);
+    Ok(left.copied().collect(alloc)?)
+}
+
+/// Looks up an item that is there and one that isn't.
+pub fn get(alloc: Global) -> Result<(Option<u32>, Option<u32>), AllocError>
+    ensures two { IfOk result (λ r. r.0 ≡ Some 2) }
+    ensures none { IfOk result (λ r. r.1 ≡ None) }
+{
+    let set = nebts![alloc; 1, 3, 2]?;
+    let (two, none) = (set.get(&2), set.get(&0));
+    Ok((two.copied(), none.copied()))
+}
+
+/// Inserts an item twice.
+pub fn insert(alloc: Global) -> Result<(bool, bool, NEBTreeSet<u32>), AllocError>
+    ensures added { IfOk result (λ r. r.0 ≡ true) }
+    ensures again { IfOk result (λ r. r.1 ≡ false) }
+    ensures set { IfOk result (λ r. r.2.keys ≡ 2 ∷ 6 ∷ 8 ∷ []) }
+{
+    let mut set = nebts![alloc; 2, 6]?;
+    let added = set.insert(8)?;
+    let again = set.insert(8)?;
+    Ok((added, again, set))
+}
+
+/// Iterates over the items that are in both sets.
+pub fn intersection(alloc: Global) -> Result<Vec<u32>, AllocError>
+    ensures { IfOk result (λ v. v.items ≡ 3 ∷ []) }
+{
+    let (a, b) = (nebts![alloc; 1, 3, 2]?, nebts![alloc; 3, 5, 4]?);
+    let shared = a.intersection(&b);
+    Ok(shared.copied().collect(alloc)?)
+}
+
+/// Asks whether two sets that have an item in common have none.
+pub fn is_disjoint(alloc: Global) -> Result<bool, AllocError>
+    ensures { IfOk result (λ disjoint. disjoint ≡ false) }
+{
+    let (a, b) = (nebts![alloc; 2, 4, 6]?, nebts![alloc; 6, 8, 10]?);
+    let disjoint = a.is_disjoint(&b);
+    Ok(disjoint)
+}
+
+/// Asks whether the second set has each item of the first.
+pub fn is_subset(alloc: Global) -> Result<bool, AllocError>
+    ensures { IfOk result (λ subset. subset ≡ true) }
+{
+    let (a, b) = (nebts![alloc; 2, 4, 6]?, nebts![alloc; 2, 4, 6, 8]?);
+    let subset = a.is_subset(&b);
+    Ok(subset)
+}
+
+/// Asks whether the first set has each item of the second.
+pub fn is_superset(alloc: Global) -> Result<bool, AllocError>
+    ensures { IfOk result (λ superset. superset ≡ true) }
+{
+    let (a, b) = (nebts![alloc; 2, 4, 6]?, nebts![alloc; 6, 4]?);
+    let superset = a.is_superset(&b);
+    Ok(superset)
+}
+
+/// Replaces an item by an equal one.
+pub fn replace(alloc: Global) -> Result<Option<u32>, AllocError>
+    ensures { IfOk result (λ old. old ≡ Some 4) }
+{
+    let mut set = nebts![alloc; 1, 2, 4]?;
+    let old = set.replace(4)?;
+    Ok(old)
+}
+
+/// Iterates over the items of both sets.
+pub fn union(alloc: Global) -> Result<NEVec<u32>, AllocError>
+    ensures { IfOk result (λ v. v ≡ 1 ∷ 2 ∷ 3 ∷ 4 ∷ 5 ∷ []) }
+{
+    let (a, b) = (nebts![alloc; 1, 3, 2]?, nebts![alloc; 3, 5, 4]?);
+    let all = a.union(&b);
+    Ok(all.copied().collect(alloc)?)
+}
+
+/// Inserts items, one of which is there.
+/// What it makes is only run, as what std's own `extend` makes is not found either.
+pub fn extend(alloc: Global) -> Result<NEBTreeSet<u32>, AllocError> {
+    let mut set = NEBTreeSet::new(alloc, 2)?;
+    set.extend([4, 2])?;
+    Ok(set)
+}
+
+/// Compares a set with its clone.
+pub fn clone(alloc: Global) -> Result<bool, AllocError>
+    ensures { IfOk result (λ same. same ≡ true) }
+{
+    let set = nebts![alloc; 2, 4, 6]?;
+    let same = set.clone()? == set;
+    Ok(same)
+}
