@@ -21,3 +21,10 @@ pub fn dedup_by(alloc: Global) -> Result<NEVec<u32>, AllocError>
     items.dedup_by(|later, kept| *later < *kept);
     Ok(items)
 }
+
+/// Of equal items in a row, the first one stays. Its value is only run.
+pub fn dedup(alloc: Global) -> Result<NEVec<u32>, AllocError> {
+    let mut items = nev![alloc; 7u32, 7, 0, 12, 12, 35, 4294967295]?;
+    items.dedup();
+    Ok(items)
+}

@@ -1,5 +1,5 @@
 //! The examples of products, and of items that differ.
-ghost use Rattle.std.specs.Prelude.{◌≡◌, ◌∷◌, [], IfOk, Ok, true, false};
+ghost use Rattle.std.specs.Prelude.{◌≡◌, ◌∷◌, [], IfOk, Ok};
 
 use nonempty_collections::{IntoNonEmptyIterator, NEVec, NonEmptyIterator, NonEmptyItertools, nev};
 use std::alloc::{AllocError, Global};
@@ -12,4 +12,13 @@ pub fn cartesian_product(alloc: Global) -> Result<Result<NEVec<(u32, u32)>, Allo
     let columns = columns.nonempty_iter().copied();
     let pairs = rows.nonempty_iter().copied().cartesian_product(columns);
     Ok(pairs.collect(alloc)?)
+}
+
+/// Whether no two items are equal. Its value is only run.
+pub fn all_unique(alloc: Global) -> Result<(bool, bool), AllocError> {
+    let unique = nev![alloc; 7]?.into_nonempty_iter().all_unique(alloc)?;
+    let repeated = nev![alloc; 1, 2, 1, 2]?
+        .into_nonempty_iter()
+        .all_unique(alloc)?;
+    Ok((unique, repeated))
 }

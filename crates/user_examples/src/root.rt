@@ -1,5 +1,5 @@
 //! The examples of the root of `ne_vec`.
-ghost use Rattle.std.specs.Prelude.{◌≡◌, ◌∷◌, [], Err, IfOk};
+ghost use Rattle.std.specs.Prelude.{◌≡◌, ◌∷◌, [], ◌++◌, List, ℕ, Err, IfOk};
 
 use ne_vec::Error;
 use nonempty_collections::{NEVec, Singleton};
@@ -11,4 +11,13 @@ pub fn error(alloc: Global) -> Result<Result<NEVec<u32>, Error>, AllocError>
 {
     let none = NEVec::try_from(Vec::<u32>::new(alloc));
     Ok(none)
+}
+
+/// Makes a vector of an item by `singleton`, and adds another one: `[1, 2]`.
+pub fn singleton(alloc: Global) -> Result<NEVec<u32>, AllocError>
+    ensures { IfOk result (λ v. (xs : List ℕ) → xs ≡ 1 ∷ [] → v ≡ xs ++ 2 ∷ []) }
+{
+    let mut two: NEVec<u32> = Singleton::singleton(alloc, 1)?;
+    two.extend_one(2)?;
+    Ok(two)
 }

@@ -1,5 +1,7 @@
 //! The examples of the slice.
-ghost use Rattle.std.specs.Prelude.{◌≡◌, ◌∷◌, [], IfOk, true};
+ghost use Rattle.std.specs.Prelude.{◌≡◌, ◌∷◌, [], List, ℕ, IfOk, true, length, ltb, map};
+ghost use Rattle.std.specs.Int.{abs_diff};
+ghost use Rattle.ne_vec.specs.Divisions.{by_first, by_previous, runs_of};
 
 use nonempty_collections::{NESlice, NEVec, NonEmptyIterator, nev};
 use std::alloc::{AllocError, Global};
@@ -65,6 +67,36 @@ pub fn nonempty_iter(alloc: Global) -> Result<Vec<u32>, AllocError>
     let slice = items.as_nonempty_slice();
     let same: Vec<u32> = slice.nonempty_iter().copied().collect(alloc)?;
     Ok(same)
+}
+
+/// The lengths of the chunks of three items. Its value is only run.
+pub fn nonempty_chunks(alloc: Global) -> Result<NEVec<usize>, AllocError> {
+    let items = nev![alloc; 3, 1, 4, 1, 5, 9, 2, 6]?;
+    let (slice, size) = (items.as_nonempty_slice(), NonZeroUsize::new(3).unwrap());
+    let chunks = slice.nonempty_chunks(size);
+    Ok(chunks.map(|c| c.len().get()).collect(alloc)?)
+}
+
+/// The lengths of the runs of items that are near their run's first item. Their items are only run.
+pub fn runs_by(alloc: Global) -> Result<NEVec<usize>, AllocError>
+    ensures { IfOk result (λ r. (xs : List ℕ) → xs ≡ 1 ∷ 2 ∷ 3 ∷ []
+        → r ≡ map (λ c. length c) (runs_of by_first (λ a b. ltb (abs_diff a b) 2) xs)) }
+{
+    let items = nev![alloc; 1u32, 2, 3]?;
+    let slice = items.as_nonempty_slice();
+    let runs = slice.runs_by(|a, b| a.abs_diff(*b) < 2);
+    Ok(runs.map(|c| c.len().get()).collect(alloc)?)
+}
+
+/// The lengths of the runs of items that are near the item before them. Its value is only run.
+pub fn adjacent_runs(alloc: Global) -> Result<NEVec<usize>, AllocError>
+    ensures { IfOk result (λ r. (xs : List ℕ) → xs ≡ 1 ∷ 2 ∷ 3 ∷ []
+        → r ≡ map (λ c. length c) (runs_of by_previous (λ a b. ltb (abs_diff a b) 2) xs)) }
+{
+    let items = nev![alloc; 1u32, 2, 3]?;
+    let slice = items.as_nonempty_slice();
+    let runs = slice.adjacent_runs(|a, b| a.abs_diff(*b) < 2);
+    Ok(runs.map(|c| c.len().get()).collect(alloc)?)
 }
 
 /// An item by its index.

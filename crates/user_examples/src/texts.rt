@@ -1,6 +1,5 @@
 //! The examples of collecting texts and paths.
 ghost use Rattle.std.specs.Prelude.{◌≡◌, IfOk, codes, string_bytes};
-ghost use Rattle.std.specs.Path.{path_buf_bytes};
 
 use nonempty_collections::{IntoNonEmptyIterator, NonEmptyIterator};
 use std::alloc::{AllocError, Global};
@@ -20,4 +19,10 @@ pub fn text_of_characters(alloc: Global) -> Result<String, AllocError>
 {
     let text: String = ['x', 'y'].into_nonempty_iter().collect(alloc)?;
     Ok(text)
+}
+
+/// A path of its parts. Its value is only run.
+pub fn path_of_parts(alloc: Global) -> Result<PathBuf, AllocError> {
+    let path: PathBuf = ["a", "b"].into_nonempty_iter().collect(alloc)?;
+    Ok(path)
 }

@@ -2,10 +2,12 @@
 ghost use Rattle.std.specs.Prelude.{
   ◌≡◌,
   ◌/◌,
+  ◌%◌,
+  ◌==◌,
   ◌∷◌,
   [],
-  map,
-  Err,
+  List,
+  ℕ,
   IfOk,
   MatchResult,
   None,
@@ -14,6 +16,9 @@ ghost use Rattle.std.specs.Prelude.{
   codes,
   true,
   false,
+  length,
+  filter,
+  map,
 };
 
 use nonempty_collections::{NESlice, NEVec, NonEmptyIterator, nev};
@@ -119,6 +124,23 @@ pub fn swap_remove(alloc: Global) -> Result<(Option<u32>, NEVec<u32>), AllocErro
     Ok((removed, items))
 }
 
+/// The even items stay, or there are none.
+pub fn retain(
+    alloc: Global,
+) -> Result<(Result<NEVec<u32>, Vec<u32>>, Result<NEVec<u32>, Vec<u32>>), AllocError>
+    ensures even { IfOk result (λ r. (xs : List ℕ) → xs ≡ 4 ∷ 5 ∷ 6 ∷ 7 ∷ []
+        → MatchResult r.0 (λ v. v ≡ filter (λ x. x % 2 == 0) xs)
+        (λ _. filter (λ x. x % 2 == 0) xs ≡ [])) }
+    ensures none { IfOk result (λ r. (xs : List ℕ) → xs ≡ 1 ∷ 3 ∷ []
+        → MatchResult r.1 (λ v. v ≡ filter (λ x. x % 2 == 0) xs) (λ none. none.items ≡ [])) }
+    ensures value { filter (λ x. x % 2 == 0) (4 ∷ 5 ∷ 6 ∷ 7 ∷ []) ≡ 4 ∷ 6 ∷ [] }
+    ensures no_value { filter (λ x. x % 2 == 0) (1 ∷ 3 ∷ []) ≡ [] }
+{
+    let even = nev![alloc; 4, 5, 6, 7]?.retain(|x| *x % 2 == 0);
+    let none = nev![alloc; 1, 3]?.retain(|x| *x % 2 == 0);
+    Ok((even, none))
+}
+
 /// The items are halved, and the even halves stay.
 pub fn retain_mut(alloc: Global) -> Result<Result<NEVec<u32>, Vec<u32>>, AllocError>
     ensures { IfOk result (λ r. r ≡ Ok (0 ∷ 2 ∷ 0 ∷ 2 ∷ 4 ∷ [])) }
@@ -215,6 +237,18 @@ pub fn iter(alloc: Global) -> Result<Vec<u32>, AllocError>
     Ok(halves)
 }
 
+/// One is added to each item, by std's iterator. The number of items is proved, and their values
+/// are only run.
+pub fn iter_mut(alloc: Global) -> Result<NEVec<u32>, AllocError>
+    ensures { IfOk result (λ v. length v ≡ 4) }
+{
+    let mut items = nev![alloc; 0u32, 1, 2, 3]?;
+    for x in items.iter_mut() {
+        *x = x.wrapping_add(1);
+    }
+    Ok(items)
+}
+
 /// The greatest item.
 pub fn nonempty_iter(alloc: Global) -> Result<u32, AllocError>
     ensures { IfOk result (λ greatest. greatest ≡ 8) }
@@ -222,6 +256,17 @@ pub fn nonempty_iter(alloc: Global) -> Result<u32, AllocError>
     let items = nev![alloc; 6, 8, 4]?;
     let greatest = items.nonempty_iter().copied().max();
     Ok(greatest)
+}
+
+/// One is added to each item. The number of items is proved, and their values are only run.
+pub fn nonempty_iter_mut(alloc: Global) -> Result<NEVec<u32>, AllocError>
+    ensures { IfOk result (λ v. length v ≡ 4) }
+{
+    let mut items = nev![alloc; 1u32, 2, 3, 4]?;
+    for x in items.nonempty_iter_mut() {
+        *x = x.wrapping_add(1);
+    }
+    Ok(items)
 }
 
 /// The items are reversed.
@@ -298,6 +343,13 @@ pub fn append(alloc: Global) -> Result<NEVec<u32>, AllocError>
     Ok(items)
 }
 
+/// The items of an array are added at the end. Its value is only run.
+pub fn extend(alloc: Global) -> Result<NEVec<u32>, AllocError> {
+    let mut items = nev![alloc; 1, 2, 3]?;
+    items.extend([4, 5, 6])?;
+    Ok(items)
+}
+
 /// The first and the last item of the vector as a slice.
 pub fn as_nonempty_slice(alloc: Global) -> Result<(u32, u32), AllocError>
     ensures { IfOk result (λ r. (r.0 ≡ 4) × (r.1 ≡ 8)) }
@@ -306,4 +358,12 @@ pub fn as_nonempty_slice(alloc: Global) -> Result<(u32, u32), AllocError>
     let slice = items.as_nonempty_slice();
     let (first, last) = (*slice.first(), *slice.last());
     Ok((first, last))
+}
+
+/// The lengths of the chunks of three items. Its value is only run.
+pub fn nonempty_chunks(alloc: Global) -> Result<NEVec<usize>, AllocError> {
+    let items = nev![alloc; 3, 1, 4, 1, 5, 9, 2, 6]?;
+    let size = NonZeroUsize::new(3).unwrap();
+    let chunks = items.nonempty_chunks(size);
+    Ok(chunks.map(|c| c.len().get()).collect(alloc)?)
 }
