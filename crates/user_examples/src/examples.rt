@@ -1,7 +1,4 @@
-//! Worked examples: a call, and the exact values that it returns.
-//!
-//! The examples in the library's comments take their values from these functions, from those of the
-//! other users' crates and the tests, and from the stored runs.
+//! Worked examples beside those of the comments: a call, and the exact values that it returns.
 ghost use Rattle.std.specs.Prelude.{
   ◌≡◌,
   ◌<◌,

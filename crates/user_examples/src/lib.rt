@@ -1,6 +1,6 @@
 //! Worked examples, as users of the library write them: the examples in the comments of `ne_vec`,
-//! `ne_iter`, `ne_products` and `ne_laws`, with the values that they return, other calls with their
-//! values, chains of several adapters, and a queue of jobs over a vector.
+//! `ne_iter` and `ne_products` with what is proved of their values, other calls with theirs, chains
+//! of several adapters, and a queue of jobs over a vector.
 //!
 //! Their contracts are proved from the public contracts of the methods that they call. Whole
 //! programs are crates of their own: `user_queries`, `user_report`, `user_schedule` and
