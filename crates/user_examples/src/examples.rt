@@ -1,7 +1,4 @@
-//! Worked examples: a call, and the exact values that it returns.
-//!
-//! The examples in the library's comments take their values from these functions, from those of the
-//! other users' crates and the tests, and from the stored runs.
+//! Worked examples beside those of the comments: a call, and the exact values that it returns.
 ghost use Rattle.std.specs.Prelude.{
   ◌≡◌,
   ◌<◌,
@@ -16,11 +13,8 @@ ghost use Rattle.std.specs.Prelude.{
   All,
   IfOk,
   Some,
-  None,
   Ok,
   true,
-  false,
-  codes,
   from_bits,
   length,
   ltb,
@@ -52,58 +46,11 @@ use std::num::NonZeroUsize;
 
 // Making a vector.
 
-/// Makes a vector of three items with `nev!`, and returns it as a vector that may be empty.
-pub fn three_items(alloc: Global) -> Result<Vec<u32>, AllocError>
-    ensures { IfOk result (λ v. v.items ≡ 7 ∷ 5 ∷ 9 ∷ []) }
-{
-    nev![alloc; 7, 5, 9]?.into_iter().collect(alloc)
-}
-
-/// Makes a vector of one item with `nev!`.
-pub fn one_item(alloc: Global) -> Result<Vec<u32>, AllocError>
-    ensures { IfOk result (λ v. v.items ≡ 7 ∷ []) }
-{
-    nev![alloc; 7]?.into_iter().collect(alloc)
-}
-
-/// Makes a vector of a repeated item with `nev!`.
-pub fn repeated(alloc: Global) -> Result<Vec<u32>, AllocError>
-    ensures { IfOk result (λ v. v.items ≡ 7 ∷ 7 ∷ 7 ∷ 7 ∷ []) }
-{
-    nev![alloc; 7; 4]?.into_iter().collect(alloc)
-}
-
-/// Calls `from_elem`.
-pub fn from_elem(alloc: Global) -> Result<NEVec<u32>, AllocError>
-    ensures { IfOk result (λ v. v ≡ 7 ∷ 7 ∷ []) }
-{
-    let n = NonZeroUsize::new(2).unwrap();
-    NEVec::from_elem(alloc, 7, n)
-}
-
 /// Calls `singleton`.
 pub fn singleton(alloc: Global) -> Result<NEVec<u32>, AllocError>
     ensures { IfOk result (λ v. v ≡ 8 ∷ []) }
 {
     NEVec::singleton(alloc, 8)
-}
-
-/// Calls `try_from_slice` with a slice that has items and with the empty one.
-pub fn try_from_slice(alloc: Global) -> Result<(Option<NEVec<u32>>, Option<NEVec<u32>>), AllocError>
-    ensures { IfOk result (λ r. (r.0 ≡ Some (4 ∷ 6 ∷ 8 ∷ [])) × (r.1 ≡ None)) }
-{
-    let some = NEVec::try_from_slice(alloc, &[4, 6, 8])?;
-    let none = NEVec::try_from_slice(alloc, &[])?;
-    Ok((some, none))
-}
-
-/// Calls `try_from_vec` with a vector that has items and with the empty one.
-pub fn try_from_vec(alloc: Global) -> Result<(Option<NEVec<u32>>, Option<NEVec<u32>>), AllocError>
-    ensures { IfOk result (λ r. (r.0 ≡ Some (4 ∷ 6 ∷ 8 ∷ [])) × (r.1 ≡ None)) }
-{
-    let some = NEVec::try_from_vec(vec![in alloc; 4, 6, 8]?);
-    let none = NEVec::try_from_vec(Vec::new(alloc));
-    Ok((some, none))
 }
 
 /// Converts a vector to std's and back.
@@ -115,147 +62,7 @@ pub fn there_and_back(alloc: Global) -> Result<Option<NEVec<u32>>, AllocError>
     Ok(NEVec::try_from_vec(vec))
 }
 
-// Reading a vector.
-
-/// Calls `first` and `last` for texts.
-pub fn ends_of_texts(alloc: Global) -> Result<(&'static str, &'static str), AllocError>
-    ensures { IfOk result (λ r.
-        (r.0.now ≡ 195 ∷ 150 ∷ codes "sterreich") × (r.1.now ≡ codes "Italia")) }
-{
-    let names = nev![alloc; "Österreich", "Schweiz", "Italia"]?;
-    Ok((*names.first(), *names.last()))
-}
-
-/// Calls `first` and `last` for a slice.
-pub fn ends_of_a_slice(alloc: Global) -> Result<(u32, u32), AllocError>
-    ensures { IfOk result (λ r. (r.0 ≡ 4) × (r.1 ≡ 8)) }
-{
-    let items = nev![alloc; 4, 6, 8]?;
-    let slice = items.as_nonempty_slice();
-    Ok((*slice.first(), *slice.last()))
-}
-
-/// Reads items by their indices.
-pub fn by_place(alloc: Global) -> Result<(u32, u32, u32), AllocError>
-    ensures { IfOk result (λ r. (r.0 ≡ 4) × (r.1 ≡ 6) × (r.2 ≡ 9)) }
-{
-    let items = nev![alloc; 4, 6, 8, 9]?;
-    Ok((items[0], items[1], items[3]))
-}
-
-/// Calls `contains` with an item that is there and with one that isn't.
-pub fn contains(alloc: Global) -> Result<(bool, bool), AllocError>
-    ensures { IfOk result (λ r. (r.0 ≡ true) × (r.1 ≡ false)) }
-{
-    let items = nev![alloc; 4, 6, 8]?;
-    Ok((items.contains(&6), items.contains(&7)))
-}
-
-/// Calls `split_first` for several items and for one.
-pub fn split_first(alloc: Global) -> Result<(), AllocError> {
-    let several = nev![alloc; 4, 6, 8]?;
-    let (first, rest) = several.split_first();
-    prove!(*first == 4);
-    prove!(rest == [6, 8].as_slice());
-    let one = nev![alloc; 4]?;
-    let (first, rest) = one.split_first();
-    prove!(*first == 4);
-    prove!(rest.is_empty());
-    Ok(())
-}
-
-/// Calls `split` for several items and for one.
-pub fn split(alloc: Global) -> Result<(), AllocError> {
-    let several = nev![alloc; 4, 6, 8, 9]?;
-    let (first, middle, last) = several.split();
-    prove!(*first == 4);
-    prove!(middle == [6, 8].as_slice());
-    prove!(*last == 9);
-    let one = nev![alloc; 4]?;
-    let (first, middle, last) = one.split();
-    prove!(*first == 4);
-    prove!(middle.is_empty());
-    prove!(*last == 4);
-    Ok(())
-}
-
 // Editing a vector.
-
-/// Changes the first item through a mutable reference.
-pub fn first_mut(alloc: Global) -> Result<NEVec<u32>, AllocError>
-    ensures { IfOk result (λ v. v ≡ 40 ∷ 6 ∷ 8 ∷ []) }
-{
-    let mut items = nev![alloc; 4, 6, 8]?;
-    *items.first_mut() *= 10;
-    Ok(items)
-}
-
-/// Calls `push`, and then `first` and `last`.
-pub fn push_and_last(alloc: Global) -> Result<(u32, u32), AllocError>
-    ensures { IfOk result (λ r. (r.0 ≡ 4) × (r.1 ≡ 9)) }
-{
-    let mut items = nev![alloc; 4, 6, 8]?;
-    items.push(9)?;
-    Ok((*items.first(), *items.last()))
-}
-
-/// Calls `pop` for the second item, and for the only one left.
-pub fn pop(alloc: Global) -> Result<(Option<u32>, Option<u32>), AllocError>
-    ensures { IfOk result (λ r. (r.0 ≡ Some 6) × (r.1 ≡ None)) }
-{
-    let mut items = nev![alloc; 4, 6]?;
-    let popped = items.pop();
-    let none = items.pop();
-    Ok((popped, none))
-}
-
-/// Calls `remove`.
-pub fn remove(alloc: Global) -> Result<(Option<u32>, NEVec<u32>), AllocError>
-    ensures { IfOk result (λ r. (r.0 ≡ Some 4) × (r.1 ≡ 6 ∷ 8 ∷ [])) }
-{
-    let mut items = nev![alloc; 4, 6, 8]?;
-    let removed = items.remove(0);
-    Ok((removed, items))
-}
-
-/// Calls `swap_remove`.
-pub fn swap_remove(alloc: Global) -> Result<(Option<u32>, NEVec<u32>), AllocError>
-    ensures { IfOk result (λ r. (r.0 ≡ Some 4) × (r.1 ≡ 9 ∷ 6 ∷ 8 ∷ [])) }
-{
-    let mut items = nev![alloc; 4, 6, 8, 9]?;
-    let removed = items.swap_remove(0);
-    Ok((removed, items))
-}
-
-/// Calls `insert` at three indices.
-pub fn insert(alloc: Global) -> Result<NEVec<u32>, AllocError>
-    ensures { IfOk result (λ v. v ≡ 1 ∷ 4 ∷ 2 ∷ 6 ∷ 3 ∷ []) }
-{
-    let mut items = nev![alloc; 4, 6]?;
-    items.insert(2, 3)?;
-    items.insert(1, 2)?;
-    items.insert(0, 1)?;
-    Ok(items)
-}
-
-/// Calls `append`.
-pub fn append(alloc: Global) -> Result<NEVec<u32>, AllocError>
-    ensures { IfOk result (λ v. v ≡ 4 ∷ 6 ∷ 8 ∷ []) }
-{
-    let mut items = nev![alloc; 4]?;
-    let mut others = vec![in alloc; 6, 8]?;
-    items.append(&mut others)?;
-    Ok(items)
-}
-
-/// Calls `reverse`.
-pub fn reverse(alloc: Global) -> Result<NEVec<u32>, AllocError>
-    ensures { IfOk result (λ v. v ≡ 8 ∷ 6 ∷ 4 ∷ []) }
-{
-    let mut items = nev![alloc; 4, 6, 8]?;
-    items.reverse();
-    Ok(items)
-}
 
 /// Returns the even items, or the empty vector if none is even.
 pub fn even(items: NEVec<u32>) -> Result<NEVec<u32>, Vec<u32>>
@@ -271,39 +78,6 @@ pub fn retain(alloc: Global) -> Result<Result<NEVec<u32>, Vec<u32>>, AllocError>
     ensures { IfOk result (λ r. r ≡ Ok (4 ∷ 6 ∷ [])) }
 {
     Ok(even(nev![alloc; 4, 5, 6, 7]?))
-}
-
-/// Keeps the numbers below 6, and adds one to each, with `retain_mut`.
-pub fn retain_mut(alloc: Global) -> Result<Result<NEVec<u32>, Vec<u32>>, AllocError>
-    ensures { IfOk result (λ r. r ≡ Ok (5 ∷ 6 ∷ [])) }
-{
-    let items = nev![alloc; 4, 5, 6, 7]?;
-    Ok(items.retain_mut(|x| {
-        if *x < 6 {
-            *x += 1;
-            true
-        } else {
-            false
-        }
-    }))
-}
-
-/// Calls `dedup_by_key` with the tens as keys.
-pub fn dedup_by_key(alloc: Global) -> Result<NEVec<u32>, AllocError>
-    ensures { IfOk result (λ v. v ≡ 41 ∷ 60 ∷ 40 ∷ []) }
-{
-    let mut items = nev![alloc; 41, 43, 60, 69, 40]?;
-    items.dedup_by_key(|x| *x / 10);
-    Ok(items)
-}
-
-/// Calls `dedup_by`: an item is dropped if it is less than the last one kept.
-pub fn dedup_by(alloc: Global) -> Result<NEVec<u32>, AllocError>
-    ensures { IfOk result (λ v. v ≡ 4 ∷ 6 ∷ []) }
-{
-    let mut items = nev![alloc; 4, 6, 5, 3]?;
-    items.dedup_by(|later, kept| *later < *kept);
-    Ok(items)
 }
 
 // Searching a vector.
@@ -335,68 +109,12 @@ pub fn chunks(alloc: Global) -> Result<(), AllocError> {
     Ok(())
 }
 
-/// Calls `next`, and then std's iterator over the rest.
-pub fn next(alloc: Global) -> Result<(u32, Option<u32>, Option<u32>), AllocError>
-    ensures { IfOk result (λ r. (r.0 ≡ 4) × (r.1 ≡ Some 6) × (r.2 ≡ None)) }
-{
-    let items = nev![alloc; 4, 6]?;
-    let (first, mut rest) = items.nonempty_iter().next();
-    let second = rest.next().copied();
-    let end = rest.next().copied();
-    Ok((*first, second, end))
-}
-
-/// Calls `collect`.
-pub fn collect(alloc: Global) -> Result<NEVec<u32>, AllocError>
-    ensures { IfOk result (λ v. v ≡ 4 ∷ 6 ∷ 8 ∷ []) }
-{
-    nev![alloc; 4, 6, 8]?.into_nonempty_iter().collect(alloc)
-}
-
-/// Calls `copied`.
-pub fn copied(alloc: Global) -> Result<NEVec<u32>, AllocError>
-    ensures { IfOk result (λ v. v ≡ 4 ∷ 6 ∷ 8 ∷ []) }
-{
-    let items = nev![alloc; 4, 6, 8]?;
-    items.nonempty_iter().copied().collect(alloc)
-}
-
-/// Calls `map`.
-pub fn mapped(alloc: Global) -> Result<NEVec<u32>, AllocError>
-    ensures { IfOk result (λ v. v ≡ 5 ∷ 7 ∷ 9 ∷ []) }
-{
-    nev![alloc; 4, 6, 8]?
-        .into_nonempty_iter()
-        .map(|x: u32| x.wrapping_add(1))
-        .collect(alloc)
-}
-
 /// Returns twice each item, which must fit in a `u32`.
 pub fn doubled(alloc: Global, items: &NEVec<u32>) -> Result<NEVec<u32>, AllocError>
     requires { All (λ x. x < 2 ^ 31) items.now }
     ensures { IfOk result (λ v. v ≡ map (λ x. x * 2) items.now) }
 {
     items.nonempty_iter().map(|x| *x * 2).collect(alloc)
-}
-
-/// Calls `chain`.
-pub fn chained(alloc: Global) -> Result<NEVec<u32>, AllocError>
-    ensures { IfOk result (λ v. v ≡ 4 ∷ 6 ∷ 8 ∷ 9 ∷ []) }
-{
-    let items = nev![alloc; 4, 6]?;
-    let others = nev![alloc; 8, 9]?;
-    items.into_nonempty_iter().chain(others).collect(alloc)
-}
-
-/// Calls `take`.
-pub fn taken(alloc: Global) -> Result<NEVec<u32>, AllocError>
-    ensures { IfOk result (λ v. v ≡ 4 ∷ 6 ∷ []) }
-{
-    let n = NonZeroUsize::new(2).unwrap();
-    nev![alloc; 4, 6, 8]?
-        .into_nonempty_iter()
-        .take(n)
-        .collect(alloc)
 }
 
 /// Returns the items that are divisible by 4.
@@ -414,39 +132,6 @@ pub fn filtered(alloc: Global) -> Result<Vec<u32>, AllocError>
     ensures { IfOk result (λ v. v.items ≡ 4 ∷ 8 ∷ []) }
 {
     by_fours(alloc, nev![alloc; 4, 6, 8]?)
-}
-
-/// Calls `peekable`.
-pub fn peeked(alloc: Global) -> Result<u32, AllocError>
-    ensures { IfOk result (λ x. x ≡ 4) }
-{
-    let walk = nev![alloc; 4, 6, 8]?.into_nonempty_iter().peekable();
-    Ok(*walk.peek())
-}
-
-/// Calls `all` and `any`.
-pub fn all_and_any(alloc: Global) -> Result<(bool, bool), AllocError>
-    ensures { IfOk result (λ r. (r.0 ≡ true) × (r.1 ≡ false)) }
-{
-    let items = nev![alloc; 4, 6, 8]?;
-    let all = items.nonempty_iter().all(|x| *x % 2 == 0);
-    let any = items.nonempty_iter().any(|x| *x % 5 == 0);
-    Ok((all, any))
-}
-
-/// Calls `count`.
-pub fn counted(alloc: Global) -> Result<usize, AllocError>
-    ensures { IfOk result (λ n. n ≡ 3) }
-{
-    let items = nev![alloc; 4, 6, 8]?;
-    Ok(items.nonempty_iter().count().get())
-}
-
-/// Calls `sum`.
-pub fn summed(alloc: Global) -> Result<u32, AllocError>
-    ensures { IfOk result (λ n. n ≡ 18) }
-{
-    Ok(nev![alloc; 4, 6, 8]?.into_nonempty_iter().sum())
 }
 
 /// Returns the greatest item.
@@ -489,31 +174,7 @@ pub fn folded(alloc: Global) -> Result<u32, AllocError>
     Ok(number_of_digits(nev![alloc; 4, 6, 8]?))
 }
 
-/// Calls `nth`.
-pub fn nth(alloc: Global) -> Result<(Option<u32>, Option<u32>), AllocError>
-    ensures { IfOk result (λ r. (r.0 ≡ Some 8) × (r.1 ≡ None)) }
-{
-    let items = nev![alloc; 4, 6, 8]?;
-    let third = items.nonempty_iter().copied().nth(2);
-    let fourth = items.nonempty_iter().copied().nth(3);
-    Ok((third, fourth))
-}
-
 // Arrays, and any iterator.
-
-/// Calls `into_nonempty_vec` of an array.
-pub fn array_into_vec(alloc: Global) -> Result<NEVec<u32>, AllocError>
-    ensures { IfOk result (λ v. v ≡ 4 ∷ 6 ∷ []) }
-{
-    [4, 6].into_nonempty_vec(alloc)
-}
-
-/// Returns the length of an array.
-pub fn array_len() -> usize
-    ensures { result ≡ 2 }
-{
-    [4u32, 6].nonzero_len().get()
-}
 
 /// Calls `try_into_nonempty_iter` of a vector with an item.
 pub fn looked(alloc: Global) -> Result<bool, AllocError>

@@ -1,0 +1,369 @@
+//! The examples of the vector.
+ghost use Rattle.std.specs.Prelude.{
+  ◌≡◌,
+  ◌/◌,
+  ◌%◌,
+  ◌==◌,
+  ◌∷◌,
+  [],
+  List,
+  ℕ,
+  IfOk,
+  MatchResult,
+  None,
+  Ok,
+  Some,
+  codes,
+  true,
+  false,
+  length,
+  filter,
+  map,
+};
+
+use nonempty_collections::{NESlice, NEVec, NonEmptyIterator, nev};
+use std::alloc::{AllocError, Global};
+use std::num::NonZeroUsize;
+
+/// The first and the last item of a vector, after a `push`.
+pub fn ends(alloc: Global) -> Result<(u32, u32), AllocError>
+    ensures { IfOk result (λ r. (r.0 ≡ 4) × (r.1 ≡ 9)) }
+{
+    let mut items = nev![alloc; 4, 6, 8]?;
+    items.push(9)?;
+    let (first, last) = (*items.first(), *items.last());
+    Ok((first, last))
+}
+
+/// A vector of one item.
+pub fn new(alloc: Global) -> Result<NEVec<u32>, AllocError>
+    ensures { IfOk result (λ v. v ≡ 7 ∷ []) }
+{
+    let items = NEVec::new(alloc, 7)?;
+    Ok(items)
+}
+
+/// A vector of a repeated item.
+pub fn from_elem(alloc: Global) -> Result<NEVec<u32>, AllocError>
+    ensures { IfOk result (λ v. v ≡ 7 ∷ 7 ∷ []) }
+{
+    let n = NonZeroUsize::new(2).unwrap();
+    let items = NEVec::from_elem(alloc, 7, n)?;
+    Ok(items)
+}
+
+/// A vector of one item, with room for more.
+pub fn with_capacity(alloc: Global) -> Result<NEVec<u32>, AllocError>
+    ensures { IfOk result (λ v. v ≡ 1 ∷ []) }
+{
+    let capacity = NonZeroUsize::new(5).unwrap();
+    let items = NEVec::with_capacity(alloc, capacity, 1)?;
+    Ok(items)
+}
+
+/// A vector of a first item and others.
+pub fn from_parts(alloc: Global) -> Result<NEVec<u32>, AllocError>
+    ensures { IfOk result (λ v. v ≡ 1 ∷ 2 ∷ 3 ∷ 4 ∷ 5 ∷ []) }
+{
+    let items = NEVec::from_parts(1, vec![in alloc; 2, 3, 4, 5]?)?;
+    Ok(items)
+}
+
+/// The first of several texts.
+pub fn first(alloc: Global) -> Result<&'static str, AllocError>
+    ensures { IfOk result (λ first. first.now ≡ 195 ∷ 150 ∷ codes "sterreich") }
+{
+    let names = nev![alloc; "Österreich", "Schweiz", "Italia"]?;
+    let first = *names.first();
+    Ok(first)
+}
+
+/// The first item is changed.
+pub fn first_mut(alloc: Global) -> Result<NEVec<u32>, AllocError>
+    ensures { IfOk result (λ v. v ≡ 40 ∷ 6 ∷ 8 ∷ []) }
+{
+    let mut items = nev![alloc; 4, 6, 8]?;
+    *items.first_mut() *= 10;
+    Ok(items)
+}
+
+/// An item is added at the end.
+pub fn push(alloc: Global) -> Result<NEVec<u32>, AllocError>
+    ensures { IfOk result (λ v. v ≡ 7 ∷ 8 ∷ []) }
+{
+    let mut items = NEVec::new(alloc, 7)?;
+    items.push(8)?;
+    Ok(items)
+}
+
+/// The last item is taken, and the only one is not.
+pub fn pop(alloc: Global) -> Result<(Option<u32>, Option<u32>), AllocError>
+    ensures { IfOk result (λ r. (r.0 ≡ Some 6) × (r.1 ≡ None)) }
+{
+    let mut items = nev![alloc; 4, 6]?;
+    let popped = items.pop();
+    let none = items.pop();
+    Ok((popped, none))
+}
+
+/// An item is removed by its index, and the others keep their order.
+pub fn remove(alloc: Global) -> Result<(Option<u32>, NEVec<u32>), AllocError>
+    ensures { IfOk result (λ r. (r.0 ≡ Some 4) × (r.1 ≡ 6 ∷ 8 ∷ [])) }
+{
+    let mut items = nev![alloc; 4, 6, 8]?;
+    let removed = items.remove(0);
+    Ok((removed, items))
+}
+
+/// An item is removed by its index, and the last one takes its place.
+pub fn swap_remove(alloc: Global) -> Result<(Option<u32>, NEVec<u32>), AllocError>
+    ensures { IfOk result (λ r. (r.0 ≡ Some 4) × (r.1 ≡ 9 ∷ 6 ∷ 8 ∷ [])) }
+{
+    let mut items = nev![alloc; 4, 6, 8, 9]?;
+    let removed = items.swap_remove(0);
+    Ok((removed, items))
+}
+
+/// The even items stay, or there are none.
+pub fn retain(
+    alloc: Global,
+) -> Result<(Result<NEVec<u32>, Vec<u32>>, Result<NEVec<u32>, Vec<u32>>), AllocError>
+    ensures even { IfOk result (λ r. (xs : List ℕ) → xs ≡ 4 ∷ 5 ∷ 6 ∷ 7 ∷ []
+        → MatchResult r.0 (λ v. v ≡ filter (λ x. x % 2 == 0) xs)
+        (λ _. filter (λ x. x % 2 == 0) xs ≡ [])) }
+    ensures none { IfOk result (λ r. (xs : List ℕ) → xs ≡ 1 ∷ 3 ∷ []
+        → MatchResult r.1 (λ v. v ≡ filter (λ x. x % 2 == 0) xs) (λ none. none.items ≡ [])) }
+    ensures value { filter (λ x. x % 2 == 0) (4 ∷ 5 ∷ 6 ∷ 7 ∷ []) ≡ 4 ∷ 6 ∷ [] }
+    ensures no_value { filter (λ x. x % 2 == 0) (1 ∷ 3 ∷ []) ≡ [] }
+{
+    let even = nev![alloc; 4, 5, 6, 7]?.retain(|x| *x % 2 == 0);
+    let none = nev![alloc; 1, 3]?.retain(|x| *x % 2 == 0);
+    Ok((even, none))
+}
+
+/// The items are halved, and the even halves stay.
+pub fn retain_mut(alloc: Global) -> Result<Result<NEVec<u32>, Vec<u32>>, AllocError>
+    ensures { IfOk result (λ r. r ≡ Ok (0 ∷ 2 ∷ 0 ∷ 2 ∷ 4 ∷ [])) }
+{
+    let items = nev![alloc; 3, 1, 4, 1, 5, 9, 2, 6]?;
+    let even_halves = items.retain_mut(|x| {
+        *x /= 2;
+        *x % 2 == 0
+    });
+    Ok(even_halves)
+}
+
+/// Items are inserted at the end, in the middle and in front.
+pub fn insert(alloc: Global) -> Result<NEVec<u32>, AllocError>
+    ensures { IfOk result (λ v. v ≡ 1 ∷ 4 ∷ 2 ∷ 6 ∷ 3 ∷ []) }
+{
+    let mut items = nev![alloc; 4, 6]?;
+    items.insert(2, 3)?;
+    items.insert(1, 2)?;
+    items.insert(0, 1)?;
+    Ok(items)
+}
+
+/// The number of items.
+pub fn len(alloc: Global) -> Result<usize, AllocError>
+    ensures { IfOk result (λ len. len ≡ 8) }
+{
+    let len = nev![alloc; 3, 1, 4, 1, 5, 9, 2, 6]?.len().get();
+    Ok(len)
+}
+
+/// The last of several texts.
+pub fn last(alloc: Global) -> Result<&'static str, AllocError>
+    ensures { IfOk result (λ last. last.now ≡ codes "Italia") }
+{
+    let names = nev![alloc; "Österreich", "Schweiz", "Italia"]?;
+    let last = *names.last();
+    Ok(last)
+}
+
+/// The last item is changed.
+pub fn last_mut(alloc: Global) -> Result<NEVec<u32>, AllocError>
+    ensures { IfOk result (λ v. v ≡ 11 ∷ 20 ∷ 31 ∷ []) }
+{
+    let mut items = nev![alloc; 11, 20, 30]?;
+    *items.last_mut() = 31;
+    Ok(items)
+}
+
+/// An item that is there, and one that is not.
+pub fn contains(alloc: Global) -> Result<(bool, bool), AllocError>
+    ensures { IfOk result (λ r. (r.0 ≡ true) × (r.1 ≡ false)) }
+{
+    let items = nev![alloc; 4, 6, 8]?;
+    let (there, absent) = (items.contains(&6), items.contains(&7));
+    Ok((there, absent))
+}
+
+/// The item at an index, if there is one.
+pub fn get(alloc: Global) -> Result<(Option<u32>, Option<u32>), AllocError>
+    ensures { IfOk result (λ r. (r.0 ≡ Some 30) × (r.1 ≡ None)) }
+{
+    let items = nev![alloc; 10, 20, 30]?;
+    let (last, none) = (items.get(2), items.get(3));
+    Ok((last.copied(), none.copied()))
+}
+
+/// The item at an index is changed.
+pub fn get_mut(alloc: Global) -> Result<NEVec<u32>, AllocError>
+    ensures { IfOk result (λ v. v ≡ 11 ∷ 22 ∷ 31 ∷ []) }
+{
+    let mut items = nev![alloc; 11, 21, 31]?;
+    if let Some(item) = items.get_mut(1) {
+        *item = 22;
+    }
+    Ok(items)
+}
+
+/// The items are reversed as a slice.
+pub fn as_mut_slice(alloc: Global) -> Result<NEVec<u32>, AllocError>
+    ensures { IfOk result (λ v. v ≡ 31 ∷ 22 ∷ 11 ∷ []) }
+{
+    let mut items = nev![alloc; 11, 22, 31]?;
+    items.as_mut_slice().reverse();
+    Ok(items)
+}
+
+/// The halves of the items, by std's iterator.
+pub fn iter(alloc: Global) -> Result<Vec<u32>, AllocError>
+    ensures { IfOk result (λ halves. halves.items ≡ map (λ x. x / 2) (3 ∷ 4 ∷ 5 ∷ 6 ∷ [])) }
+{
+    let items = nev![alloc; 3, 4, 5, 6]?;
+    let halves: Vec<u32> = items.iter().map(|x| *x / 2).collect(alloc)?;
+    Ok(halves)
+}
+
+/// One is added to each item, by std's iterator. The number of items is proved, and their values
+/// are only run.
+pub fn iter_mut(alloc: Global) -> Result<NEVec<u32>, AllocError>
+    ensures { IfOk result (λ v. length v ≡ 4) }
+{
+    let mut items = nev![alloc; 0u32, 1, 2, 3]?;
+    for x in items.iter_mut() {
+        *x = x.wrapping_add(1);
+    }
+    Ok(items)
+}
+
+/// The greatest item.
+pub fn nonempty_iter(alloc: Global) -> Result<u32, AllocError>
+    ensures { IfOk result (λ greatest. greatest ≡ 8) }
+{
+    let items = nev![alloc; 6, 8, 4]?;
+    let greatest = items.nonempty_iter().copied().max();
+    Ok(greatest)
+}
+
+/// One is added to each item. The number of items is proved, and their values are only run.
+pub fn nonempty_iter_mut(alloc: Global) -> Result<NEVec<u32>, AllocError>
+    ensures { IfOk result (λ v. length v ≡ 4) }
+{
+    let mut items = nev![alloc; 1u32, 2, 3, 4]?;
+    for x in items.nonempty_iter_mut() {
+        *x = x.wrapping_add(1);
+    }
+    Ok(items)
+}
+
+/// The items are reversed.
+pub fn reverse(alloc: Global) -> Result<NEVec<u32>, AllocError>
+    ensures { IfOk result (λ v. v ≡ 8 ∷ 6 ∷ 4 ∷ []) }
+{
+    let mut items = nev![alloc; 4, 6, 8]?;
+    items.reverse();
+    Ok(items)
+}
+
+/// The first two items stay.
+pub fn truncate(alloc: Global) -> Result<NEVec<u32>, AllocError>
+    ensures { IfOk result (λ v. v ≡ 1 ∷ 2 ∷ []) }
+{
+    let mut items = nev![alloc; 1, 2, 3, 4, 5, 6]?;
+    items.truncate(NonZeroUsize::new(2).unwrap());
+    Ok(items)
+}
+
+/// The items of a slice, and none of an empty one.
+pub fn try_from_slice(alloc: Global) -> Result<(Option<NEVec<u32>>, Option<NEVec<u32>>), AllocError>
+    ensures { IfOk result (λ r. (r.0 ≡ Some (4 ∷ 6 ∷ 8 ∷ [])) × (r.1 ≡ None)) }
+{
+    let some = NEVec::try_from_slice(alloc, &[4, 6, 8])?;
+    let none: Option<NEVec<u32>> = NEVec::try_from_slice(alloc, &[])?;
+    Ok((some, none))
+}
+
+/// The items of std's vector, and none of an empty one.
+pub fn try_from_vec(alloc: Global) -> Result<(Option<NEVec<u32>>, Option<NEVec<u32>>), AllocError>
+    ensures { IfOk result (λ r. (r.0 ≡ Some (4 ∷ 6 ∷ 8 ∷ [])) × (r.1 ≡ None)) }
+{
+    let some = NEVec::try_from_vec(vec![in alloc; 4, 6, 8]?);
+    let none = NEVec::try_from_vec(Vec::<u32>::new(alloc));
+    Ok((some, none))
+}
+
+/// A clone has the same items.
+pub fn clone(alloc: Global) -> Result<NEVec<u32>, AllocError>
+    ensures { IfOk result (λ same. same ≡ 3 ∷ 1 ∷ 4 ∷ 1 ∷ 5 ∷ 9 ∷ 2 ∷ 6 ∷ []) }
+{
+    let items = nev![alloc; 3, 1, 4, 1, 5, 9, 2, 6]?;
+    let same = items.clone()?;
+    Ok(same)
+}
+
+/// The first item, and the others.
+pub fn split_first(alloc: Global) -> Result<(u32, Vec<u32>), AllocError>
+    ensures { IfOk result (λ r. (r.0 ≡ 4) × (r.1.items ≡ 6 ∷ 8 ∷ [])) }
+{
+    let items = nev![alloc; 4, 6, 8]?;
+    let (first, rest) = items.split_first();
+    Ok((*first, rest.to_vec(alloc)?))
+}
+
+/// The first item, those in the middle, and the last one.
+pub fn split(alloc: Global) -> Result<(u32, Vec<u32>, u32), AllocError>
+    ensures ends { IfOk result (λ r. (r.0 ≡ 4) × (r.2 ≡ 9)) }
+    ensures middle { IfOk result (λ r. r.1.items ≡ 6 ∷ 8 ∷ []) }
+{
+    let items = nev![alloc; 4, 6, 8, 9]?;
+    let (first, middle, last) = items.split();
+    Ok((*first, middle.to_vec(alloc)?, *last))
+}
+
+/// The items of another vector are moved to the end.
+pub fn append(alloc: Global) -> Result<NEVec<u32>, AllocError>
+    ensures { IfOk result (λ v. v ≡ 4 ∷ 6 ∷ 8 ∷ []) }
+{
+    let mut items = nev![alloc; 4]?;
+    let mut others = vec![in alloc; 6, 8]?;
+    items.append(&mut others)?;
+    Ok(items)
+}
+
+/// The items of an array are added at the end. Its value is only run.
+pub fn extend(alloc: Global) -> Result<NEVec<u32>, AllocError> {
+    let mut items = nev![alloc; 1, 2, 3]?;
+    items.extend([4, 5, 6])?;
+    Ok(items)
+}
+
+/// The first and the last item of the vector as a slice.
+pub fn as_nonempty_slice(alloc: Global) -> Result<(u32, u32), AllocError>
+    ensures { IfOk result (λ r. (r.0 ≡ 4) × (r.1 ≡ 8)) }
+{
+    let items = nev![alloc; 4, 6, 8]?;
+    let slice = items.as_nonempty_slice();
+    let (first, last) = (*slice.first(), *slice.last());
+    Ok((first, last))
+}
+
+/// The lengths of the chunks of three items. Its value is only run.
+pub fn nonempty_chunks(alloc: Global) -> Result<NEVec<usize>, AllocError> {
+    let items = nev![alloc; 3, 1, 4, 1, 5, 9, 2, 6]?;
+    let size = NonZeroUsize::new(3).unwrap();
+    let chunks = items.nonempty_chunks(size);
+    Ok(chunks.map(|c| c.len().get()).collect(alloc)?)
+}
