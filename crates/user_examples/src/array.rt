@@ -10,7 +10,7 @@ pub fn as_nonempty_slice(alloc: Global) -> Result<NEVec<u32>, AllocError>
 {
     let items = [1u32, 4, 1];
     let slice = items.as_nonempty_slice();
-    Ok(slice.nonempty_iter().copied().collect(alloc)?)
+    slice.nonempty_iter().copied().collect(alloc)
 }
 
 /// The number of items.

@@ -98,7 +98,7 @@ pub fn cloned(alloc: Global) -> Result<Result<NEVec<u32>, AllocError>, AllocErro
 {
     let items = nev![alloc; 1, 2]?;
     let clones = items.nonempty_iter().cloned();
-    Ok(clones.collect(alloc)?)
+    clones.collect(alloc)
 }
 
 /// The items in a vector.
@@ -132,7 +132,7 @@ pub fn enumerate(alloc: Global) -> Result<NEVec<(usize, char)>, AllocError>
     ensures { IfOk result (λ pairs. pairs ≡ (0, 97) ∷ (1, 98) ∷ []) }
 {
     let pairs = ['a', 'b'].into_nonempty_iter().enumerate();
-    Ok(pairs.collect(alloc)?)
+    pairs.collect(alloc)
 }
 
 /// The items that meet a test.
@@ -155,7 +155,7 @@ pub fn filter_map(alloc: Global) -> Result<Vec<u32>, AllocError>
 {
     let items = [2u32, 3, 4].into_nonempty_iter();
     let halves = items.filter_map(|x| (x % 2 == 0).then_some(x / 2));
-    Ok(halves.collect(alloc)?)
+    halves.collect(alloc)
 }
 
 /// The first item that meets a test.
@@ -185,7 +185,7 @@ pub fn flatten(alloc: Global) -> Result<NEVec<u32>, AllocError>
     let mut lists = NEVec::new(alloc, nev![alloc; 1, 2]?)?;
     lists.push(nev![alloc; 3]?)?;
     let items = lists.into_nonempty_iter().flatten();
-    Ok(items.collect(alloc)?)
+    items.collect(alloc)
 }
 
 /// The number that has the items as its digits.
@@ -219,7 +219,7 @@ pub fn intersperse(alloc: Global) -> Result<Result<NEVec<u32>, AllocError>, Allo
 {
     let halves = [4u32, 6].into_nonempty_iter().map(|x| x / 2);
     let items = halves.intersperse(0);
-    Ok(items.collect(alloc)?)
+    items.collect(alloc)
 }
 
 /// One more than each item.
@@ -293,7 +293,7 @@ pub fn sorted_by_key(alloc: Global) -> Result<NEVec<(usize, u32)>, AllocError>
         .into_nonempty_iter()
         .enumerate();
     let sorted = items.sorted_by_key(alloc, |x| x.1 / 2)?;
-    Ok(sorted.collect(alloc)?)
+    sorted.collect(alloc)
 }
 
 /// The item at an index, if there is one.
@@ -318,7 +318,7 @@ pub fn scan(alloc: Global) -> Result<NEVec<u32>, AllocError>
         *total
     };
     let sums = nev![alloc; 1, 2, 3]?.into_nonempty_iter().scan(0, add);
-    Ok(sums.collect(alloc)?)
+    sums.collect(alloc)
 }
 
 /// All items but the first two.
@@ -356,7 +356,7 @@ pub fn take(alloc: Global) -> Result<NEVec<u32>, AllocError>
 {
     let n = NonZeroUsize::new(2).unwrap();
     let items = nev![alloc; 4, 6, 8]?.into_nonempty_iter().take(n);
-    Ok(items.collect(alloc)?)
+    items.collect(alloc)
 }
 
 /// The items before the first one that does not meet a test.
@@ -383,7 +383,7 @@ pub fn product(alloc: Global) -> Result<u32, AllocError> {
 pub fn zip(alloc: Global) -> Result<NEVec<(u32, u32)>, AllocError> {
     let items = nev![alloc; 7u32, 7, 0, 12, 12, 35, 4294967295]?.into_nonempty_iter();
     let pairs = items.zip(nev![alloc; 7, 7, 0, 13]?);
-    Ok(pairs.collect(alloc)?)
+    pairs.collect(alloc)
 }
 
 /// The halves in one vector, and the items in another. Its value is only run.

@@ -11,7 +11,7 @@ pub fn cartesian_product(alloc: Global) -> Result<Result<NEVec<(u32, u32)>, Allo
     let (rows, columns) = (nev![alloc; 0, 1]?, nev![alloc; 7, 8]?);
     let columns = columns.nonempty_iter().copied();
     let pairs = rows.nonempty_iter().copied().cartesian_product(columns);
-    Ok(pairs.collect(alloc)?)
+    pairs.collect(alloc)
 }
 
 /// Whether no two items are equal. Its value is only run.

@@ -74,7 +74,7 @@ pub fn nonempty_chunks(alloc: Global) -> Result<NEVec<usize>, AllocError> {
     let items = nev![alloc; 3, 1, 4, 1, 5, 9, 2, 6]?;
     let (slice, size) = (items.as_nonempty_slice(), NonZeroUsize::new(3).unwrap());
     let chunks = slice.nonempty_chunks(size);
-    Ok(chunks.map(|c| c.len().get()).collect(alloc)?)
+    chunks.map(|c| c.len().get()).collect(alloc)
 }
 
 /// The lengths of the runs of items that are near their run's first item. Their items are only run.
@@ -85,7 +85,7 @@ pub fn runs_by(alloc: Global) -> Result<NEVec<usize>, AllocError>
     let items = nev![alloc; 1u32, 2, 3]?;
     let slice = items.as_nonempty_slice();
     let runs = slice.runs_by(|a, b| a.abs_diff(*b) < 2);
-    Ok(runs.map(|c| c.len().get()).collect(alloc)?)
+    runs.map(|c| c.len().get()).collect(alloc)
 }
 
 /// The lengths of the runs of items that are near the item before them. Its value is only run.
@@ -96,7 +96,7 @@ pub fn adjacent_runs(alloc: Global) -> Result<NEVec<usize>, AllocError>
     let items = nev![alloc; 1u32, 2, 3]?;
     let slice = items.as_nonempty_slice();
     let runs = slice.adjacent_runs(|a, b| a.abs_diff(*b) < 2);
-    Ok(runs.map(|c| c.len().get()).collect(alloc)?)
+    runs.map(|c| c.len().get()).collect(alloc)
 }
 
 /// An item by its index.

@@ -365,5 +365,5 @@ pub fn nonempty_chunks(alloc: Global) -> Result<NEVec<usize>, AllocError> {
     let items = nev![alloc; 3, 1, 4, 1, 5, 9, 2, 6]?;
     let size = NonZeroUsize::new(3).unwrap();
     let chunks = items.nonempty_chunks(size);
-    Ok(chunks.map(|c| c.len().get()).collect(alloc)?)
+    chunks.map(|c| c.len().get()).collect(alloc)
 }

@@ -80,7 +80,7 @@ pub fn iter(alloc: Global) -> Result<Vec<(u32, u32)>, AllocError>
 {
     let map = nem![alloc; 0 => 3, 2 => 1]?;
     let pairs = map.iter();
-    Ok(pairs.map(|(k, v)| (*k, *v)).collect(alloc)?)
+    pairs.map(|(k, v)| (*k, *v)).collect(alloc)
 }
 
 /// Writes each value through std's iterator, which keeps the number of keys.
@@ -103,7 +103,7 @@ pub fn nonempty_iter(alloc: Global) -> Result<NEVec<(u32, u32)>, AllocError>
 {
     let map = nem![alloc; 0 => 3, 2 => 1]?;
     let pairs = map.nonempty_iter();
-    Ok(pairs.map(|(k, v)| (*k, *v)).collect(alloc)?)
+    pairs.map(|(k, v)| (*k, *v)).collect(alloc)
 }
 
 /// Writes each value, which keeps the number of keys.
@@ -126,7 +126,7 @@ pub fn keys(alloc: Global) -> Result<NEVec<u32>, AllocError>
 {
     let map = nem![alloc; 0 => 3, 2 => 1]?;
     let keys = map.keys();
-    Ok(keys.copied().collect(alloc)?)
+    keys.copied().collect(alloc)
 }
 
 /// Counts the keys of a map that is written out with one of them twice.

@@ -43,7 +43,7 @@ pub fn iter(alloc: Global) -> Result<Vec<u32>, AllocError>
 {
     let set = nes![alloc; 10, 2, 8, 4]?;
     let items = set.iter();
-    Ok(items.copied().collect(alloc)?)
+    items.copied().collect(alloc)
 }
 
 /// Iterates over the items.
@@ -56,7 +56,7 @@ pub fn nonempty_iter(alloc: Global) -> Result<NEVec<u32>, AllocError>
 {
     let set = nes![alloc; 10, 2, 8, 4]?;
     let items = set.nonempty_iter();
-    Ok(items.copied().collect(alloc)?)
+    items.copied().collect(alloc)
 }
 
 /// Counts the items of a set that is written out with one of them twice.
@@ -151,7 +151,7 @@ pub fn intersection(alloc: Global) -> Result<Vec<u32>, AllocError>
 {
     let (a, b) = (nes![alloc; 0, 3]?, nes![alloc; 3, 1]?);
     let shared = a.intersection(&b);
-    Ok(shared.copied().collect(alloc)?)
+    shared.copied().collect(alloc)
 }
 
 /// Asks whether two sets that have an item in common have none.

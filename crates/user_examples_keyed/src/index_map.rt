@@ -27,7 +27,7 @@ pub fn iter(alloc: Global) -> Result<Vec<(u32, u32)>, AllocError>
 {
     let map = neim![alloc; 0 => 3, 2 => 1]?;
     let pairs = map.iter();
-    Ok(pairs.map(|(k, v)| (*k, *v)).collect(alloc)?)
+    pairs.map(|(k, v)| (*k, *v)).collect(alloc)
 }
 
 /// Iterates over the pairs.
@@ -36,7 +36,7 @@ pub fn nonempty_iter(alloc: Global) -> Result<NEVec<(u32, u32)>, AllocError>
 {
     let map = neim![alloc; 0 => 3, 2 => 1]?;
     let pairs = map.nonempty_iter();
-    Ok(pairs.map(|(k, v)| (*k, *v)).collect(alloc)?)
+    pairs.map(|(k, v)| (*k, *v)).collect(alloc)
 }
 
 /// Iterates over the keys.
@@ -45,7 +45,7 @@ pub fn keys(alloc: Global) -> Result<NEVec<u32>, AllocError>
 {
     let map = neim![alloc; 0 => 3, 2 => 1]?;
     let keys = map.keys();
-    Ok(keys.copied().collect(alloc)?)
+    keys.copied().collect(alloc)
 }
 
 /// Counts the keys of a map that is written out with one of them twice.
@@ -62,7 +62,7 @@ pub fn values(alloc: Global) -> Result<NEVec<u32>, AllocError>
 {
     let map = neim![alloc; 0 => 3, 2 => 1]?;
     let values = map.values();
-    Ok(values.copied().collect(alloc)?)
+    values.copied().collect(alloc)
 }
 
 /// Reads the first pair.

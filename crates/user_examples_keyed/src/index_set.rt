@@ -27,7 +27,7 @@ pub fn iter(alloc: Global) -> Result<Vec<u32>, AllocError>
 {
     let set = neis![alloc; 10, 2, 8, 4]?;
     let items = set.iter();
-    Ok(items.copied().collect(alloc)?)
+    items.copied().collect(alloc)
 }
 
 /// Iterates over the items.
@@ -36,7 +36,7 @@ pub fn nonempty_iter(alloc: Global) -> Result<NEVec<u32>, AllocError>
 {
     let set = neis![alloc; 10, 2, 8, 4]?;
     let items = set.nonempty_iter();
-    Ok(items.copied().collect(alloc)?)
+    items.copied().collect(alloc)
 }
 
 /// Counts the items of a set that is written out with one of them twice.
@@ -95,7 +95,7 @@ pub fn difference(alloc: Global) -> Result<Vec<u32>, AllocError>
 {
     let (a, b) = (neis![alloc; 2, 4, 6]?, neis![alloc; 6]?);
     let left = a.difference(&b);
-    Ok(left.copied().collect(alloc)?)
+    left.copied().collect(alloc)
 }
 
 /// Inserts an item twice.
@@ -116,7 +116,7 @@ pub fn intersection(alloc: Global) -> Result<Vec<u32>, AllocError>
 {
     let (a, b) = (neis![alloc; 0, 3]?, neis![alloc; 3, 1]?);
     let shared = a.intersection(&b);
-    Ok(shared.copied().collect(alloc)?)
+    shared.copied().collect(alloc)
 }
 
 /// Asks whether two sets that have an item in common have none.

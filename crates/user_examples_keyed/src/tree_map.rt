@@ -49,7 +49,7 @@ pub fn iter(alloc: Global) -> Result<Vec<(u32, u32)>, AllocError>
 {
     let map = nebtm![alloc; 0 => 3, 2 => 1]?;
     let pairs = map.iter();
-    Ok(pairs.map(|(k, v)| (*k, *v)).collect(alloc)?)
+    pairs.map(|(k, v)| (*k, *v)).collect(alloc)
 }
 
 /// Writes each value through std's iterator, which keeps the keys.
@@ -71,7 +71,7 @@ pub fn nonempty_iter(alloc: Global) -> Result<NEVec<(u32, u32)>, AllocError>
 {
     let map = nebtm![alloc; 0 => 3, 2 => 1]?;
     let pairs = map.nonempty_iter();
-    Ok(pairs.map(|(k, v)| (*k, *v)).collect(alloc)?)
+    pairs.map(|(k, v)| (*k, *v)).collect(alloc)
 }
 
 /// Writes each value, which keeps the keys.
@@ -93,7 +93,7 @@ pub fn keys(alloc: Global) -> Result<NEVec<u32>, AllocError>
 {
     let map = nebtm![alloc; 0 => 3, 2 => 1]?;
     let keys = map.keys();
-    Ok(keys.copied().collect(alloc)?)
+    keys.copied().collect(alloc)
 }
 
 /// Counts the keys of a map that is written out with one of them twice.
@@ -110,7 +110,7 @@ pub fn values(alloc: Global) -> Result<NEVec<u32>, AllocError>
 {
     let map = nebtm![alloc; 0 => 3, 2 => 1]?;
     let values = map.values();
-    Ok(values.copied().collect(alloc)?)
+    values.copied().collect(alloc)
 }
 
 /// Asks for a key that is there and for one that isn't.

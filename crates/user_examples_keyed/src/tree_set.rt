@@ -32,7 +32,7 @@ pub fn iter(alloc: Global) -> Result<Vec<u32>, AllocError>
 {
     let set = nebts![alloc; 10, 2, 8, 4]?;
     let items = set.iter();
-    Ok(items.copied().collect(alloc)?)
+    items.copied().collect(alloc)
 }
 
 /// Iterates over the items.
@@ -41,7 +41,7 @@ pub fn nonempty_iter(alloc: Global) -> Result<NEVec<u32>, AllocError>
 {
     let set = nebts![alloc; 10, 2, 8, 4]?;
     let items = set.nonempty_iter();
-    Ok(items.copied().collect(alloc)?)
+    items.copied().collect(alloc)
 }
 
 /// Counts the items of a set that is written out with one of them twice.
@@ -84,7 +84,7 @@ pub fn difference(alloc: Global) -> Result<Vec<u32>, AllocError>
 {
     let (a, b) = (nebts![alloc; 2, 4, 6]?, nebts![alloc; 6, 8, 10]?);
     let left = a.difference(&b);
-    Ok(left.copied().collect(alloc)?)
+    left.copied().collect(alloc)
 }
 
 /// Looks up an item that is there and one that isn't.
@@ -115,7 +115,7 @@ pub fn intersection(alloc: Global) -> Result<Vec<u32>, AllocError>
 {
     let (a, b) = (nebts![alloc; 1, 3, 2]?, nebts![alloc; 3, 5, 4]?);
     let shared = a.intersection(&b);
-    Ok(shared.copied().collect(alloc)?)
+    shared.copied().collect(alloc)
 }
 
 /// Asks whether two sets that have an item in common have none.
@@ -160,7 +160,7 @@ pub fn union(alloc: Global) -> Result<NEVec<u32>, AllocError>
 {
     let (a, b) = (nebts![alloc; 1, 3, 2]?, nebts![alloc; 3, 5, 4]?);
     let all = a.union(&b);
-    Ok(all.copied().collect(alloc)?)
+    all.copied().collect(alloc)
 }
 
 /// Inserts items, one of which is there.
