@@ -25,6 +25,7 @@ pub mod sides;
 pub mod slice;
 pub mod sort;
 pub mod sources;
+pub mod sums;
 pub mod texts;
 pub mod towers;
 pub mod traits;
