@@ -126,7 +126,7 @@ pub fn keys(alloc: Global) -> Result<NEVec<u32>, AllocError>
 {
     let map = nem![alloc; 0 => 3, 2 => 1]?;
     let keys = map.keys();
-    keys.copied().collect(alloc)
+    Ok(keys.copied().collect(alloc)?)
 }
 
 /// Counts the keys of a map that is written out with one of them twice.

@@ -95,7 +95,7 @@ pub fn difference(alloc: Global) -> Result<Vec<u32>, AllocError>
 {
     let (a, b) = (neis![alloc; 2, 4, 6]?, neis![alloc; 6]?);
     let left = a.difference(&b);
-    left.copied().collect(alloc)
+    Ok(left.copied().collect(alloc)?)
 }
 
 /// Inserts an item twice.
@@ -116,7 +116,7 @@ pub fn intersection(alloc: Global) -> Result<Vec<u32>, AllocError>
 {
     let (a, b) = (neis![alloc; 0, 3]?, neis![alloc; 3, 1]?);
     let shared = a.intersection(&b);
-    shared.copied().collect(alloc)
+    Ok(shared.copied().collect(alloc)?)
 }
 
 /// Asks whether two sets that have an item in common have none.
