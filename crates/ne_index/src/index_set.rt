@@ -312,7 +312,9 @@ impl<T: Eq + Hash, S: BuildHasher> NEIndexSet<T, S> {
     /// Returns whether every item of this set is in `other`.
     ///
     /// ```
-    /// let (a, b) = (neis![alloc; 2, 4, 6]?, neis![alloc; 2, 4, 6, 8]?);
+    /// let a = NEIndexSet::new(alloc, 4)?;
+    /// let mut b = NEIndexSet::new(alloc, 2)?;
+    /// b.insert(4)?;
     /// let subset = a.is_subset(&b); // true
     /// ```
     pub fn is_subset(&self, other: &NEIndexSet<T, S>) -> bool
@@ -324,7 +326,9 @@ impl<T: Eq + Hash, S: BuildHasher> NEIndexSet<T, S> {
     /// Returns whether every item of `other` is in this set.
     ///
     /// ```
-    /// let (a, b) = (neis![alloc; 2, 4, 6]?, neis![alloc; 6, 4]?);
+    /// let mut a = NEIndexSet::new(alloc, 2)?;
+    /// a.insert(4)?;
+    /// let b = NEIndexSet::new(alloc, 4)?;
     /// let superset = a.is_superset(&b); // true
     /// ```
     pub fn is_superset(&self, other: &NEIndexSet<T, S>) -> bool

@@ -11,6 +11,7 @@
 
 pub mod array;
 pub mod iter;
+mod keys;
 pub mod laws;
 mod slice;
 mod vector;

@@ -6,14 +6,14 @@ use Rattle.std.specs.Cmp.{IsEquivalence}
 use Rattle.std.specs.Iterator.{Yields}
 use Rattle.std.specs.List.{AllByRecursion, IsDistinct}
 use Rattle.std.specs.Prelude.{◌≡◌, ◌↔◌, refl, Bool, true, false, not, cond, List, [], ◌∷◌, ◌++◌}
-use Rattle.std.specs.Prelude.{◌||◌, IsTrue, Option, Some}
+use Rattle.std.specs.Prelude.{◌||◌, ◌&&◌, IsTrue, Option, Some}
 use Rattle.std.specs.Set.{is_member}
 use Rattle.ne_vec.specs.Fronts.{Lists}
 use Rattle.ne_vec.specs.FrontLaws.{marked}
 use Rattle.ne_iter.specs.Gives.{GivesList}
 use Rattle.ne_iter.specs.SourceLists.{EachList}
 use Rattle.ne_iter.specs.Sources.{Reads}
-use Rattle.ne_products.specs.Unique.{TellsUnique}
+use Rattle.ne_products.specs.Unique.{are_unique, TellsDistinct, TellsUnique}
 use Rattle.ne_products.proofs.ProductLists.{lists_read}
 
 pub was_there : (b n : Bool) → n ≡ not b → n ≡ false → b ≡ true
@@ -46,6 +46,45 @@ Reads-up_to {steps = steps} it xs t x u made run last =
       made = made;
       given = (u, yields_more steps xs x it t u run last, λ w. absurd (true≢false (sym w)));
     }
+
+or_false : (a b : Bool) → (a || b) ≡ false → (a ≡ false) × (b ≡ false)
+or_false true b h = let h = h in search rules
+or_false false b h = (refl, h)
+
+and_true : (a b : Bool) → (not a && b) ≡ true → (a ≡ false) × (b ≡ true)
+and_true true b h = let h = h in search rules
+and_true false b h = (refl, h)
+
+module _ {K : Type 0} (eq : K → K → Bool) where
+  none_after : (x : K) (ys : List K) → is_member eq ys x ≡ false
+      → AllByRecursion (λ y. eq x y ≡ false) ys
+  none_after x [] h = tt
+  none_after x (y ∷ ys) h = let b = or_false (eq x y) _ h in (b.0, none_after x ys b.1)
+
+  not_after : (x : K) (ys : List K) → AllByRecursion (λ y. eq x y ≡ false) ys
+      → is_member eq ys x ≡ false
+  not_after x [] h = refl
+  not_after x (y ∷ ys) h = rw h.0 (not_after x ys h.1)
+
+  distinct_from : (xs : List K) → are_unique eq xs ≡ true → IsDistinct eq xs
+  unfolding IsDistinct
+  distinct_from [] h = tt
+  distinct_from (x ∷ xs) h =
+      let b = and_true _ _ h in (none_after x xs b.0, distinct_from xs b.1)
+
+  unique_from : (xs : List K) → IsDistinct eq xs → are_unique eq xs ≡ true
+  unfolding IsDistinct
+  unique_from [] d = refl
+  unique_from (x ∷ xs) d = rw (not_after x xs d.0) (unique_from xs d.1)
+
+  computed : (xs : List K) (unique : Bool) → IsTrue unique ↔ IsDistinct eq xs
+      → unique ≡ are_unique eq xs
+  computed xs true h = sym (unique_from xs (h.0 (search rules)))
+  computed xs false h = at (are_unique eq xs) refl
+    where
+      at : (b : Bool) → are_unique eq xs ≡ b → false ≡ b
+      at true all = let no = h.1 (distinct_from xs all) in search rules
+      at false some = refl
 
 module _ {K : Type 0} {eq : K → K → Bool} (laws : IsEquivalence eq) where
   pub is_member-push : (xs : List K) (x q : K) (m : Bool) → m ≡ is_member eq xs q
@@ -86,7 +125,8 @@ module _ {K : Type 0} {eq : K → K → Bool} (laws : IsEquivalence eq) where
 
   pub tells_lists : {U S : Type 0} (becomes : U → S → Type 0) (steps : S → Option K → S → Type 0)
       (source : U) (unique : Bool) → TellsUnique (Reads becomes steps) eq source unique
-      → EachList (Lists becomes steps) source (λ xs. IsTrue unique ↔ IsDistinct eq xs)
+      → EachList (Lists becomes steps) source (λ xs. TellsDistinct eq xs unique)
   tells_lists becomes steps source unique told xs lists =
       let list = lists_read becomes steps source xs lists in
-      (marked source xs, tells_list (Reads becomes steps) source unique xs told list)
+      let distinct = tells_list (Reads becomes steps) source unique xs told list in
+      (marked source xs, (distinct, computed eq xs unique distinct))

@@ -1,5 +1,5 @@
 -- Whether the items of a source are distinct.
-use Rattle.std.specs.Prelude.{◌≡◌, Bool, true, false, List, [], ◌∷◌, ◌++◌}
+use Rattle.std.specs.Prelude.{◌≡◌, ◌↔◌, ◌&&◌, Bool, true, false, not, List, [], ◌∷◌, ◌++◌, IsTrue}
 use Rattle.std.specs.Bool.{MatchBool}
 use Rattle.std.specs.List.{IsDistinct}
 use Rattle.std.specs.Set.{is_member}
@@ -11,3 +11,13 @@ abbrev pub TellsUnique : {U A : Type 0} → (Bool → U → List A → Type 0) �
 TellsUnique {A = A} reads eq source result = (xs : List A) × IsDistinct eq xs
     × MatchBool result (reads true source xs)
     ((x : A) × reads false source (xs ++ x ∷ []) × (is_member eq xs x ≡ true))
+
+-- whether no item equals one after it
+abbrev pub are_unique : {A : Type 0} → (A → A → Bool) → List A → Bool
+are_unique eq [] = true
+are_unique eq (x ∷ xs) = not (is_member eq xs x) && are_unique eq xs
+
+-- `unique` tells whether no two of the items xs are equal: in std's words, and in a form that
+-- `grind` computes if the items are written out.
+abbrev pub TellsDistinct : {A : Type 0} → (A → A → Bool) → List A → Bool → Type 0
+TellsDistinct eq xs unique = (IsTrue unique ↔ IsDistinct eq xs) × (unique ≡ are_unique eq xs)

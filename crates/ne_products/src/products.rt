@@ -1,13 +1,12 @@
 //! Products of two non-empty iterators, and whether the items of one are distinct.
-ghost use Rattle.std.specs.Prelude.{◌≡◌, ◌↔◌, IfOk, IsTrue};
-ghost use Rattle.std.specs.List.{IsDistinct};
+ghost use Rattle.std.specs.Prelude.{◌≡◌, IfOk};
 ghost use Rattle.ne_iter.specs.SourceLists.{BecomesList, EachList};
 ghost use Rattle.ne_products.specs.Pairs.{CanRefuse};
 ghost use Rattle.ne_products.specs.Product.{product_first, product_second, restart_of, PairsItems};
 ghost use Rattle.ne_products.specs.Product.{PairsNext, TriesRestart};
 ghost use Rattle.ne_products.specs.Restarts.{ClonesAgain, HasExactClones, NeverRefuses};
 ghost use Rattle.ne_products.specs.Restarts.{PairsListed, PairsLists, ProductGives};
-ghost use Rattle.ne_products.specs.Unique.{TellsUnique};
+ghost use Rattle.ne_products.specs.Unique.{TellsDistinct, TellsUnique};
 
 use ne_iter::iter::SourceWords;
 use ne_iter::{IntoNonEmptyIterator, NonEmptyIterator};
@@ -98,7 +97,7 @@ pub trait NonEmptyItertools: NonEmptyIterator {
         ensures gives { IfOk result
             (TellsUnique (⟦<Self as SourceWords>⟧.reads) Self.Item.eq self) }
         ensures lists { IfOk result (λ unique. EachList (⟦<Self as SourceWords>⟧.lists) self (λ xs.
-            IsTrue unique ↔ IsDistinct Self.Item.eq xs)) }
+            TellsDistinct Self.Item.eq xs unique)) }
     {
         let mut seen = HashSet::new(alloc);
         for item in self {

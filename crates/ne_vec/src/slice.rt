@@ -144,9 +144,9 @@ impl<'a, T> NESlice<'a, T> {
     /// parts of the slice, so nothing is copied.
     ///
     /// ```
-    /// let items = nev![alloc; 3, 1, 4, 1, 5, 9, 2, 6]?;
-    /// let (slice, size) = (items.as_nonempty_slice(), NonZeroUsize::new(3).unwrap());
-    /// let chunks = slice.nonempty_chunks(size); // [3, 1, 4], [1, 5, 9] and [2, 6]
+    /// let items = nev![alloc; 3, 1, 4]?;
+    /// let (slice, size) = (items.as_nonempty_slice(), NonZeroUsize::new(2).unwrap());
+    /// let chunks = slice.nonempty_chunks(size); // [3, 1] and [4]
     /// ```
     pub fn nonempty_chunks(&'a self, chunk_size: NonZeroUsize) -> NEChunks<'a, T>
         ensures items { result ≡ chunks (non_zero_usize_get chunk_size) self.now }

@@ -701,9 +701,9 @@ impl<T> NEVec<T> {
     /// parts of the vector, so nothing is copied.
     ///
     /// ```
-    /// let items = nev![alloc; 3, 1, 4, 1, 5, 9, 2, 6]?;
-    /// let size = NonZeroUsize::new(3).unwrap();
-    /// let chunks = items.nonempty_chunks(size); // [3, 1, 4], [1, 5, 9] and [2, 6]
+    /// let items = nev![alloc; 3, 1, 4]?;
+    /// let size = NonZeroUsize::new(2).unwrap();
+    /// let chunks = items.nonempty_chunks(size); // [3, 1] and [4]
     /// ```
     pub fn nonempty_chunks(&self, chunk_size: NonZeroUsize) -> NEChunks<'_, T>
         ensures items { result ≡ chunks (non_zero_usize_get chunk_size) self.now }

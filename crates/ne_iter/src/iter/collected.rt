@@ -1,11 +1,11 @@
 //! Collecting: the trait [`FromNonEmptyIterator`], and the standard library's types that implement
-//! it: `()`, vectors and results here, texts and paths in `texts`, and maps and sets in `keys`.
+//! it: `()`, vectors and results here, texts and paths in `texts`, and maps and sets in the crate's
+//! module `keys`.
 ghost use Rattle.std.specs.Prelude.{Bool, true, List, IfOk};
 ghost use Rattle.std.specs.Iterator.{IsFiniteIterable};
 ghost use Rattle.std.specs.Result.{is_ok};
 ghost use Rattle.ne_iter.specs.Collected.{ResultsMake};
 
-mod keys;
 mod texts;
 
 use super::{IntoNonEmptyIterator, NonEmptyIterator, SourceWords};

@@ -664,8 +664,8 @@ pub trait NonEmptyIterator: IntoIterator {
     /// such item; std's `max_by_key` returns the last. `key` is called once for each item.
     ///
     /// ```
-    /// let items = nev![alloc; 3, 1, 4, 1, 5, 9, 2, 6]?.into_nonempty_iter().enumerate();
-    /// let greatest = items.max_by_key(|x| x.1 / 2); // (5, 9)
+    /// let items = nev![alloc; 4, 9, 2]?.into_nonempty_iter();
+    /// let greatest = items.max_by_key(|x| *x / 2); // 9
     /// ```
     final fn max_by_key<B: Ord + Drop, F: FnMut(&Self::Item) -> B>(self, key: F) -> Self::Item
     where
@@ -742,8 +742,8 @@ pub trait NonEmptyIterator: IntoIterator {
     /// such item. `key` is called once for each item.
     ///
     /// ```
-    /// let items = nev![alloc; 3, 1, 4, 1, 5, 9, 2, 6]?.into_nonempty_iter().enumerate();
-    /// let least = items.min_by_key(|x| x.1 / 2); // (1, 1)
+    /// let items = nev![alloc; 4, 9, 2]?.into_nonempty_iter();
+    /// let least = items.min_by_key(|x| *x / 2); // 2
     /// ```
     final fn min_by_key<B: Ord + Drop, F: FnMut(&Self::Item) -> B>(self, key: F) -> Self::Item
     where
@@ -993,8 +993,8 @@ pub trait NonEmptyIterator: IntoIterator {
     /// Returns the product of the items. No partial product may leave the range of `P`.
     ///
     /// ```
-    /// let items = nev![alloc; 3, 1, 4, 1, 5, 9, 2, 6]?.into_nonempty_iter().map(Wrapping);
-    /// let product: Wrapping<u32> = items.product(); // Wrapping(6480)
+    /// let items = nev![alloc; 4, 6]?.into_nonempty_iter().map(Wrapping);
+    /// let product: Wrapping<u32> = items.product(); // Wrapping(24)
     /// ```
     final fn product<P: Product<Self::Item>>(self) -> P
     where
@@ -1020,8 +1020,9 @@ pub trait NonEmptyIterator: IntoIterator {
     /// holds the iterators. Here it holds the two sources, and becomes std's iterator.
     ///
     /// ```
-    /// let items = nev![alloc; 7u32, 7, 0, 12, 12, 35, 4294967295]?.into_nonempty_iter();
-    /// let pairs = items.zip(nev![alloc; 7, 7, 0, 13]?); // (7, 7), (7, 7), (0, 0) and (12, 13)
+    /// let (items, others) = (nev![alloc; 7, 8, 9]?, nev![alloc; 1, 2]?);
+    /// let items = items.nonempty_iter().copied();
+    /// let pairs = items.zip(others.nonempty_iter().copied()); // (7, 1) and (8, 2)
     /// ```
     final fn zip<U: IntoNonEmptyIterator>(self, other: U) -> Zip<Self, U>
     where
@@ -1084,7 +1085,7 @@ pub trait NonEmptyIterator: IntoIterator {
     /// the next item, and returns the new value.
     ///
     /// ```
-    /// let digits = [1u32, 2, 3].into_nonempty_iter();
+    /// let digits = nev![alloc; 1u32, 2, 3]?.into_nonempty_iter();
     /// let number = digits.reduce(|n, x| n.wrapping_mul(10).wrapping_add(x)); // 123
     /// ```
     final fn reduce<F: FnMut(Self::Item, Self::Item) -> Self::Item>(self, f: F) -> Self::Item

@@ -1,9 +1,10 @@
-use Rattle.ne_iter.proofs.Collects.{collects, hash_set_made}
-use Rattle.ne_iter.proofs.iter.collected.keys.HashSetFromNonEmptyIterator.from_nonempty_iter.Goals as goal
+use Rattle.ne_iter.proofs.Collects.{collects, tree_map_made}
+use Rattle.ne_iter.proofs.keys.BTreeMapFromNonEmptyIteratorTuple2.from_nonempty_iter.Goals as goal
 
 pub returns : goal.returns
 returns g c =
     collects g.met.I.IntoNonEmptyIterator.same_lists g.met.I.IntoNEIter.NonEmptyIterator.not_empty
     c.args.iter c.into_nonempty_iter.result c.into_iter.result
     c.into_nonempty_iter.ensures.into_nonempty_iter_gives c.into_iter.ensures.into_iter_gives
-    _ _ (hash_set_made g.met.T.Eq.laws) c.collect.result c.collect.ensures.ran
+    _ _ (tree_map_made g.met.K.Ord.total g.met.K.Ord.matches_eq) c.collect.result
+    c.collect.ensures.ran

@@ -13,9 +13,9 @@ use std::hash::{BuildHasher, Hash};
 /// Makes a map with each key once, with the value of the last pair that has it.
 ///
 /// ```
-/// let items = nev![alloc; 3, 1, 4, 1, 5, 9, 2, 6]?.into_nonempty_iter().enumerate();
-/// let map: HashMap<u32, (usize, u32)> = items.map(|x| (x.1 / 2, x)).collect(alloc)?;
-/// let last = map.get(&1).copied(); // Some((6, 2))
+/// let items = nev![alloc; 3, 4, 2]?.into_nonempty_iter();
+/// let map: HashMap<u32, u32> = items.map(|x| (x / 2, x)).collect(alloc)?;
+/// let last = map.get(&1).copied(); // Some(2)
 /// ```
 impl<K: Eq + Hash + Drop, V: Drop, S: BuildHasher + Default + Drop> FromNonEmptyIterator<(K, V)>
     for HashMap<K, V, S> {
@@ -33,9 +33,8 @@ impl<K: Eq + Hash + Drop, V: Drop, S: BuildHasher + Default + Drop> FromNonEmpty
 /// ascending order.
 ///
 /// ```
-/// let items = nev![alloc; 3, 1, 4, 1, 5, 9, 2, 6]?.into_nonempty_iter().enumerate();
-/// let map: BTreeMap<u32, (usize, u32)> = items.map(|x| (x.1 / 2, x)).collect(alloc)?;
-/// // {0: (3, 1), 1: (6, 2), 2: (4, 5), 3: (7, 6), 4: (5, 9)}
+/// let items = nev![alloc; 4, 3, 2]?.into_nonempty_iter();
+/// let map: BTreeMap<u32, u32> = items.map(|x| (x / 2, x)).collect(alloc)?; // {1: 2, 2: 4}
 /// ```
 impl<K: Ord + Drop, V: Drop> FromNonEmptyIterator<(K, V)> for BTreeMap<K, V> {
     ghost collected = { λ xs m. IsMapOf K.eq xs m.entries × IsOrdered K.cmp m
