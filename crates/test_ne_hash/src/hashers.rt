@@ -45,7 +45,7 @@ pub(crate) struct Numbered {
 
 impl Numbered {
     /// Returns the hasher of this number.
-    pub fn new(number: u32) -> Self
+    pub(crate) fn new(number: u32) -> Self
         ensures { result.number ≡ number }
     {
         Numbered {

@@ -22,7 +22,8 @@ pub fn list(alloc: Global) -> Result<Vec<u32>, AllocError>
     Ok(list)
 }
 
-/// The first `Err` among results. Its value is only run.
+/// The first `Err` among results. Its value is only run, as that of std's own `collect` into a
+/// `Result` is not found either.
 pub fn first_err(alloc: Global) -> Result<Result<NEVec<u32>, u32>, AllocError> {
     let items = nev![alloc; 3, 1, 4, 1, 5, 9, 2, 6]?.into_nonempty_iter();
     let checked = items.map(|x| if x / 2 % 2 == 0 { Ok(x) } else { Err(x) });

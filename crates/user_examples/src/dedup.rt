@@ -22,7 +22,8 @@ pub fn dedup_by(alloc: Global) -> Result<NEVec<u32>, AllocError>
     Ok(items)
 }
 
-/// Of equal items in a row, the first one stays. Its value is only run.
+/// Of equal items in a row, the first one stays. Its value is only run, as that of std's own
+/// `dedup` is not found either.
 pub fn dedup(alloc: Global) -> Result<NEVec<u32>, AllocError> {
     let mut items = nev![alloc; 7u32, 7, 0, 12, 12, 35, 4294967295]?;
     items.dedup();

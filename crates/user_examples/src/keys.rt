@@ -1,32 +1,36 @@
 //! The examples of collecting std's maps and sets.
-ghost use Rattle.std.specs.Prelude.{◌≡◌, ◌/◌, ◌∷◌, [], List, ℕ, IfOk, map, nat_eq};
-ghost use Rattle.ne_iter.specs.Collected.{IsSetOf};
+ghost use Rattle.std.specs.Prelude.{◌≡◌, ◌/◌, ◌∷◌, [], List, ℕ, IfOk, Some, map, nat_eq};
+ghost use Rattle.ne_iter.specs.Collected.{IsMapOf, IsSetOf, last_value};
 
 use nonempty_collections::{IntoNonEmptyIterator, NonEmptyIterator, nev};
 use std::alloc::{AllocError, Global};
 use std::collections::{BTreeMap, BTreeSet, HashMap};
 
-/// A hash map has the last of the values that come with a key. Its value is only run.
-pub fn hash_map(alloc: Global) -> Result<Option<(usize, u32)>, AllocError> {
-    let items = nev![alloc; 3, 1, 4, 1, 5, 9, 2, 6]?
-        .into_nonempty_iter()
-        .enumerate();
-    let map: HashMap<u32, (usize, u32)> = items.map(|x| (x.1 / 2, x)).collect(alloc)?;
+/// A hash map has the last of the values that come with a key.
+pub fn hash_map(alloc: Global) -> Result<Option<u32>, AllocError>
+    ensures pairs { IfOk result (λ last. (xs : List ℕ) → xs ≡ 3 ∷ 4 ∷ 2 ∷ []
+        → last ≡ last_value nat_eq (map (λ x. (x / 2, x)) xs) 1) }
+    ensures value { last_value nat_eq (map (λ x. (x / 2, x)) (3 ∷ 4 ∷ 2 ∷ [])) 1 ≡ Some 2 }
+{
+    let items = nev![alloc; 3, 4, 2]?.into_nonempty_iter();
+    let map: HashMap<u32, u32> = items.map(|x| (x / 2, x)).collect(alloc)?;
     let last = map.get(&1).copied();
     Ok(last)
 }
 
-/// A map in the order of the keys has the last of the values that come with a key. Its value is
-/// only run.
-pub fn tree_map(alloc: Global) -> Result<BTreeMap<u32, (usize, u32)>, AllocError> {
-    let items = nev![alloc; 3, 1, 4, 1, 5, 9, 2, 6]?
-        .into_nonempty_iter()
-        .enumerate();
-    let map: BTreeMap<u32, (usize, u32)> = items.map(|x| (x.1 / 2, x)).collect(alloc)?;
+/// A map in the order of the keys has the last of the values that come with a key. The list of its
+/// entries is only run, as that of std's own `collect` is not found either.
+pub fn tree_map(alloc: Global) -> Result<BTreeMap<u32, u32>, AllocError>
+    ensures { IfOk result (λ m. (xs : List ℕ) → xs ≡ 4 ∷ 3 ∷ 2 ∷ []
+        → IsMapOf nat_eq (map (λ x. (x / 2, x)) xs) m.entries) }
+{
+    let items = nev![alloc; 4, 3, 2]?.into_nonempty_iter();
+    let map: BTreeMap<u32, u32> = items.map(|x| (x / 2, x)).collect(alloc)?;
     Ok(map)
 }
 
-/// A set in the order of the items has each item once. The list of its keys is only run.
+/// A set in the order of the items has each item once. The list of its keys is only run, as that of
+/// std's own `collect` is not found either.
 pub fn tree_set(alloc: Global) -> Result<BTreeSet<u32>, AllocError>
     ensures { IfOk result (λ s. (xs : List ℕ) → xs ≡ 3 ∷ 1 ∷ 4 ∷ 1 ∷ 5 ∷ 9 ∷ 2 ∷ 6 ∷ []
         → IsSetOf nat_eq (map (λ x. x / 2) xs) s.keys) }

@@ -15,6 +15,7 @@ pub mod iter;
 pub mod keys;
 pub mod macros;
 pub mod non_empty;
+pub mod pairs;
 pub mod peek;
 pub mod products;
 pub mod queue;

@@ -27,7 +27,7 @@ ghost use Rattle.std.specs.Prelude.{
   nat_eq,
 };
 ghost use Rattle.std.specs.Bool.{then_some};
-ghost use Rattle.std.specs.List.{scan, filter_map, flat_map, prefix_len, take_while};
+ghost use Rattle.std.specs.List.{scan, filter_map, flat_map, prefix_len, reduce, take_while, zip};
 ghost use Rattle.std.specs.Ordering.{nat_cmp};
 ghost use Rattle.ne_iter.specs.Interspersed.{interspersed};
 ghost use Rattle.ne_iter.specs.KeyOrder.{KeysAscend};
@@ -168,7 +168,8 @@ pub fn find(alloc: Global) -> Result<Option<u32>, AllocError>
     Ok(even)
 }
 
-/// Each item, followed by its half. Its value is only run.
+/// Each item, followed by its half. Its value is only run, as that of std's own `flat_map` of
+/// arrays is not found either.
 pub fn flat_map(alloc: Global) -> Result<NEVec<u32>, AllocError> {
     let items = nev![alloc; 3, 1, 4, 1, 5, 9, 2, 6]?.into_nonempty_iter();
     let all: NEVec<u32> = items.flat_map(|x| [x, x / 2]).collect(alloc)?;
@@ -199,7 +200,8 @@ pub fn fold(alloc: Global) -> Result<u32, AllocError>
     Ok(number)
 }
 
-/// The runs of items with the same half: they are the division by it. Their list is only run.
+/// The runs of items with the same half: they are the division by it, the only one that there is.
+/// Their list is only run.
 pub fn group_by(alloc: Global) -> Result<Result<NEVec<NEVec<u32>>, AllocError>, AllocError>
     ensures { IfOk result (λ runs. IfOk runs
         (λ rs. IsDividedBy (λ x. x / 2) nat_eq (3 ∷ 2 ∷ 1 ∷ []) rs)) }
@@ -241,7 +243,8 @@ pub fn max(alloc: Global) -> Result<u32, AllocError>
     Ok(greatest)
 }
 
-/// The first of the items with the greatest half, by a comparison. Its value is only run.
+/// The first of the items with the greatest half, by a comparison. Its value is only run, as that
+/// of std's own `max_by` is not found either.
 pub fn max_by(alloc: Global) -> Result<(usize, u32), AllocError> {
     let items = nev![alloc; 3, 1, 4, 1, 5, 9, 2, 6]?
         .into_nonempty_iter()
@@ -250,12 +253,12 @@ pub fn max_by(alloc: Global) -> Result<(usize, u32), AllocError> {
     Ok(greatest)
 }
 
-/// The first of the items with the greatest half, by the halves as keys. Its value is only run.
-pub fn max_by_key(alloc: Global) -> Result<(usize, u32), AllocError> {
-    let items = nev![alloc; 3, 1, 4, 1, 5, 9, 2, 6]?
-        .into_nonempty_iter()
-        .enumerate();
-    let greatest = items.max_by_key(|x| x.1 / 2);
+/// The item with the greatest half, by the halves as keys.
+pub fn max_by_key(alloc: Global) -> Result<u32, AllocError>
+    ensures { IfOk result (λ greatest. greatest ≡ 9) }
+{
+    let items = nev![alloc; 4, 9, 2]?.into_nonempty_iter();
+    let greatest = items.max_by_key(|x| *x / 2);
     Ok(greatest)
 }
 
@@ -267,7 +270,8 @@ pub fn min(alloc: Global) -> Result<u32, AllocError>
     Ok(least)
 }
 
-/// The first of the items with the least half, by a comparison. Its value is only run.
+/// The first of the items with the least half, by a comparison. Its value is only run, as that of
+/// std's own `min_by` is not found either.
 pub fn min_by(alloc: Global) -> Result<(usize, u32), AllocError> {
     let items = nev![alloc; 3, 1, 4, 1, 5, 9, 2, 6]?
         .into_nonempty_iter()
@@ -276,16 +280,17 @@ pub fn min_by(alloc: Global) -> Result<(usize, u32), AllocError> {
     Ok(least)
 }
 
-/// The first of the items with the least half, by the halves as keys. Its value is only run.
-pub fn min_by_key(alloc: Global) -> Result<(usize, u32), AllocError> {
-    let items = nev![alloc; 3, 1, 4, 1, 5, 9, 2, 6]?
-        .into_nonempty_iter()
-        .enumerate();
-    let least = items.min_by_key(|x| x.1 / 2);
+/// The item with the least half, by the halves as keys.
+pub fn min_by_key(alloc: Global) -> Result<u32, AllocError>
+    ensures { IfOk result (λ least. least ≡ 2) }
+{
+    let items = nev![alloc; 4, 9, 2]?.into_nonempty_iter();
+    let least = items.min_by_key(|x| *x / 2);
     Ok(least)
 }
 
-/// The items in the order of their halves. Their list is only run.
+/// The items in the order of their halves. Their list is only run, as that of std's own sort is not
+/// found either.
 pub fn sorted_by_key(alloc: Global) -> Result<NEVec<(usize, u32)>, AllocError>
     ensures { IfOk result (λ v. KeysAscend (λ x. x.1 / 2) nat_cmp v) }
 {
@@ -370,23 +375,29 @@ pub fn take_while(alloc: Global) -> Result<Vec<u32>, AllocError>
     Ok(front)
 }
 
-/// The product of the items. Its value is only run.
-pub fn product(alloc: Global) -> Result<u32, AllocError> {
-    let items = nev![alloc; 3, 1, 4, 1, 5, 9, 2, 6]?
-        .into_nonempty_iter()
-        .map(Wrapping);
+/// The product of the items.
+pub fn product(alloc: Global) -> Result<u32, AllocError>
+    ensures { IfOk result (λ product. product ≡ 24) }
+{
+    let items = nev![alloc; 4, 6]?.into_nonempty_iter().map(Wrapping);
     let product: Wrapping<u32> = items.product();
     Ok(product.0)
 }
 
-/// The pairs of the items of two vectors. Its value is only run.
-pub fn zip(alloc: Global) -> Result<NEVec<(u32, u32)>, AllocError> {
-    let items = nev![alloc; 7u32, 7, 0, 12, 12, 35, 4294967295]?.into_nonempty_iter();
-    let pairs = items.zip(nev![alloc; 7, 7, 0, 13]?);
+/// The pairs of the items of two vectors.
+pub fn zip(alloc: Global) -> Result<NEVec<(u32, u32)>, AllocError>
+    ensures items { IfOk result (λ pairs. (xs ys : List ℕ) → xs ≡ 7 ∷ 8 ∷ 9 ∷ [] → ys ≡ 1 ∷ 2 ∷ []
+        → pairs ≡ zip xs ys) }
+    ensures value { zip {K = ℕ} {X = ℕ} (7 ∷ 8 ∷ 9 ∷ []) (1 ∷ 2 ∷ []) ≡ (7, 1) ∷ (8, 2) ∷ [] }
+{
+    let (items, others) = (nev![alloc; 7, 8, 9]?, nev![alloc; 1, 2]?);
+    let items = items.nonempty_iter().copied();
+    let pairs = items.zip(others.nonempty_iter().copied());
     pairs.collect(alloc)
 }
 
-/// The halves in one vector, and the items in another. Its value is only run.
+/// The halves in one vector, and the items in another. Its value is only run, as that of std's own
+/// `unzip` is not found either.
 pub fn unzip(alloc: Global) -> Result<(NEVec<u32>, NEVec<u32>), AllocError> {
     let pairs = nev![alloc; 3, 1, 4, 1, 5, 9, 2, 6]?
         .into_nonempty_iter()
@@ -395,9 +406,13 @@ pub fn unzip(alloc: Global) -> Result<(NEVec<u32>, NEVec<u32>), AllocError> {
     Ok((halves, items))
 }
 
-/// The number that has the items as its digits, from the first one on. Its value is only run.
-pub fn reduce(_alloc: Global) -> Result<u32, AllocError> {
-    let digits = [1u32, 2, 3].into_nonempty_iter();
+/// The number that has the items as its digits, from the first one on.
+pub fn reduce(alloc: Global) -> Result<u32, AllocError>
+    ensures digits { IfOk result (λ number. (xs : List ℕ) → xs ≡ 1 ∷ 2 ∷ 3 ∷ []
+        → Some number ≡ reduce (λ n x. (n * 10 % 2 ^ 32 + x) % 2 ^ 32) xs) }
+    ensures value { reduce (λ n x. (n * 10 % 2 ^ 32 + x) % 2 ^ 32) (1 ∷ 2 ∷ 3 ∷ []) ≡ Some 123 }
+{
+    let digits = nev![alloc; 1u32, 2, 3]?.into_nonempty_iter();
     let number = digits.reduce(|n, x| n.wrapping_mul(10).wrapping_add(x));
     Ok(number)
 }

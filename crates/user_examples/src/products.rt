@@ -1,5 +1,5 @@
 //! The examples of products, and of items that differ.
-ghost use Rattle.std.specs.Prelude.{◌≡◌, ◌∷◌, [], IfOk, Ok};
+ghost use Rattle.std.specs.Prelude.{◌≡◌, ◌∷◌, [], IfOk, Ok, false, true};
 
 use nonempty_collections::{IntoNonEmptyIterator, NEVec, NonEmptyIterator, NonEmptyItertools, nev};
 use std::alloc::{AllocError, Global};
@@ -14,8 +14,10 @@ pub fn cartesian_product(alloc: Global) -> Result<Result<NEVec<(u32, u32)>, Allo
     pairs.collect(alloc)
 }
 
-/// Whether no two items are equal. Its value is only run.
-pub fn all_unique(alloc: Global) -> Result<(bool, bool), AllocError> {
+/// Whether no two items are equal.
+pub fn all_unique(alloc: Global) -> Result<(bool, bool), AllocError>
+    ensures { IfOk result (λ r. (r.0 ≡ true) × (r.1 ≡ false)) }
+{
     let unique = nev![alloc; 7]?.into_nonempty_iter().all_unique(alloc)?;
     let repeated = nev![alloc; 1, 2, 1, 2]?
         .into_nonempty_iter()

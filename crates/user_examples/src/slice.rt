@@ -69,15 +69,23 @@ pub fn nonempty_iter(alloc: Global) -> Result<Vec<u32>, AllocError>
     Ok(same)
 }
 
-/// The lengths of the chunks of three items. Its value is only run.
-pub fn nonempty_chunks(alloc: Global) -> Result<NEVec<usize>, AllocError> {
-    let items = nev![alloc; 3, 1, 4, 1, 5, 9, 2, 6]?;
-    let (slice, size) = (items.as_nonempty_slice(), NonZeroUsize::new(3).unwrap());
+/// The number of the chunks of two items, and the length of each of them.
+pub fn nonempty_chunks(alloc: Global) -> Result<(usize, usize, usize), AllocError>
+    ensures { IfOk result (λ r. (r.0 ≡ 2) × (r.1 ≡ 2) × (r.2 ≡ 1)) }
+{
+    let items = nev![alloc; 3, 1, 4]?;
+    let (slice, size) = (items.as_nonempty_slice(), NonZeroUsize::new(2).unwrap());
     let chunks = slice.nonempty_chunks(size);
-    chunks.map(|c| c.len().get()).collect(alloc)
+    let chunks: NEVec<NESlice<'_, u32>> = chunks.collect(alloc)?;
+    Ok((
+        chunks.len().get(),
+        chunks[0].len().get(),
+        chunks[1].len().get(),
+    ))
 }
 
-/// The lengths of the runs of items that are near their run's first item. Their items are only run.
+/// The lengths of the runs of items that are near their run's first item. The numbers are only run,
+/// as those of std's own `chunk_by` are not found either.
 pub fn runs_by(alloc: Global) -> Result<NEVec<usize>, AllocError>
     ensures { IfOk result (λ r. (xs : List ℕ) → xs ≡ 1 ∷ 2 ∷ 3 ∷ []
         → r ≡ map (λ c. length c) (runs_of by_first (λ a b. ltb (abs_diff a b) 2) xs)) }
@@ -88,7 +96,8 @@ pub fn runs_by(alloc: Global) -> Result<NEVec<usize>, AllocError>
     runs.map(|c| c.len().get()).collect(alloc)
 }
 
-/// The lengths of the runs of items that are near the item before them. Its value is only run.
+/// The lengths of the runs of items that are near the item before them. The numbers are only run,
+/// as those of std's own `chunk_by` are not found either.
 pub fn adjacent_runs(alloc: Global) -> Result<NEVec<usize>, AllocError>
     ensures { IfOk result (λ r. (xs : List ℕ) → xs ≡ 1 ∷ 2 ∷ 3 ∷ []
         → r ≡ map (λ c. length c) (runs_of by_previous (λ a b. ltb (abs_diff a b) 2) xs)) }

@@ -21,7 +21,7 @@ pub fn text_of_characters(alloc: Global) -> Result<String, AllocError>
     Ok(text)
 }
 
-/// A path of its parts. Its value is only run.
+/// A path of its parts. Its value is only run, as that of std's own `collect` is not found either.
 pub fn path_of_parts(alloc: Global) -> Result<PathBuf, AllocError> {
     let path: PathBuf = ["a", "b"].into_nonempty_iter().collect(alloc)?;
     Ok(path)

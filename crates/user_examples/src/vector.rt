@@ -237,8 +237,8 @@ pub fn iter(alloc: Global) -> Result<Vec<u32>, AllocError>
     Ok(halves)
 }
 
-/// One is added to each item, by std's iterator. The number of items is proved, and their values
-/// are only run.
+/// One is added to each item, by std's iterator. The number of items is proved; their values are
+/// only run, as what is written through std's own `iter_mut` is not found either.
 pub fn iter_mut(alloc: Global) -> Result<NEVec<u32>, AllocError>
     ensures { IfOk result (λ v. length v ≡ 4) }
 {
@@ -258,7 +258,8 @@ pub fn nonempty_iter(alloc: Global) -> Result<u32, AllocError>
     Ok(greatest)
 }
 
-/// One is added to each item. The number of items is proved, and their values are only run.
+/// One is added to each item. The number of items is proved; their values are only run, as what is
+/// written through std's own `iter_mut` is not found either.
 pub fn nonempty_iter_mut(alloc: Global) -> Result<NEVec<u32>, AllocError>
     ensures { IfOk result (λ v. length v ≡ 4) }
 {
@@ -343,7 +344,8 @@ pub fn append(alloc: Global) -> Result<NEVec<u32>, AllocError>
     Ok(items)
 }
 
-/// The items of an array are added at the end. Its value is only run.
+/// The items of an array are added at the end. Its value is only run, as that of std's own `extend`
+/// by an array is not found either.
 pub fn extend(alloc: Global) -> Result<NEVec<u32>, AllocError> {
     let mut items = nev![alloc; 1, 2, 3]?;
     items.extend([4, 5, 6])?;
@@ -360,10 +362,17 @@ pub fn as_nonempty_slice(alloc: Global) -> Result<(u32, u32), AllocError>
     Ok((first, last))
 }
 
-/// The lengths of the chunks of three items. Its value is only run.
-pub fn nonempty_chunks(alloc: Global) -> Result<NEVec<usize>, AllocError> {
-    let items = nev![alloc; 3, 1, 4, 1, 5, 9, 2, 6]?;
-    let size = NonZeroUsize::new(3).unwrap();
+/// The number of the chunks of two items, and the length of each of them.
+pub fn nonempty_chunks(alloc: Global) -> Result<(usize, usize, usize), AllocError>
+    ensures { IfOk result (λ r. (r.0 ≡ 2) × (r.1 ≡ 2) × (r.2 ≡ 1)) }
+{
+    let items = nev![alloc; 3, 1, 4]?;
+    let size = NonZeroUsize::new(2).unwrap();
     let chunks = items.nonempty_chunks(size);
-    chunks.map(|c| c.len().get()).collect(alloc)
+    let chunks: NEVec<NESlice<'_, u32>> = chunks.collect(alloc)?;
+    Ok((
+        chunks.len().get(),
+        chunks[0].len().get(),
+        chunks[1].len().get(),
+    ))
 }

@@ -1,5 +1,6 @@
-//! The examples of index maps.
-ghost use Rattle.std.specs.Prelude.{◌≡◌, ◌+◌, ◌≤◌, [], ◌∷◌, true, false, IfOk, None, Some};
+//! The examples of index maps, and the least of their values.
+ghost use Rattle.std.specs.Prelude.{◌≡◌, ◌+◌, ◌≤◌, [], ◌∷◌, true, false, All, IfOk};
+ghost use Rattle.std.specs.Prelude.{None, Some};
 ghost use Rattle.std.specs.Option.{IsSomeAnd};
 ghost use Rattle.indexmap.specs.IndexMap.{index_map_len, spare};
 
@@ -220,4 +221,11 @@ pub fn index(alloc: Global) -> Result<u32, AllocError>
     let map = neim![alloc; 0 => 1, 2 => 2, 4 => 3, 6 => 4, 8 => 5, 10 => 6]?;
     let value = map[1];
     Ok(value)
+}
+
+/// Returns the least of the values. This is a chain over any index map, and no example.
+pub fn least_value(prices: &NEIndexMap<u32, u32>) -> u32
+    ensures { All (λ pair. result ≤ pair.1) prices.now.entries }
+{
+    *prices.nonempty_iter().min_by_key(|pair| *pair.1).1
 }

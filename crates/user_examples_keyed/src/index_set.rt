@@ -128,16 +128,24 @@ pub fn is_disjoint(alloc: Global) -> Result<bool, AllocError>
     Ok(disjoint)
 }
 
-/// Asks whether the second set has each item of the first. The answer is only run.
-pub fn is_subset(alloc: Global) -> Result<bool, AllocError> {
-    let (a, b) = (neis![alloc; 2, 4, 6]?, neis![alloc; 2, 4, 6, 8]?);
+/// Asks whether the second set has each item of the first.
+pub fn is_subset(alloc: Global) -> Result<bool, AllocError>
+    ensures { IfOk result (λ subset. subset ≡ true) }
+{
+    let a = NEIndexSet::new(alloc, 4)?;
+    let mut b = NEIndexSet::new(alloc, 2)?;
+    b.insert(4)?;
     let subset = a.is_subset(&b);
     Ok(subset)
 }
 
-/// Asks whether the first set has each item of the second. The answer is only run.
-pub fn is_superset(alloc: Global) -> Result<bool, AllocError> {
-    let (a, b) = (neis![alloc; 2, 4, 6]?, neis![alloc; 6, 4]?);
+/// Asks whether the first set has each item of the second.
+pub fn is_superset(alloc: Global) -> Result<bool, AllocError>
+    ensures { IfOk result (λ superset. superset ≡ true) }
+{
+    let mut a = NEIndexSet::new(alloc, 2)?;
+    a.insert(4)?;
+    let b = NEIndexSet::new(alloc, 4)?;
     let superset = a.is_superset(&b);
     Ok(superset)
 }

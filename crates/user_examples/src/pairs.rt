@@ -1,4 +1,5 @@
-//! Products, distinct items, and sources that are one of two.
+//! Products, distinct items, and sources that are one of two, as a user writes them. Only
+//! `pairs_of_any_sources`, which is generic in its sources, calls a law and has a stored proof.
 ghost use Rattle.std.specs.Prelude.{◌≡◌, ◌/◌, ◌↔◌, ℕ, List, IfOk, IsTrue, Ok, map, nat_eq};
 ghost use Rattle.std.specs.List.{IsDistinct};
 ghost use Rattle.ne_iter.specs.Gives.{GivesList};
