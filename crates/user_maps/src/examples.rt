@@ -10,7 +10,8 @@ use ne_laws::vector_calls::{VecCall, VecReply, run_vec};
 use nonempty_collections::{IntoNonEmptyIterator, NEBTreeMap, NEVec, nebtm, nev};
 use std::alloc::{AllocError, Global};
 
-/// The replies to four calls on a map, and the map that they leave.
+/// The replies to four calls on a map, and the map that they leave. That the last reply is a `Len`
+/// is only run; if it is, its number is 3.
 pub fn calls_on_a_map(
     alloc: Global,
 ) -> Result<(Vec<MapReply<u32>>, NEBTreeMap<u32, u32>), AllocError>
@@ -18,8 +19,8 @@ pub fn calls_on_a_map(
     ensures old { IfOk result (λ r. slice_get r.0.items 0 ≡ Some (MapReply.Old (Some 1))) }
     ensures absent { IfOk result (λ r. slice_get r.0.items 1 ≡ Some (MapReply.Old None)) }
     ensures has { IfOk result (λ r. slice_get r.0.items 2 ≡ Some (MapReply.Has true)) }
-    ensures count { IfOk result (λ r. (n : _) × (slice_get r.0.items 3 ≡ Some (MapReply.Len n))
-        × (non_zero_usize_get n ≡ 3)) }
+    ensures count { IfOk result (λ r. (n : _) → slice_get r.0.items 3 ≡ Some (MapReply.Len n)
+        → non_zero_usize_get n ≡ 3) }
     ensures value { IfOk result (λ r. get nat_cmp r.1 2 ≡ Some 7) }
     ensures keys { IfOk result (λ r. btree_map_len r.1 ≡ 3) }
 {
@@ -47,13 +48,14 @@ pub fn first_run(
     Ok((runs, next))
 }
 
-/// The replies to five calls on a vector, and the vector that they leave.
+/// The replies to five calls on a vector, and the vector that they leave. That the fourth reply is
+/// a `Len` is only run; if it is, its number is 2.
 pub fn calls_on_a_vector(alloc: Global) -> Result<(Vec<VecReply<u32>>, NEVec<u32>), AllocError>
     ensures len { IfOk result (λ r. length r.0.items ≡ 5) }
     ensures pushed { IfOk result (λ r. slice_get r.0.items 0 ≡ Some VecReply.Done) }
     ensures taken { IfOk result (λ r. slice_get r.0.items 2 ≡ Some (VecReply.Taken (Some 3))) }
-    ensures count { IfOk result (λ r. (n : _) × (slice_get r.0.items 3 ≡ Some (VecReply.Len n))
-        × (non_zero_usize_get n ≡ 2)) }
+    ensures count { IfOk result (λ r. (n : _) → slice_get r.0.items 3 ≡ Some (VecReply.Len n)
+        → non_zero_usize_get n ≡ 2) }
     ensures refused { IfOk result (λ r. slice_get r.0.items 4 ≡ Some VecReply.Refused) }
     ensures vector { IfOk result (λ r. r.1 ≡ 1 ∷ 2 ∷ []) }
 {
