@@ -71,7 +71,9 @@ pub fn nonempty_iter(alloc: Global) -> Result<Vec<u32>, AllocError>
 
 /// The number of the chunks of two items, and the length of each of them.
 pub fn nonempty_chunks(alloc: Global) -> Result<(usize, usize, usize), AllocError>
-    ensures { IfOk result (λ r. (r.0 ≡ 2) × (r.1 ≡ 2) × (r.2 ≡ 1)) }
+    ensures count { IfOk result (λ r. r.0 ≡ 2) }
+    ensures first { IfOk result (λ r. r.1 ≡ 2) }
+    ensures second { IfOk result (λ r. r.2 ≡ 1) }
 {
     let items = nev![alloc; 3, 1, 4]?;
     let (slice, size) = (items.as_nonempty_slice(), NonZeroUsize::new(2).unwrap());

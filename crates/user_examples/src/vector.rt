@@ -364,7 +364,9 @@ pub fn as_nonempty_slice(alloc: Global) -> Result<(u32, u32), AllocError>
 
 /// The number of the chunks of two items, and the length of each of them.
 pub fn nonempty_chunks(alloc: Global) -> Result<(usize, usize, usize), AllocError>
-    ensures { IfOk result (λ r. (r.0 ≡ 2) × (r.1 ≡ 2) × (r.2 ≡ 1)) }
+    ensures count { IfOk result (λ r. r.0 ≡ 2) }
+    ensures first { IfOk result (λ r. r.1 ≡ 2) }
+    ensures second { IfOk result (λ r. r.2 ≡ 1) }
 {
     let items = nev![alloc; 3, 1, 4]?;
     let size = NonZeroUsize::new(2).unwrap();
