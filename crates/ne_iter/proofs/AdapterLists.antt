@@ -1,7 +1,7 @@
 -- What each adapter gives if its source gives a list. `becomes` and `steps` are those of the
 -- source, `made` and `next` those of the adapter, `meets` and `other` those of a second source.
 use Rattle.std.proofs.Common.{refl, sym, ap, subst, ◌∙◌, ◌⊎◌, inl, inr}
-use Rattle.std.proofs.lemmas.List.{length-map, map-append}
+use Rattle.std.proofs.lemmas.List.{drop-map, length-map, map-append}
 use Rattle.std.proofs.lemmas.Simd.{map-map}
 use Rattle.std.specs.Prelude.{◌≡◌, ℕ, ◌≤◌, Bool, true, false, ◌&&◌, ◌||◌, ltb, List}
 use Rattle.std.specs.Prelude.{[], ◌∷◌, ◌++◌, map, take, drop, filter, filter_map, zip, Option}
@@ -29,39 +29,33 @@ use Rattle.ne_iter.proofs.ListFronts.{zip_front, joined_fronts, each_gives, filt
 use Rattle.ne_iter.proofs.ListFronts.{filter_answered, filter_map_front, filter_map_answered}
 use Rattle.ne_iter.proofs.ListFronts.{drop_front, drop_passed_front, take_passed_front}
 use Rattle.ne_iter.proofs.ListFronts.{take_passed_stopped, scan_front}
+use Rattle.ne_iter.proofs.MappedLists.{all_map, enumerate_map, fails_map, filter_map_of_map}
+use Rattle.ne_iter.proofs.MappedLists.{filter_map_view, scan_map, zip_map}
+use Rattle.ne_iter.proofs.ReadLists.{as_items, as_view}
 use Rattle.ne_iter.proofs.ScannedRuns.{scanned_values}
 use Rattle.ne_iter.proofs.Unrefused.{clones_in_ok, only_ok, spaced_front}
 
 -- the source has ended, or an item came that doesn't pass
-stopped : {U A F : Type 0} (reads : Bool → U → List A → Type 0)
-    (calls : Mut F (Bor A × Unit {0}) Bool) (f q : F) (test : A → Bool) (u : U) (xs us : List A)
-    (whole : Bool) → ActsAsAt calls f test → q ≡ f → GivesList reads u xs
-    → AllByRecursion (λ x. test x ≡ true) us
+stopped : {U A B F : Type 0} (reads : Bool → U → List A → Type 0)
+    (calls : Mut F (Bor A × Unit {0}) Bool) (f q : F) (view : A → B) (test : B → Bool) (u : U)
+    (xs : List B) (us : List A) (whole : Bool) → ActsAsAt calls f (λ x. test (view x)) → q ≡ f
+    → ViewsList reads view u xs → AllByRecursion (λ x. test x ≡ true) (map view us)
     → reads whole u us ⊎ FailsAtItem reads calls u us q
-    → AreFirst whole (take_while test xs) us
-stopped reads calls f q test u xs us whole acts same list passed (inl read) =
-    take_passed_front test whole xs us passed (list whole us read)
-stopped reads calls f q test u xs us whole acts same list passed (inr last) =
+    → AreFirst whole (take_while test xs) (map view us)
+stopped reads calls f q view test u xs us whole acts same list passed (inl read) =
+    take_passed_front test whole xs (map view us) passed (list whole us read)
+stopped reads calls f q view test u xs us whole acts same list passed (inr last) =
     let x = last.item in
     let from_f = subst (λ q. CalledAt calls q x false last.f_then) same last.called in
-    take_passed_stopped test whole xs us x passed (sym (acts x false last.f_then from_f).1)
-    (list false (us ++ x ∷ []) last.read)
+    take_passed_stopped test whole xs (map view us) (view x) passed
+    (sym (acts x false last.f_then from_f).1)
+    (subst (AreFirst false xs) (map-append view us (x ∷ [])) (list false (us ++ x ∷ []) last.read))
 
 module _ {U V A S T : Type 0} {becomes : U → S → Type 0} {steps : S → Option A → S → Type 0}
     {made : V → T → Type 0} {u : U} {v : V} where
   module _ {B F : Type 0} {next : T → Option B → T → Type 0} {calls : Mut F (A × Unit {0}) B}
       {f : F}
       (gives : MapGives (Reads becomes steps) (Reads made next) calls u f v) where
-    pub map_list : (h : A → B) (xs : List A) → ActsAs calls f h
-        → GivesList (Reads becomes steps) u xs
-        → GivesList (Reads made next) v (map h xs)
-    map_list h xs acts list whole ys read =
-        let behind = gives whole ys read in
-        let us = behind.items in
-        let values = function_values calls f h us ys behind.f_then acts behind.called in
-        subst (AreFirst whole (map h xs)) (sym values.0)
-        (map_front h whole xs us (list whole us behind.read))
-
     pub map_view : {C : Type 0} (view : A → C) (h : C → B) (xs : List C)
         → ActsAs calls f (λ x. h (view x)) → ViewsList (Reads becomes steps) view u xs
         → GivesList (Reads made next) v (map h xs)
@@ -73,23 +67,30 @@ module _ {U V A S T : Type 0} {becomes : U → S → Type 0} {steps : S → Opti
         subst (AreFirst whole (map h xs)) (map-map h view us ∙ sym values.0)
         (map_front h whole xs (map view us) (list whole us behind.read))
 
+    pub map_list : (h : A → B) (xs : List A) → ActsAs calls f h
+        → GivesList (Reads becomes steps) u xs
+        → GivesList (Reads made next) v (map h xs)
+    map_list h xs acts list = map_view (λ x. x) h xs acts (as_view (Reads becomes steps) u xs list)
+
   module _ {next : T → Option (ℕ × A) → T → Type 0}
       (gives : EnumerateGives (Reads becomes steps) (Reads made next) u v) where
+    pub enumerate_view : {B : Type 0} (view : A → B) (xs : List B)
+        → ViewsList (Reads becomes steps) view u xs
+        → ViewsList (Reads made next) (λ p. (p.0, view p.1)) v (enumerate_from 0 xs)
+    enumerate_view view xs list whole ys read =
+        let behind = gives whole ys read in
+        let us = behind.0 in
+        let shown = ap (map (λ p. (p.0, view p.1))) behind.2 ∙ enumerate_map view 0 us in
+        subst (AreFirst whole (enumerate_from 0 xs)) (sym shown)
+        (enumerate_front whole xs (map view us) (list whole us behind.1))
+
     pub enumerate_list : (xs : List A) → GivesList (Reads becomes steps) u xs
         → GivesList (Reads made next) v (enumerate_from 0 xs)
-    enumerate_list xs list whole ys read =
-        let behind = gives whole ys read in
-        subst (AreFirst whole (enumerate_from 0 xs)) (sym behind.2)
-        (enumerate_front whole xs behind.0 (list whole behind.0 behind.1))
+    enumerate_list xs list = as_items (Reads made next) v (enumerate_from 0 xs)
+        (enumerate_view (λ x. x) xs (as_view (Reads becomes steps) u xs list))
 
   module _ {next : T → Option A → T → Type 0} where
     module _ {n : ℕ} (gives : TakeGives (Reads becomes steps) (Reads made next) n u v) where
-      pub take_list : (xs : List A) → GivesList (Reads becomes steps) u xs
-          → GivesList (Reads made next) v (take n xs)
-      take_list xs list whole ys read =
-          let behind = gives whole ys read in
-          take_front n whole xs ys behind.1 (list _ ys behind.0)
-
       pub take_view : {B : Type 0} (view : A → B) (xs : List B)
           → ViewsList (Reads becomes steps) view u xs
           → ViewsList (Reads made next) view v (take n xs)
@@ -100,80 +101,131 @@ module _ {U V A S T : Type 0} {becomes : U → S → Type 0} {steps : S → Opti
           take_front n whole xs shown (subst (λ len. len ≤ n) long behind.1)
           (subst (λ len. AreFirst (whole && ltb len n) xs shown) long (list _ ys behind.0))
 
-    pub skip_list : (n : ℕ) → SkipGives (Reads becomes steps) (Reads made next) n u v
-        → (xs : List A) → GivesList (Reads becomes steps) u xs
-        → GivesList (Reads made next) v (drop n xs)
-    skip_list n gives xs list whole ys read =
-        let parts = gives whole ys read in
-        let front = list whole parts.0 parts.1 in
-        subst (AreFirst whole (drop n xs)) (sym parts.2)
-        (subst (λ l. AreFirst whole (drop n l) (drop n parts.0)) (sym front.1)
-        (drop_front n whole parts.0 front.0 front.2))
+      pub take_list : (xs : List A) → GivesList (Reads becomes steps) u xs
+          → GivesList (Reads made next) v (take n xs)
+      take_list xs list = as_items (Reads made next) v (take n xs)
+          (take_view (λ x. x) xs (as_view (Reads becomes steps) u xs list))
 
-    module _ {F : Type 0} {calls : Mut F (Bor A × Unit {0}) Bool} {f : F} where
-      pub filter_list : FilterGives (Reads becomes steps) (Reads made next) calls u f v
-          → (test : A → Bool) (xs : List A) → ActsAsAt calls f test
-          → GivesList (Reads becomes steps) u xs
-          → GivesList (Reads made next) v (filter test xs)
-      filter_list gives test xs acts list whole ys read =
+    module _ (n : ℕ) (gives : SkipGives (Reads becomes steps) (Reads made next) n u v) where
+      pub skip_view : {B : Type 0} (view : A → B) (xs : List B)
+          → ViewsList (Reads becomes steps) view u xs
+          → ViewsList (Reads made next) view v (drop n xs)
+      skip_view view xs list whole ys read =
+          let parts = gives whole ys read in
+          let shown = map view parts.0 in
+          let front = list whole parts.0 parts.1 in
+          subst (AreFirst whole (drop n xs))
+          (drop-map view n parts.0 ∙ sym (ap (map view) parts.2))
+          (subst (λ l. AreFirst whole (drop n l) (drop n shown)) (sym front.1)
+          (drop_front n whole shown front.0 front.2))
+
+      pub skip_list : (xs : List A) → GivesList (Reads becomes steps) u xs
+          → GivesList (Reads made next) v (drop n xs)
+      skip_list xs list = as_items (Reads made next) v (drop n xs)
+          (skip_view (λ x. x) xs (as_view (Reads becomes steps) u xs list))
+
+    module _ {F : Type 0} {calls : Mut F (Bor A × Unit {0}) Bool} {f : F} {B : Type 0}
+        (view : A → B) (test : B → Bool) (xs : List B)
+        (acts : ActsAsAt calls f (λ x. test (view x)))
+        (list : ViewsList (Reads becomes steps) view u xs) where
+      pub filter_view : FilterGives (Reads becomes steps) (Reads made next) calls u f v
+          → ViewsList (Reads made next) view v (filter test xs)
+      filter_view gives whole ys read =
+          let passes : A → Bool = λ x. test (view x) in
           let parts = gives whole ys read in
           let us = items_of parts.answered in
-          let values = shown_values calls f test parts.answered parts.f_then acts parts.shown in
+          let values = shown_values calls f passes parts.answered parts.f_then acts parts.shown in
           let all = parts.is ∙ ap (λ ps. items_of (filter (λ p. p.1) ps)) values.0
-          ∙ filter_answered test us in
-          subst (AreFirst whole (filter test xs)) (sym all)
-          (filter_front test whole xs us (list whole us parts.read))
+          ∙ filter_answered passes us in
+          subst (AreFirst whole (filter test xs))
+          (sym (ap (map view) all ∙ filter_map_view view test us))
+          (filter_front test whole xs (map view us) (list whole us parts.read))
 
-      pub skip_while_list : SkipWhileGives (Reads becomes steps) (Reads made next) calls u f v
-          → (test : A → Bool) (xs : List A) → ActsAsAt calls f test
-          → GivesList (Reads becomes steps) u xs
-          → GivesList (Reads made next) v (drop (prefix_len test xs) xs)
-      skip_while_list gives test xs acts list whole ys read =
+      pub skip_while_view : SkipWhileGives (Reads becomes steps) (Reads made next) calls u f v
+          → ViewsList (Reads made next) view v (drop (prefix_len test xs) xs)
+      skip_while_view gives whole ys read =
+          let passes : A → Bool = λ x. test (view x) in
           let parts = gives whole ys read in
-          let passed = same_answers_at calls f test _ parts.skipped parts.f_then acts parts.shown
-          in
-          let fails = fails_test calls f test ys acts
+          let us = parts.skipped in
+          let passed = same_answers_at calls f passes _ us parts.f_then acts parts.shown in
+          let fails = fails_test calls f passes ys acts
           (subst (λ q. FailsFirst calls q ys) passed.1 parts.fails) in
-          drop_passed_front test whole xs parts.skipped ys passed.0 fails (list whole _ parts.read)
+          drop_passed_front test whole xs (map view us) (map view ys)
+          (all_map view test us passed.0) (fails_map view test ys fails)
+          (subst (AreFirst whole xs) (map-append view us ys) (list whole _ parts.read))
 
-      pub take_while_list : TakeWhileGives (Reads becomes steps) (Reads made next) calls u f v
-          → (test : A → Bool) (xs : List A) → ActsAsAt calls f test
-          → GivesList (Reads becomes steps) u xs
-          → GivesList (Reads made next) v (take_while test xs)
-      take_while_list gives test xs acts list whole us read =
+      pub take_while_view : TakeWhileGives (Reads becomes steps) (Reads made next) calls u f v
+          → ViewsList (Reads made next) view v (take_while test xs)
+      take_while_view gives whole us read =
+          let passes : A → Bool = λ x. test (view x) in
           let parts = gives whole us read in
-          let passed = same_answers_at calls f test true us parts.0 acts parts.1 in
-          stopped (Reads becomes steps) calls f parts.0 test u xs us whole acts passed.1 list
-          passed.0 parts.2
+          let passed = same_answers_at calls f passes true us parts.0 acts parts.1 in
+          stopped (Reads becomes steps) calls f parts.0 view test u xs us whole acts passed.1 list
+          (all_map view test us passed.0) parts.2
+
+    module _ {F : Type 0} {calls : Mut F (Bor A × Unit {0}) Bool} {f : F} (test : A → Bool)
+        (xs : List A) (acts : ActsAsAt calls f test) (list : GivesList (Reads becomes steps) u xs)
+      where
+        pub filter_list : FilterGives (Reads becomes steps) (Reads made next) calls u f v
+            → GivesList (Reads made next) v (filter test xs)
+        filter_list gives = as_items (Reads made next) v (filter test xs)
+            (filter_view (λ x. x) test xs acts (as_view (Reads becomes steps) u xs list) gives)
+
+        pub skip_while_list : SkipWhileGives (Reads becomes steps) (Reads made next) calls u f v
+            → GivesList (Reads made next) v (drop (prefix_len test xs) xs)
+        skip_while_list gives = as_items (Reads made next) v (drop (prefix_len test xs) xs)
+            (skip_while_view (λ x. x) test xs acts (as_view (Reads becomes steps) u xs list) gives)
+
+        pub take_while_list : TakeWhileGives (Reads becomes steps) (Reads made next) calls u f v
+            → GivesList (Reads made next) v (take_while test xs)
+        take_while_list gives = as_items (Reads made next) v (take_while test xs)
+            (take_while_view (λ x. x) test xs acts (as_view (Reads becomes steps) u xs list) gives)
 
   module _ {B F : Type 0} {next : T → Option B → T → Type 0} {f : F} where
-    pub filter_map_list : {calls : Mut F (A × Unit {0}) (Option B)}
-        → FilterMapGives (Reads becomes steps) (Reads made next) calls u f v
-        → (h : A → Option B) (xs : List A) → ActsAs calls f h → GivesList (Reads becomes steps) u xs
-        → GivesList (Reads made next) v (filter_map h xs)
-    filter_map_list {calls} gives h xs acts list whole ys read =
-        let parts = gives whole ys read in
-        let us = parts.items in
-        let values = function_values calls f h us parts.answers parts.f_then acts parts.called in
-        let all = parts.is ∙ ap (filter_map (λ o. o)) values.0 ∙ filter_map_answered h us in
-        subst (AreFirst whole (filter_map h xs)) (sym all)
-        (filter_map_front h whole xs us (list whole us parts.read))
+    module _ {calls : Mut F (A × Unit {0}) (Option B)}
+        (gives : FilterMapGives (Reads becomes steps) (Reads made next) calls u f v) where
+      pub filter_mapped_view : {C : Type 0} (view : A → C) (h : C → Option B) (xs : List C)
+          → ActsAs calls f (λ x. h (view x)) → ViewsList (Reads becomes steps) view u xs
+          → GivesList (Reads made next) v (filter_map h xs)
+      filter_mapped_view view h xs acts list whole ys read =
+          let parts = gives whole ys read in
+          let us = parts.items in
+          let values = function_values calls f (λ x. h (view x)) us parts.answers parts.f_then acts
+          parts.called in
+          let all = parts.is ∙ ap (filter_map (λ o. o)) values.0
+          ∙ filter_map_answered (λ x. h (view x)) us ∙ filter_map_of_map view h us in
+          subst (AreFirst whole (filter_map h xs)) (sym all)
+          (filter_map_front h whole xs (map view us) (list whole us parts.read))
 
-    pub scan_list : {R : Type 0} {calls : Mut F (MutBor R × (A × Unit {0}))
-        (B × (MutBor R × Unit {0}))}
-        {init : R} → ScanGives (Reads becomes steps) (Reads made next) calls u init f v
-        → (step : R → A → R) (out : R → A → B) (xs : List A) → ActsAsWithState calls f step out
-        → GivesList (Reads becomes steps) u xs
-        → GivesList (Reads made next) v (scan step out init xs)
-    scan_list {calls = calls} {init} gives step out xs acts list whole ys read =
-        let parts = gives whole ys read in
-        let us = parts.items in
-        let front = list whole us parts.read in
-        let values = scanned_values calls f step out init parts.state_then us ys parts.f_then acts
-        parts.called in
-        subst (AreFirst whole (scan step out init xs)) (sym values.0)
-        (subst (λ l. AreFirst whole (scan step out init l) (scan step out init us))
-        (sym front.1) (scan_front step out init whole us front.0 front.2))
+      pub filter_map_list : (h : A → Option B) (xs : List A) → ActsAs calls f h
+          → GivesList (Reads becomes steps) u xs → GivesList (Reads made next) v (filter_map h xs)
+      filter_map_list h xs acts list =
+          filter_mapped_view (λ x. x) h xs acts (as_view (Reads becomes steps) u xs list)
+
+    module _ {R : Type 0}
+        {calls : Mut F (MutBor R × (A × Unit {0})) (B × (MutBor R × Unit {0}))} {init : R}
+        (gives : ScanGives (Reads becomes steps) (Reads made next) calls u init f v) where
+      pub scan_view : {C : Type 0} (view : A → C) (step : R → C → R) (out : R → C → B) (xs : List C)
+          → ActsAsWithState calls f (λ s x. step s (view x)) (λ s x. out s (view x))
+          → ViewsList (Reads becomes steps) view u xs
+          → GivesList (Reads made next) v (scan step out init xs)
+      scan_view view step out xs acts list whole ys read =
+          let parts = gives whole ys read in
+          let us = parts.items in
+          let shown = map view us in
+          let front = list whole us parts.read in
+          let values = scanned_values calls f (λ s x. step s (view x)) (λ s x. out s (view x)) init
+          parts.state_then us ys parts.f_then acts parts.called in
+          subst (AreFirst whole (scan step out init xs))
+          (sym (values.0 ∙ scan_map view step out init us))
+          (subst (λ l. AreFirst whole (scan step out init l) (scan step out init shown))
+          (sym front.1) (scan_front step out init whole shown front.0 front.2))
+
+      pub scan_list : (step : R → A → R) (out : R → A → B) (xs : List A)
+          → ActsAsWithState calls f step out → GivesList (Reads becomes steps) u xs
+          → GivesList (Reads made next) v (scan step out init xs)
+      scan_list step out xs acts list =
+          scan_view (λ x. x) step out xs acts (as_view (Reads becomes steps) u xs list)
 
   pub intersperse_list : {E : Type 0} {next : T → Option (Result A E) → T → Type 0} {s : A}
       (clones : A → A → Type 0) (infallible : A → Type 0)
@@ -237,17 +289,28 @@ module _ {U W V S R T A : Type 0} {becomes : U → S → Type 0} {steps : S → 
         (subst (λ len. AreFirst (whole || ltb 0 len) xs (map view us)) long
         (first _ us parts.read)) (second whole vs parts.read_other))
 
-  pub zip_list : {B : Type 0} {other : R → Option B → R → Type 0}
-      {next : T → Option (A × B) → T → Type 0}
-      → ZipGives (Reads becomes steps) (Reads meets other) (Reads made next) u w v
-      → (xs : List A) (ys : List B) → GivesList (Reads becomes steps) u xs
-      → GivesList (Reads meets other) w ys → GivesList (Reads made next) v (zip xs ys)
-  zip_list gives xs ys first second whole ps read =
-      let parts = gives whole ps read in
-      subst (AreFirst whole (zip xs ys)) (sym parts.is)
-      (zip_front whole parts.ended parts.other_ended xs ys parts.items parts.other_items
-      parts.as_many parts.one_ended (first parts.ended parts.items parts.read)
-      (second parts.other_ended parts.other_items parts.read_other))
+  module _ {B : Type 0} {other : R → Option B → R → Type 0} {next : T → Option (A × B) → T → Type 0}
+      (gives : ZipGives (Reads becomes steps) (Reads meets other) (Reads made next) u w v) where
+    pub zip_view : {C D : Type 0} (view : A → C) (other_view : B → D) (xs : List C) (ys : List D)
+        → ViewsList (Reads becomes steps) view u xs → ViewsList (Reads meets other) other_view w ys
+        → ViewsList (Reads made next) (λ p. (view p.0, other_view p.1)) v (zip xs ys)
+    zip_view view other_view xs ys first second whole ps read =
+        let parts = gives whole ps read in
+        let us = parts.items in
+        let vs = parts.other_items in
+        let as_many = length-map us view ∙ parts.as_many ∙ sym (length-map vs other_view) in
+        let shown = ap (map (λ p. (view p.0, other_view p.1))) parts.is
+        ∙ zip_map view other_view us vs in
+        subst (AreFirst whole (zip xs ys)) (sym shown)
+        (zip_front whole parts.ended parts.other_ended xs ys (map view us) (map other_view vs)
+        as_many parts.one_ended (first parts.ended us parts.read)
+        (second parts.other_ended vs parts.read_other))
+
+    pub zip_list : (xs : List A) (ys : List B) → GivesList (Reads becomes steps) u xs
+        → GivesList (Reads meets other) w ys → GivesList (Reads made next) v (zip xs ys)
+    zip_list xs ys first second = as_items (Reads made next) v (zip xs ys)
+        (zip_view (λ x. x) (λ y. y) xs ys (as_view (Reads becomes steps) u xs first)
+        (as_view (Reads meets other) w ys second))
 
 -- the sources that f returns give the lists that belong to the items, one after another
 answers_given : {A W B F : Type 0} (reads : Bool → W → List B → Type 0)

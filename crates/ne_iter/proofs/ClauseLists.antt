@@ -1,21 +1,25 @@
 -- What each adapter's clause `gives` says about the list that its source gives, for the clause
 -- `lists`.
 use Rattle.std.proofs.Common.{refl, subst, ap, ◌∙◌}
+use Rattle.std.proofs.iter.runs.Sources.{lists}
 use Rattle.std.proofs.lemmas.List.FromFn.{length-enumerate_from}
 use Rattle.std.specs.Prelude.{ℕ, List, Option, map, ◌++◌, ◌≡◌, ◌≤◌, length, true}
 use Rattle.std.specs.Fn.{Mut}
 use Rattle.std.specs.Iterator.{ActsAs}
 use Rattle.std.specs.Iterator.Runs.{EachRunFrom}
 use Rattle.std.specs.List.{enumerate_from, flat_map, zip}
-use Rattle.ne_vec.specs.Fronts.{Lists, Shows, GivesItems, GivesShown, GivesFronts, view_mark}
+use Rattle.ne_vec.specs.Fronts.{Lists, Shows, GivesItems, GivesShown, GivesFronts, ShowsFronts}
 use Rattle.ne_vec.specs.FrontLaws.{marked, view_marked}
 use Rattle.ne_iter.specs.Gives.{GivesList, ViewsList}
 use Rattle.ne_iter.specs.SourceLists.{AnswersLists, BecomesList, ChainsLists, EachList, EachShown}
 use Rattle.ne_iter.specs.SourceLists.{FlattensLists, MapsList, MapsShown, MeetsList, SpreadsLists}
-use Rattle.ne_iter.specs.SourceLists.{ZipsLists}
+use Rattle.ne_iter.specs.SourceLists.{BecomesShown, ChainsShown, MeetsShown, ShowsItems, ZipsLists}
+use Rattle.ne_iter.specs.SourceLists.{ZipsShown}
 use Rattle.ne_iter.specs.Sources.{Reads, SameLists}
+use Rattle.ne_iter.specs.Views.{View, in_pairs, itself}
+use Rattle.ne_vec.proofs.RunFronts.{run_drains}
 use Rattle.ne_iter.proofs.ReadLists.{lists_read, read_lists, shows_read, read_shows, meets_read}
-use Rattle.ne_iter.proofs.ReadLists.{becomes_read}
+use Rattle.ne_iter.proofs.ReadLists.{as_items, becomes_read, becomes_shown_read}
 
 module _ {U V A S T : Type 0} {becomes : U → S → Type 0} {steps : S → Option A → S → Type 0}
     {made : V → T → Type 0} {u : U} {v : V} where
@@ -40,24 +44,27 @@ module _ {U V A S T : Type 0} {becomes : U → S → Type 0} {steps : S → Opti
       ),
     )
 
-    pub maps_shown : ((view : A → ℕ) (h : ℕ → B) (xs : List ℕ) → ActsAs calls f (λ x. h (view x))
-        → ViewsList (Reads becomes steps) view u xs → GivesList (Reads made next) v (map h xs))
-        → MapsShown calls f (GivesItems made next) u v (Shows becomes steps)
-    maps_shown law view xs shows = (
-      view_marked view u xs,
+    pub maps_shown : (view : View A) → ((h : view.Shown → B) (xs : List view.Shown)
+        → ActsAs calls f (λ x. h (view.of x)) → ViewsList (Reads becomes steps) view.of u xs
+        → GivesList (Reads made next) v (map h xs))
+        → MapsShown calls f (GivesItems made next) u v view (λ view. Shows becomes steps view.of)
+    maps_shown view law xs shows = (
+      view_marked view.of u xs,
       λ h acts. (
         refl,
-        read_lists _ _ v (map h xs) (law view h xs acts (shows_read _ _ u view xs shows)),
+        read_lists _ _ v (map h xs) (law h xs acts (shows_read _ _ u view.of xs shows)),
       ),
     )
 
-  pub shows_each : {next : T → Option A → T → Type 0} (makes : List ℕ → List ℕ)
-      → ((view : A → ℕ) (xs : List ℕ) → ViewsList (Reads becomes steps) view u xs
-      → ViewsList (Reads made next) view v (makes xs))
-      → EachShown (Shows becomes steps) u (λ view xs. GivesShown made next view v (makes xs))
-  shows_each makes law view xs shows = (
-    view_marked view u xs,
-    read_shows _ _ v view (makes xs) (law view xs (shows_read _ _ u view xs shows)),
+  pub shows_each : {B C : Type 0} {next : T → Option B → T → Type 0} (view : View A)
+      (made_view : B → C) (makes : List view.Shown → List C)
+      → ((xs : List view.Shown) → ViewsList (Reads becomes steps) view.of u xs
+      → ViewsList (Reads made next) made_view v (makes xs))
+      → EachShown view (λ view. Shows becomes steps view.of) u
+      (λ xs. GivesShown made next made_view v (makes xs))
+  shows_each view made_view makes law xs shows = (
+    view_marked view.of u xs,
+    read_shows _ _ v made_view (makes xs) (law xs (shows_read _ _ u view.of xs shows)),
   )
 
 -- two sources
@@ -79,23 +86,30 @@ module _ {U W V S R T A : Type 0} {becomes : U → S → Type 0} {steps : S → 
         λ ys. (
           refl,
           λ second. read_lists _ _ v (xs ++ ys)
-              (law xs ys (lists_read _ _ u xs first) (meets_read _ _ w ys second)),
+              (law xs ys (lists_read _ _ u xs first)
+              (as_items (Reads meets other) w ys (meets_read _ _ w itself ys second))),
         ),
       ),
     )
 
-    pub chains_shown : ((view : A → ℕ) (xs ys : List ℕ)
-        → ViewsList (Reads becomes steps) view u xs → ViewsList (Reads meets other) view w ys
-        → ViewsList (Reads made next) view v (xs ++ ys))
-        → EachShown (Shows becomes steps) u (λ view xs. (ys : List ℕ)
-        → Shows meets other view w ys
-        → (view_mark view w ys ≡ 0) × GivesShown made next view v (xs ++ ys))
-    chains_shown law view xs first = (
-      view_marked view u xs,
-      λ ys second. (
-        view_marked view w ys,
-        read_shows _ _ v view (xs ++ ys)
-            (law view xs ys (shows_read _ _ u view xs first) (shows_read _ _ w view ys second)),
+    pub chains_shown : (view : View A) → ((xs ys : List view.Shown)
+        → ViewsList (Reads becomes steps) view.of u xs → ViewsList (Reads meets other) view.of w ys
+        → ViewsList (Reads made next) view.of v (xs ++ ys))
+        → ChainsShown view (λ view. Shows becomes steps view.of) (λ view. Shows meets other view.of)
+        (MeetsShown meets other view) (GivesShown made next view.of) u w v
+    chains_shown view law xs first = (
+      view_marked view.of u xs,
+      (
+        (λ ys second. (
+          view_marked view.of w ys,
+          read_shows _ _ v view.of (xs ++ ys) (law xs ys (shows_read _ _ u view.of xs first)
+              (shows_read _ _ w view.of ys second)),
+        )),
+        λ ys. (
+          refl,
+          λ second. read_shows _ _ v view.of (xs ++ ys)
+              (law xs ys (shows_read _ _ u view.of xs first) (meets_read _ _ w view ys second)),
+        ),
       ),
     )
 
@@ -123,6 +137,34 @@ module _ {U W V S R T A : Type 0} {becomes : U → S → Type 0} {steps : S → 
         ),
       )
 
+      pub zips_shown : {X Y : Type 0} {makes : W → X → Type 0} {made' : X → Y → Type 0}
+          {next' : Y → Option B → Y → Type 0} (view : View A) (other_view : View B)
+          → SameLists meets other makes made' next'
+          → ((xs : List view.Shown) (ys : List other_view.Shown)
+          → ViewsList (Reads becomes steps) view.of u xs
+          → ViewsList (Reads meets other) other_view.of w ys
+          → ViewsList (Reads made next) (in_pairs view other_view).of v (zip xs ys))
+          → ZipsShown view other_view (λ view. Shows becomes steps view.of)
+          (λ view. Shows meets other view.of) (BecomesShown makes made' next' other_view)
+          (GivesShown made next (in_pairs view other_view).of) u w v
+      zips_shown view other_view same law =
+          let pairs = (in_pairs view other_view).of in (
+            (λ xs first. (
+              view_marked view.of u xs,
+              λ ys second. (
+                view_marked other_view.of w ys,
+                read_shows _ _ v pairs (zip xs ys) (law xs ys (shows_read _ _ u view.of xs first)
+                    (shows_read _ _ w other_view.of ys second)),
+              ),
+            )),
+            λ xs ys. (
+              refl,
+              λ first second. read_shows _ _ v pairs (zip xs ys)
+                  (law xs ys (shows_read _ _ u view.of xs first)
+                  (becomes_shown_read _ _ _ _ _ same w other_view ys second)),
+            ),
+          )
+
 -- the lists of inner sources, one after another
 module _ {U W V S R T B : Type 0} {becomes : U → S → Type 0} {meets : W → R → Type 0}
     {other : R → Option B → R → Type 0} {made : V → T → Type 0} {next : T → Option B → T → Type 0}
@@ -144,7 +186,11 @@ module _ {U W V S R T B : Type 0} {becomes : U → S → Type 0} {meets : W → 
           (λ answers. gives (λ x w g call.
               let a = answers x w g call in (a.0, lists_read meets other w (inner x) a.1))),
           (λ answers. gives (λ x w g call.
-              let a = answers x w g call in (a.0, meets_read meets other w (inner x) a.1))),
+              let a = answers x w g call in (
+                a.0,
+                as_items (Reads meets other) w (inner x)
+                    (meets_read meets other w itself (inner x) a.1),
+              ))),
         ),
   )
 
@@ -162,7 +208,8 @@ module _ {U W V S R T B : Type 0} {becomes : U → S → Type 0} {meets : W → 
         (law inner us each (lists_read becomes steps u us lists)) in (
           refl,
           (λ each. gives (λ w. lists_read meets other w (inner w) (each w))),
-          (λ each. gives (λ w. meets_read meets other w (inner w) (each w))),
+          (λ each. gives (λ w. as_items (Reads meets other) w (inner w)
+              (meets_read meets other w itself (inner w) (each w)))),
         ),
   )
 
@@ -175,7 +222,25 @@ counts_as xs it fronts p seen from =
     let as_many = length-enumerate_from 0 xs in
     (subst (λ n. p.len ≤ n) as_many f.0, λ w. p.long ∙ ap length (f.1 w) ∙ as_many)
 
+pub shown_counts_as : {T A B : Type 0} {next : T → Option (ℕ × A) → T → Type 0}
+    {view : ℕ × A → ℕ × B} (xs : List B) (it : T)
+    → ShowsFronts next view (enumerate_from 0 xs) it
+    → EachRunFrom next it (λ p. (p.len ≤ length xs) × (p.whole ≡ true → p.len ≡ length xs))
+shown_counts_as xs it fronts p seen from =
+    let f = fronts p seen from in
+    let as_many = length-enumerate_from 0 xs in
+    (subst (λ n. p.len ≤ n) as_many f.0, λ w. f.1 w ∙ as_many)
+
 -- an iterator of std, which becomes itself: what its runs give
 pub gives_fronts : {T B : Type 0} {next : T → Option B → T → Type 0} (v : T) (ys : List B)
     → GivesList (Reads (λ s it. it ≡ s) next) v ys → GivesFronts next ys v
 gives_fronts v ys list = (read_lists _ _ v ys list).1 v refl
+
+pub shows_items : {T B : Type 0} {next : T → Option B → T → Type 0} (view : View B) (v : T)
+    (ys : List view.Shown) → ViewsList (Reads (λ s it. it ≡ s) next) view.of v ys
+    → ShowsItems next view ys v
+shows_items {next = next} view v ys list p seen from =
+    let front = list p.whole p.items
+    (record { it = v; made = refl; given = run_drains next p v from }) in
+    let l = lists p view.of ys front.0 (λ w. ap length (front.2 w)) front.1 in
+    (l.4, (l.0, l.1, l.6, l.7))

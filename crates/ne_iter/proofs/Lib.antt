@@ -22,6 +22,7 @@ pub mod Divided
 pub mod SliceDivisions
 pub mod Collects
 pub mod ListFronts
+pub mod MappedLists
 pub mod AdapterLists
 pub mod RunFronts
 pub mod ReadLists

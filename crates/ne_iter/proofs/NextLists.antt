@@ -11,7 +11,8 @@ use Rattle.ne_iter.specs.Looked.{LooksWhole}
 use Rattle.ne_iter.specs.SourceLists.{EachMet, LooksLists, MeetsList}
 use Rattle.ne_iter.specs.Sources.{Reads}
 use Rattle.ne_iter.proofs.ClauseLists.{gives_fronts}
-use Rattle.ne_iter.proofs.ReadLists.{lists_read, meets_read, read_lists}
+use Rattle.ne_iter.proofs.ReadLists.{as_items, lists_read, meets_read, read_lists}
+use Rattle.ne_iter.specs.Views.{itself}
 
 module _ {U S A : Type 0} (becomes : U → S → Type 0) (steps : S → Option A → S → Type 0)
     (u : U) (xs : List A) (list : GivesList (Reads becomes steps) u xs) where
@@ -43,7 +44,11 @@ module _ {U S V T A : Type 0} (becomes : U → S → Type 0) (steps : S → Opti
       → EachMet (Lists becomes steps) (MeetsList becomes steps) u P
   each_met holds = (
     (λ xs lists. (marked u xs, holds xs (lists_read becomes steps u xs lists))),
-    λ xs. (refl, λ meets. holds xs (meets_read becomes steps u xs meets)),
+    λ xs. (
+      refl,
+      λ meets. holds xs
+          (as_items (Reads becomes steps) u xs (meets_read becomes steps u itself xs meets)),
+    ),
   )
 
   pub looks_lists : (result : Option V)

@@ -27,3 +27,4 @@ pub mod KeyWalkLaws
 pub mod ExtendLists
 pub mod ExtendListLaws
 pub mod KeyOrder
+pub mod Views

@@ -8,36 +8,52 @@ use Rattle.std.specs.Iterator.{ActsAs}
 use Rattle.std.specs.Iterator.Runs.{Run, EachRunFrom}
 use Rattle.std.specs.List.{flat_map, zip}
 use Rattle.std.specs.Option.{option_map}
-use Rattle.ne_vec.specs.Fronts.{GivesFronts, Lists, mark, view_mark}
+use Rattle.ne_vec.specs.Fronts.{GivesFronts, Lists, Shows, ShowsFrontRun, mark, view_mark}
+use Rattle.ne_iter.specs.Views.{View, itself}
 
--- The items of a run are the first of xs, and all of them if the run is whole. A clause of std's
--- iterators states it in this form.
-abbrev pub FrontOf : {S A : Type 0} {steps : S → Option A → S → Type 0}
-    → Run steps → List A → Type 0
-FrontOf {A = A} p xs = (p.len ≤ length xs) × (p.whole ≡ true → p.len ≡ length xs)
-    × ((k : ℕ) (d : A) → k < p.len → option_map (λ y. y) (p.at k) ≡ Some (slice_index_or xs k d))
+-- What `view` makes of the items of a run are the first of xs, and all of them if the run is whole.
+-- A clause of std's iterators states it in this form.
+abbrev pub FrontOf : {S A B : Type 0} {steps : S → Option A → S → Type 0} → Run steps → (A → B)
+    → List B → Type 0
+FrontOf {B = B} p view xs = (p.len ≤ length xs) × (p.whole ≡ true → p.len ≡ length xs)
+    × ((k : ℕ) (d : B) → k < p.len → option_map view (p.at k) ≡ Some (slice_index_or xs k d))
 
--- The source gives the items of xs according to a clause of its iterator. This is for sources of
--- which no clause of this crate says so, such as a vector that is passed as it is.
-abbrev pub MeetsList : {U S A : Type 0} → (U → S → Type 0) → (S → Option A → S → Type 0)
-    → U → List A → Type 0
-MeetsList {S = S} becomes steps u xs =
-    (it : S) → becomes u it → EachRunFrom steps it (λ p. FrontOf p xs)
+module _ {U S A : Type 0} (becomes : U → S → Type 0) (steps : S → Option A → S → Type 0) where
+  -- The items that the source gives show those of xs according to a clause of its iterator. This is
+  -- for sources of which no clause of this crate says so, such as a vector that is passed as it is.
+  abbrev pub MeetsShown : (view : View A) → U → List view.Shown → Type 0
+  MeetsShown view u xs =
+      (it : S) → becomes u it → EachRunFrom steps it (λ p. FrontOf p view.of xs)
 
--- A value becomes a source that gives the items of xs.
-abbrev pub BecomesList : {W V T A : Type 0} → (W → V → Type 0) → (V → T → Type 0)
-    → (T → Option A → T → Type 0) → W → List A → Type 0
-BecomesList {V = V} makes becomes steps w xs = (v : V) → makes w v → Lists becomes steps v xs
+  -- the same for the items themselves
+  abbrev pub MeetsList : U → List A → Type 0
+  MeetsList = MeetsShown itself
+
+-- A value becomes a source that gives the items of xs, or whose items show them.
+module _ {W V T A : Type 0} (makes : W → V → Type 0) (becomes : V → T → Type 0)
+    (steps : T → Option A → T → Type 0) where
+  abbrev pub BecomesList : W → List A → Type 0
+  BecomesList w xs = (v : V) → makes w v → Lists becomes steps v xs
+
+  abbrev pub BecomesShown : (view : View A) → W → List view.Shown → Type 0
+  BecomesShown view w xs = (v : V) → makes w v → Shows becomes steps view.of v xs
 
 -- P holds for each list that the source gives
 abbrev pub EachList : {U A : Type 0} → (U → List A → Type 0) → U → (List A → Type 0) → Type 0
 EachList {A = A} lists u P = (xs : List A) → lists u xs → (mark u xs ≡ 0) × P xs
 
--- P holds for each view of the items, and the list of numbers that they show
-abbrev pub EachShown : {U A : Type 0} → ((A → ℕ) → U → List ℕ → Type 0) → U
-    → ((A → ℕ) → List ℕ → Type 0) → Type 0
-EachShown {A = A} shows u P =
-    (view : A → ℕ) (xs : List ℕ) → shows view u xs → (view_mark view u xs ≡ 0) × P view xs
+-- P holds for each list that the items of the source show
+abbrev pub EachShown : {U A : Type 0} (view : View A)
+    → ((view : View A) → U → List view.Shown → Type 0) → U → (List view.Shown → Type 0) → Type 0
+EachShown view shows u P =
+    (xs : List view.Shown) → shows view u xs → (view_mark view.of u xs ≡ 0) × P xs
+
+-- What `grind` learns about a run of an iterator of std whose items show those of xs. After it come
+-- std's own adapters, which ask for the list of a whole run.
+abbrev pub ShowsItems : {S A : Type 0} → (S → Option A → S → Type 0) → (view : View A)
+    → List view.Shown → S → Type 0
+ShowsItems steps view xs it = EachRunFrom steps it (λ p.
+    (p.whole ≡ true → map view.of p.items ≡ xs) × ShowsFrontRun steps view.of xs p)
 
 -- The iterator that v becomes gives, in a whole run, as many items as xs has, and at most as many
 -- in any other. For an adapter that numbers the items of xs, it spares `grind` the list of pairs.
@@ -53,9 +69,10 @@ module _ {U V A B F : Type 0} (calls : Mut F (A × Unit {0}) B) (f : F)
   MapsList lists = EachList lists u (λ xs. (h : A → B) → ActsAs calls f h
       → (map h xs ≡ map h xs) × gives v (map h xs))
 
-  abbrev pub MapsShown : ((A → ℕ) → U → List ℕ → Type 0) → Type 0
-  MapsShown shows = EachShown shows u (λ view xs. (h : ℕ → B)
-      → ActsAs calls f (λ x. h (view x)) → (map h xs ≡ map h xs) × gives v (map h xs))
+  abbrev pub MapsShown : (view : View A) → ((view : View A) → U → List view.Shown → Type 0)
+      → Type 0
+  MapsShown view shows = EachShown view shows u (λ xs. (h : view.Shown → B)
+      → ActsAs calls f (λ x. h (view.of x)) → (map h xs ≡ map h xs) × gives v (map h xs))
 
 -- `chain`: the lists of two sources, one after the other. For the second source there may be no
 -- clause that states its list.
@@ -65,6 +82,15 @@ ChainsLists {A = A} lists others meets gives u w v = EachList lists u (λ xs.
     EachList others w (λ ys. gives v (xs ++ ys))
     × ((ys : List A) → (xs ++ ys ≡ xs ++ ys) × (meets w ys → gives v (xs ++ ys))))
 
+-- the same for what their items show
+abbrev pub ChainsShown : {U W V A : Type 0} (view : View A)
+    → ((view : View A) → U → List view.Shown → Type 0)
+    → ((view : View A) → W → List view.Shown → Type 0) → (W → List view.Shown → Type 0)
+    → (V → List view.Shown → Type 0) → U → W → V → Type 0
+ChainsShown view shows others meets gives u w v = EachShown view shows u (λ xs.
+    EachShown view others w (λ ys. gives v (xs ++ ys))
+    × ((ys : List view.Shown) → (xs ++ ys ≡ xs ++ ys) × (meets w ys → gives v (xs ++ ys))))
+
 -- `zip`: the pairs of their items
 abbrev pub ZipsLists : {U W V A B : Type 0} → (U → List A → Type 0) → (W → List B → Type 0)
     → (W → List B → Type 0) → (V → List (A × B) → Type 0) → U → W → V → Type 0
@@ -72,6 +98,16 @@ ZipsLists {A = A} {B = B} lists others meets gives u w v =
     EachList lists u (λ xs. EachList others w (λ ys. gives v (zip xs ys)))
     × ((xs : List A) (ys : List B) → (zip xs ys ≡ zip xs ys)
     × (lists u xs → meets w ys → gives v (zip xs ys)))
+
+-- the same for what their items show
+abbrev pub ZipsShown : {U W V A B : Type 0} (view : View A) (other_view : View B)
+    → ((view : View A) → U → List view.Shown → Type 0)
+    → ((view : View B) → W → List view.Shown → Type 0) → (W → List other_view.Shown → Type 0)
+    → (V → List (view.Shown × other_view.Shown) → Type 0) → U → W → V → Type 0
+ZipsShown view other_view shows others meets gives u w v =
+    EachShown view shows u (λ xs. EachShown other_view others w (λ ys. gives v (zip xs ys)))
+    × ((xs : List view.Shown) (ys : List other_view.Shown) → (zip xs ys ≡ zip xs ys)
+    × (shows view u xs → meets w ys → gives v (zip xs ys)))
 
 -- each call of f with x leaves f unchanged and returns a source of the items of `inner x`
 abbrev pub AnswersLists : {A W B F : Type 0} → Mut F (A × Unit {0}) W → F

@@ -55,6 +55,9 @@ impl<'a, T> IntoNonEmptyIterator for &'a NESlice<'a, T> {
 
 impl<'a, T> NonEmptyIterator for slice::Iter<'a, T> {
     ghost use Rattle.ne_iter.specs.FirstItemLaws.{HasFirst-walk};
+    ghost use Rattle.ne_iter.specs.Views.{referenced};
+
+    ghost item_view = { referenced };
 
     ghost not_empty = { λ s it made. HasFirst-walk s it made };
 }

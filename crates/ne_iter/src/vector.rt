@@ -25,6 +25,9 @@ impl<T: Drop> FromNonEmptyIterator<T> for NEVec<T> {
 impl<'a, T> NonEmptyIterator for vector::Iter<'a, T> {
     ghost use Rattle.std.proofs.Common.{arith, ap};
     ghost use Rattle.ne_iter.specs.FirstItemLaws.{HasFirst-walk};
+    ghost use Rattle.ne_iter.specs.Views.{referenced};
+
+    ghost item_view = { referenced };
 
     ghost not_empty = { λ s it made. HasFirst-walk s it made };
 }

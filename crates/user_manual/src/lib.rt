@@ -13,6 +13,7 @@ pub mod looks;
 pub mod mixed;
 pub mod nested;
 pub mod parts;
+pub mod references;
 pub mod runs;
 pub mod sources;
 pub mod texts;

@@ -128,6 +128,9 @@ impl<'a, K, V> Model for Iter<'a, K, V> {
 
 impl<'a, K, V> NonEmptyIterator for Iter<'a, K, V> {
     ghost use Rattle.ne_iter.specs.KeyWalkLaws.{HasFirst-shown};
+    ghost use Rattle.ne_iter.specs.Views.{shown_by};
+
+    ghost item_view = { shown_by (deref_pair {K = K} {X = V}) };
 
     ghost not_empty = { λ es it made. HasFirst-shown deref_pair es it made.0 made.1 };
 }
@@ -217,6 +220,9 @@ impl<'a, K, V> Model for Keys<'a, K, V> {
 
 impl<'a, K, V> NonEmptyIterator for Keys<'a, K, V> {
     ghost use Rattle.ne_iter.specs.KeyWalkLaws.{HasFirst-shown};
+    ghost use Rattle.ne_iter.specs.Views.{shown_by};
+
+    ghost item_view = { shown_by (deref {X = K}) };
 
     ghost not_empty = { λ ks it made. HasFirst-shown deref ks it made.0 made.1 };
 }
@@ -268,6 +274,9 @@ impl<'a, K, V> Model for Values<'a, K, V> {
 
 impl<'a, K, V> NonEmptyIterator for Values<'a, K, V> {
     ghost use Rattle.ne_iter.specs.KeyWalkLaws.{HasFirst-shown};
+    ghost use Rattle.ne_iter.specs.Views.{shown_by};
+
+    ghost item_view = { shown_by (deref {X = V}) };
 
     ghost not_empty = { λ vs it made. HasFirst-shown deref vs it made.0 made.1 };
 }

@@ -136,6 +136,9 @@ impl<'a, T> IntoIterator for Iter<'a, T> {
 
 impl<'a, T> NonEmptyIterator for Iter<'a, T> {
     ghost use Rattle.ne_iter.specs.KeyWalkLaws.{HasFirst-shown};
+    ghost use Rattle.ne_iter.specs.Views.{shown_by};
+
+    ghost item_view = { shown_by (deref {X = T}) };
 
     ghost not_empty = { λ xs it made. HasFirst-shown deref xs it made.0 made.1 };
 }
@@ -213,6 +216,9 @@ impl<'a, T: Eq + Hash, S: BuildHasher> IntoIterator for Union<'a, T, S> {
 impl<'a, T: Eq + Hash, S: BuildHasher> NonEmptyIterator for Union<'a, T, S> {
     ghost use Rattle.std.specs.Map.Iter.{deref};
     ghost use Rattle.ne_iter.specs.KeyWalkLaws.{HasFirst-shown};
+    ghost use Rattle.ne_iter.specs.Views.{shown_by};
+
+    ghost item_view = { shown_by (deref {X = T}) };
 
     ghost not_empty = { λ xs it made. HasFirst-shown deref xs it made.0 made.1 };
 

@@ -67,6 +67,9 @@ impl<I: IntoIterator> IntoIterator for Enumerate<I> {
 impl<I: NonEmptyIterator> NonEmptyIterator for Enumerate<I> {
     ghost use Rattle.std.specs.Iterator.Adapters.{enumerate_source as std_enumerate_source};
     ghost use Rattle.ne_iter.specs.Parts.{enumerate_source};
+    ghost use Rattle.ne_iter.specs.Views.{numbered};
+
+    ghost item_view = { numbered I.item_view };
 
     ghost not_empty = { λ s it made t ended. I.not_empty (enumerate_source s)
         (std_enumerate_source it) made.0 (std_enumerate_source t) ended.0 };
@@ -103,6 +106,8 @@ impl<I: NonEmptyIterator> NonEmptyIterator for Take<I> {
     ghost use Rattle.std.specs.Iterator.Adapters.{take_source as std_take_source};
     ghost use Rattle.std.proofs.Common.{rules};
     ghost use Rattle.ne_iter.specs.Parts.{take_source};
+
+    ghost item_view = { I.item_view };
 
     ghost not_empty = { λ s it made t ended. I.not_empty (take_source s) (std_take_source it) made.0
         (std_take_source t) (ended (let some = s.n.ok in let count = made.1 in
@@ -144,6 +149,8 @@ impl<A: NonEmptyIterator, B: IntoIterator<Item = A::Item>> NonEmptyIterator for 
     ghost use Rattle.ne_iter.specs.Parts.{chain_first};
     ghost use Rattle.ne_iter.specs.SourceLaws.{HasFirst-chain};
 
+    ghost item_view = { A.item_view };
+
     ghost not_empty = { λ s it made. HasFirst-chain A.IntoIter.next_gives B.IntoIter.next_gives it
         made.2 (A.not_empty (chain_first s) (std_chain_first it) made.0) };
 }
@@ -184,6 +191,9 @@ where
     ghost use Rattle.std.specs.Iterator.Adapters.{zip_second as std_zip_second};
     ghost use Rattle.ne_iter.specs.Parts.{zip_first, zip_second};
     ghost use Rattle.ne_iter.specs.SourceLaws.{HasFirst-zip, IsNonEmpty-into};
+    ghost use Rattle.ne_iter.specs.Views.{in_pairs};
+
+    ghost item_view = { in_pairs A.item_view B.IntoNEIter.item_view };
 
     ghost not_empty = { λ s it made. HasFirst-zip A.IntoIter.next_gives B.IntoIter.next_gives it
         (A.not_empty (zip_first s) (std_zip_first it) made.0)

@@ -7,6 +7,7 @@ ghost use Rattle.std.specs.List.{All, Contains, enumerate_from, prefix_len, list
 ghost use Rattle.std.specs.List.{filter as list_filter, filter_map as list_filter_map};
 ghost use Rattle.std.specs.List.{find as list_find, fold as list_fold, reduce as list_reduce};
 ghost use Rattle.std.specs.List.{scan as list_scan, take_while as list_take_while};
+ghost use Rattle.std.specs.Option.{option_map};
 ghost use Rattle.std.specs.Iterator.{IsFinite, ActsAs, ActsAsAt, ActsAsOnTwo, AfterFirst};
 ghost use Rattle.std.specs.Iterator.{CallableInFold, CallableWhile, CallableWhileAt};
 ghost use Rattle.std.specs.Iterator.{CallableOnAllAt};
@@ -31,13 +32,15 @@ ghost use Rattle.ne_iter.specs.Sources.{IsNonEmpty, DrawsFirst};
 ghost use Rattle.ne_vec.specs.Fronts.{Shows, GivesFronts, mark, view_mark};
 ghost use Rattle.ne_vec.specs.WalkFronts.{WalkGives};
 ghost use Rattle.ne_iter.specs.SourceRuns.{RunsSome, RunsWhole, BeginsRuns};
-ghost use Rattle.ne_iter.specs.SourceLists.{BecomesList, BeginsList, ChainsLists, CountsAs};
-ghost use Rattle.ne_iter.specs.SourceLists.{EachList};
-ghost use Rattle.ne_iter.specs.SourceLists.{EachShown, FlattensLists, MapsList, MapsShown};
-ghost use Rattle.ne_iter.specs.SourceLists.{MeetsList, SpreadsLists, ZipsLists};
+ghost use Rattle.ne_iter.specs.SourceLists.{BecomesList, BecomesShown, BeginsList, ChainsLists};
+ghost use Rattle.ne_iter.specs.SourceLists.{ChainsShown, CountsAs, EachList, EachShown};
+ghost use Rattle.ne_iter.specs.SourceLists.{FlattensLists, MapsList, MapsShown, MeetsList};
+ghost use Rattle.ne_iter.specs.SourceLists.{MeetsShown, ShowsItems, SpreadsLists, ZipsLists};
+ghost use Rattle.ne_iter.specs.SourceLists.{ZipsShown};
 ghost use Rattle.ne_iter.specs.Interspersed.{interspersed, JoinsLists, OnlyItsValues};
 ghost use Rattle.ne_iter.specs.Calls.{ActsAsWithState, ShownEach};
 ghost use Rattle.ne_iter.specs.Clones.{TriesClone};
+ghost use Rattle.ne_iter.specs.Views.{View, in_pairs, itself, numbered};
 ghost use Rattle.ne_iter.specs.Collected.{FrontMakes, values_or_first_err};
 ghost use Rattle.ne_iter.specs.KeyOrder.{SortsByKey};
 ghost use Rattle.ne_iter.specs.Parts.{map_source, map_callee, enumerate_source, take_source};
@@ -78,15 +81,18 @@ use std::num::NonZeroUsize;
 /// The law of this trait is `not_empty`: the iterator made from any value first returns an item. An
 /// implementation proves this law and needs nothing else; all methods but `next` are final.
 ///
-/// The methods that use up the source require that it ends. A closure is called with the items in
-/// order, once for each item taken, and may have state. Only methods that return `AllocError`
-/// allocate.
+/// In contracts, `item_view` says what an item shows: a reference shows the item that it points to,
+/// and any other item shows itself. A source of references says so by the line
+/// `ghost item_view = { referenced };`, and what is proved of a chain over it is then about the
+/// items that its references point to. The Rust crate has nothing of the kind.
 ///
 /// ```
 /// let halves = [3u32, 1, 2].into_nonempty_iter().map(|x| x / 2);
 /// let halves: NEVec<u32> = halves.collect(alloc)?; // [1, 0, 1]
 /// ```
 pub trait NonEmptyIterator: IntoIterator {
+    ghost item_view: { View Self.Item } = { itself };
+
     /// Returns the first item, which always exists, and the iterator over the others.
     ///
     /// Unlike the other methods this one is not final: the toolchain rejects a trait with only
@@ -156,6 +162,10 @@ pub trait NonEmptyIterator: IntoIterator {
         ensures lists { EachList (⟦<Self as SourceWords>⟧.lists) self
             (λ xs. (test : Self.Item → Bool)
             → ActsAs F.FnMut f test → result ≡ list_all test xs) }
+        ensures shown { EachShown item_view (⟦<Self as SourceWords>⟧.shows) self (λ xs.
+            (test : item_view.Shown → Bool)
+            → ActsAs F.FnMut f (λ x. test (item_view.of x))
+            → result ≡ list_all test xs) }
         ensures runs { RunsSome Self.into_iter_gives Self.IntoIter.next_gives self (λ p.
             MatchBool result (IsTrue p.whole × AllItemsGive p F.FnMut f true)
             (AnyItemGives p F.FnMut f false)) }
@@ -178,6 +188,10 @@ pub trait NonEmptyIterator: IntoIterator {
         ensures lists { EachList (⟦<Self as SourceWords>⟧.lists) self
             (λ xs. (test : Self.Item → Bool)
             → ActsAs F.FnMut f test → result ≡ list_any test xs) }
+        ensures shown { EachShown item_view (⟦<Self as SourceWords>⟧.shows) self (λ xs.
+            (test : item_view.Shown → Bool)
+            → ActsAs F.FnMut f (λ x. test (item_view.of x))
+            → result ≡ list_any test xs) }
         ensures runs { RunsSome Self.into_iter_gives Self.IntoIter.next_gives self (λ p.
             MatchBool result (AnyItemGives p F.FnMut f true)
             (IsTrue p.whole × AllItemsGive p F.FnMut f false)) }
@@ -203,9 +217,10 @@ pub trait NonEmptyIterator: IntoIterator {
         ensures lists { ChainsLists (⟦<Self as SourceWords>⟧.lists) (⟦<U as SourceWords>⟧.lists)
             (MeetsList U.into_iter_gives U.IntoIter.next_gives)
             (⟦<Chain<Self, U> as SourceWords>⟧.gives_items) self other result }
-        ensures shown { EachShown (⟦<Self as SourceWords>⟧.shows) self (λ view xs. (ys : List ℕ)
-            → ⟦<U as SourceWords>⟧.shows view other ys → (view_mark view other ys ≡ 0)
-            × ⟦<Chain<Self, U> as SourceWords>⟧.gives_shown view result (xs ++ ys)) }
+        ensures shown { ChainsShown item_view (⟦<Self as SourceWords>⟧.shows)
+            (⟦<U as SourceWords>⟧.shows)
+            (MeetsShown U.into_iter_gives U.IntoIter.next_gives item_view)
+            (⟦<Chain<Self, U> as SourceWords>⟧.gives_shown item_view) self other result }
     {
         Chain { a: self, b: other }
     }
@@ -301,6 +316,8 @@ pub trait NonEmptyIterator: IntoIterator {
             × (non_zero_usize_get result ≡ length xs) }
         ensures lists { EachList (⟦<Self as SourceWords>⟧.lists) self (λ xs.
             non_zero_usize_get result ≡ length xs) }
+        ensures shown { EachShown item_view (⟦<Self as SourceWords>⟧.shows) self (λ xs.
+            non_zero_usize_get result ≡ length xs) }
         ensures runs { RunsWhole Self.into_iter_gives Self.IntoIter.next_gives self (λ p.
             non_zero_usize_get result ≡ p.len) }
     {
@@ -323,6 +340,11 @@ pub trait NonEmptyIterator: IntoIterator {
             (⟦<Enumerate<Self> as SourceWords>⟧.reads) self result }
         ensures lists { EachList (⟦<Self as SourceWords>⟧.lists) self (λ xs.
             ⟦<Enumerate<Self> as SourceWords>⟧.gives_items result (enumerate_from 0 xs)
+            × CountsAs (⟦<Enumerate<Self> as IntoIterator>⟧.into_iter_gives)
+            (enumerate_steps Self.IntoIter.next_gives) result xs) }
+        ensures shown { EachShown item_view (⟦<Self as SourceWords>⟧.shows) self (λ xs.
+            ⟦<Enumerate<Self> as SourceWords>⟧.gives_shown (numbered item_view) result
+            (enumerate_from 0 xs)
             × CountsAs (⟦<Enumerate<Self> as IntoIterator>⟧.into_iter_gives)
             (enumerate_steps Self.IntoIter.next_gives) result xs) }
     {
@@ -353,6 +375,12 @@ pub trait NonEmptyIterator: IntoIterator {
             → ActsAsAt P.FnMut predicate test → (list_filter test xs ≡ list_filter test xs)
             × GivesFronts (filter_steps Self.IntoIter.next_gives P.FnMut)
             (list_filter test xs) result) }
+        ensures shown { EachShown item_view (⟦<Self as SourceWords>⟧.shows) self (λ xs.
+            (test : item_view.Shown → Bool)
+            → ActsAsAt P.FnMut predicate (λ x. test (item_view.of x))
+            → (list_filter test xs ≡ list_filter test xs)
+            × ShowsItems (filter_steps Self.IntoIter.next_gives P.FnMut) item_view
+            (list_filter test xs) result) }
         ensures runs { (it : Self.IntoIter) × Self.into_iter_gives self it
             × EachRunFrom (filter_steps Self.IntoIter.next_gives P.FnMut) result (λ u.
             SomeRun Self.IntoIter.next_gives it (λ q. IsFilterRun u q P.FnMut predicate)) }
@@ -382,6 +410,11 @@ pub trait NonEmptyIterator: IntoIterator {
             → (list_filter_map h xs ≡ list_filter_map h xs)
             × GivesFronts (filter_map_steps Self.IntoIter.next_gives F.FnMut)
             (list_filter_map h xs) result) }
+        ensures shown { EachShown item_view (⟦<Self as SourceWords>⟧.shows) self (λ xs.
+            (h : item_view.Shown → Option B) → ActsAs F.FnMut f (λ x. h (item_view.of x))
+            → (list_filter_map h xs ≡ list_filter_map h xs)
+            × GivesFronts (filter_map_steps Self.IntoIter.next_gives F.FnMut)
+            (list_filter_map h xs) result) }
         ensures runs { (it : Self.IntoIter) × Self.into_iter_gives self it
             × EachRunFrom (filter_map_steps Self.IntoIter.next_gives F.FnMut) result (λ p.
             SomeRun Self.IntoIter.next_gives it (λ q. IsFilterMapRun p q F.FnMut f)) }
@@ -406,6 +439,10 @@ pub trait NonEmptyIterator: IntoIterator {
         ensures lists { EachList (⟦<Self as SourceWords>⟧.lists) self
             (λ xs. (test : Self.Item → Bool)
             → ActsAsAt P.FnMut predicate test → result ≡ list_find test xs) }
+        ensures shown { EachShown item_view (⟦<Self as SourceWords>⟧.shows) self (λ xs.
+            (test : item_view.Shown → Bool)
+            → ActsAsAt P.FnMut predicate (λ x. test (item_view.of x))
+            → option_map item_view.of result ≡ list_find test xs) }
         ensures runs { RunsSome Self.into_iter_gives Self.IntoIter.next_gives self (λ u.
             MatchOption result (IsTrue u.whole × NoItemPasses u P.FnMut predicate)
             (EndsAtFirstPassing u P.FnMut predicate)) }
@@ -488,6 +525,10 @@ pub trait NonEmptyIterator: IntoIterator {
         ensures gives { FoldsAll (⟦<Self as SourceWords>⟧.reads) F.FnMut self f init result }
         ensures lists { EachList (⟦<Self as SourceWords>⟧.lists) self (λ xs.
             (h : B → Self.Item → B) → ActsAsOnTwo F.FnMut f h → result ≡ list_fold h init xs) }
+        ensures shown { EachShown item_view (⟦<Self as SourceWords>⟧.shows) self (λ xs.
+            (h : B → item_view.Shown → B)
+            → ActsAsOnTwo F.FnMut f (λ total x. h total (item_view.of x))
+            → result ≡ list_fold h init xs) }
         ensures runs { RunsWhole Self.into_iter_gives Self.IntoIter.next_gives self (λ p.
             (h : B → Self.Item → B) → ActsAsOnTwo F.FnMut f h
             → result ≡ list_fold h init p.items) }
@@ -599,8 +640,7 @@ pub trait NonEmptyIterator: IntoIterator {
         ensures lists { MapsList F.FnMut f (⟦<Map<Self, F> as SourceWords>⟧.gives_items) self result
             (⟦<Self as SourceWords>⟧.lists) }
         ensures shown { MapsShown F.FnMut f (⟦<Map<Self, F> as SourceWords>⟧.gives_items) self
-            result
-            (⟦<Self as SourceWords>⟧.shows) }
+            result item_view (⟦<Self as SourceWords>⟧.shows) }
     {
         Map { iter: self, f }
     }
@@ -816,6 +856,8 @@ pub trait NonEmptyIterator: IntoIterator {
         ensures gives { GivesNth (⟦<Self as SourceWords>⟧.reads) self n result }
         ensures lists { EachList (⟦<Self as SourceWords>⟧.lists) self (λ xs.
             result ≡ slice_get xs n) }
+        ensures shown { EachShown item_view (⟦<Self as SourceWords>⟧.shows) self (λ xs.
+            option_map item_view.of result ≡ slice_get xs n) }
         ensures runs { RunsSome Self.into_iter_gives Self.IntoIter.next_gives self (λ p.
             MatchOption result (IsTrue p.whole × (p.len ≤ n))
             (λ x. (p.len ≡ n + 1) × (p.at n ≡ Some x))) }
@@ -855,6 +897,13 @@ pub trait NonEmptyIterator: IntoIterator {
             → (list_scan step out init xs ≡ list_scan step out init xs)
             × ⟦<Scan<Self, St, F> as SourceWords>⟧.gives_items result
             (list_scan step out init xs)) }
+        ensures shown { EachShown item_view (⟦<Self as SourceWords>⟧.shows) self (λ xs.
+            (step : St → item_view.Shown → St) (out : St → item_view.Shown → B)
+            → ActsAsWithState F.FnMut f (λ s x. step s (item_view.of x))
+            (λ s x. out s (item_view.of x))
+            → (list_scan step out init xs ≡ list_scan step out init xs)
+            × ⟦<Scan<Self, St, F> as SourceWords>⟧.gives_items result
+            (list_scan step out init xs)) }
     {
         Scan {
             iter: self,
@@ -879,6 +928,8 @@ pub trait NonEmptyIterator: IntoIterator {
             (⟦<iter::Skip<Self::IntoIter> as SourceWords>⟧.reads) n self result }
         ensures lists { EachList (⟦<Self as SourceWords>⟧.lists) self (λ xs.
             GivesFronts (skip_steps Self.IntoIter.next_gives) (drop n xs) result) }
+        ensures shown { EachShown item_view (⟦<Self as SourceWords>⟧.shows) self (λ xs.
+            ShowsItems (skip_steps Self.IntoIter.next_gives) item_view (drop n xs) result) }
         ensures runs { (it : Self.IntoIter) × Self.into_iter_gives self it
             × EachRunFrom (skip_steps Self.IntoIter.next_gives) result (λ p.
             SomeRun Self.IntoIter.next_gives it (λ q. IsSkipRun p q n)) }
@@ -908,6 +959,12 @@ pub trait NonEmptyIterator: IntoIterator {
             (λ xs. (test : Self.Item → Bool)
             → ActsAsAt P.FnMut pred test → (prefix_len test xs ≡ prefix_len test xs)
             × GivesFronts (skip_while_steps Self.IntoIter.next_gives P.FnMut)
+            (drop (prefix_len test xs) xs) result) }
+        ensures shown { EachShown item_view (⟦<Self as SourceWords>⟧.shows) self (λ xs.
+            (test : item_view.Shown → Bool)
+            → ActsAsAt P.FnMut pred (λ x. test (item_view.of x))
+            → (prefix_len test xs ≡ prefix_len test xs)
+            × ShowsItems (skip_while_steps Self.IntoIter.next_gives P.FnMut) item_view
             (drop (prefix_len test xs) xs) result) }
         ensures runs { (it : Self.IntoIter) × Self.into_iter_gives self it
             × EachRunFrom (skip_while_steps Self.IntoIter.next_gives P.FnMut) result (λ u.
@@ -952,8 +1009,8 @@ pub trait NonEmptyIterator: IntoIterator {
             (⟦<Take<Self> as SourceWords>⟧.reads) (non_zero_usize_get n) self result }
         ensures lists { EachList (⟦<Self as SourceWords>⟧.lists) self (λ xs.
             ⟦<Take<Self> as SourceWords>⟧.gives_items result (take (non_zero_usize_get n) xs)) }
-        ensures shown { EachShown (⟦<Self as SourceWords>⟧.shows) self (λ view xs.
-            ⟦<Take<Self> as SourceWords>⟧.gives_shown view result
+        ensures shown { EachShown item_view (⟦<Self as SourceWords>⟧.shows) self (λ xs.
+            ⟦<Take<Self> as SourceWords>⟧.gives_shown item_view result
             (take (non_zero_usize_get n) xs)) }
     {
         Take { iter: self, n }
@@ -982,6 +1039,12 @@ pub trait NonEmptyIterator: IntoIterator {
             → ActsAsAt P.FnMut pred test
             → (list_take_while test xs ≡ list_take_while test xs)
             × GivesFronts (take_while_steps Self.IntoIter.next_gives P.FnMut)
+            (list_take_while test xs) result) }
+        ensures shown { EachShown item_view (⟦<Self as SourceWords>⟧.shows) self (λ xs.
+            (test : item_view.Shown → Bool)
+            → ActsAsAt P.FnMut pred (λ x. test (item_view.of x))
+            → (list_take_while test xs ≡ list_take_while test xs)
+            × ShowsItems (take_while_steps Self.IntoIter.next_gives P.FnMut) item_view
             (list_take_while test xs) result) }
         ensures runs { (it : Self.IntoIter) × Self.into_iter_gives self it
             × EachRunFrom (take_while_steps Self.IntoIter.next_gives P.FnMut) result (λ u.
@@ -1035,6 +1098,12 @@ pub trait NonEmptyIterator: IntoIterator {
             (BecomesList U.into_nonempty_iter_gives U.IntoNEIter.into_iter_gives
             U.IntoNEIter.IntoIter.next_gives)
             (⟦<Zip<Self, U> as SourceWords>⟧.gives_items) self other result }
+        ensures shown { ZipsShown item_view U.IntoNEIter.item_view
+            (⟦<Self as SourceWords>⟧.shows) (⟦<U as SourceWords>⟧.shows)
+            (BecomesShown U.into_nonempty_iter_gives U.IntoNEIter.into_iter_gives
+            U.IntoNEIter.IntoIter.next_gives U.IntoNEIter.item_view)
+            (⟦<Zip<Self, U> as SourceWords>⟧.gives_shown
+            (in_pairs item_view U.IntoNEIter.item_view)) self other result }
     {
         Zip { a: self, b: other }
     }

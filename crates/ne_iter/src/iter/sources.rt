@@ -1,9 +1,10 @@
 //! What a source may give, in contracts; and values that become sources.
-ghost use Rattle.std.specs.Prelude.{◌≡◌, ℕ, Bool, List};
+ghost use Rattle.std.specs.Prelude.{◌≡◌, Bool, List};
 ghost use Rattle.std.specs.Iterator.{IsFiniteIterable};
 ghost use Rattle.ne_vec.specs.Fronts.{Lists, Shows, EachFront, GivesItems, GivesShown};
 ghost use Rattle.ne_iter.specs.Sources.{Reads, SameLists};
 ghost use Rattle.ne_iter.specs.SourceLaws.{SameLists-self};
+ghost use Rattle.ne_iter.specs.Views.{View};
 
 use super::NonEmptyIterator;
 
@@ -15,7 +16,7 @@ use super::NonEmptyIterator;
 /// says that all items may be taken, and that they come to an end.
 ///
 /// `lists source xs` says that `source` gives the items `xs` and no others, as far as they are
-/// taken. `shows view source xs` says the same of what `view` makes of its items. The search of the
+/// taken. `shows view source xs` says the same of what its items show by `view`. The search of the
 /// checker does not unfold these two; `gives_items` and `gives_shown` add what it learns about each
 /// run of the iterator. `each_front P source` says that `P` holds for the first items that come,
 /// however many are taken.
@@ -24,11 +25,11 @@ pub trait SourceWords: IntoIterator {
 
     ghost lists: { Self → List Self.Item → Type 0 };
 
-    ghost shows: { (Self.Item → ℕ) → Self → List ℕ → Type 0 };
+    ghost shows: { (view : View Self.Item) → Self → List view.Shown → Type 0 };
 
     ghost gives_items: { Self → List Self.Item → Type 0 };
 
-    ghost gives_shown: { (Self.Item → ℕ) → Self → List ℕ → Type 0 };
+    ghost gives_shown: { (view : View Self.Item) → Self → List view.Shown → Type 0 };
 
     ghost each_front: { (List Self.Item → Type 0) → Self → Type 0 };
 
@@ -42,11 +43,11 @@ impl<S: IntoIterator> SourceWords for S {
 
     ghost lists = { Lists S.into_iter_gives S.IntoIter.next_gives };
 
-    ghost shows = { Shows S.into_iter_gives S.IntoIter.next_gives };
+    ghost shows = { λ view. Shows S.into_iter_gives S.IntoIter.next_gives view.of };
 
     ghost gives_items = { GivesItems S.into_iter_gives S.IntoIter.next_gives };
 
-    ghost gives_shown = { GivesShown S.into_iter_gives S.IntoIter.next_gives };
+    ghost gives_shown = { λ view. GivesShown S.into_iter_gives S.IntoIter.next_gives view.of };
 
     ghost each_front = { EachFront S.into_iter_gives S.IntoIter.next_gives };
 

@@ -128,6 +128,9 @@ impl<'a, T> IntoIterator for Iter<'a, T> {
 
 impl<'a, T> NonEmptyIterator for Iter<'a, T> {
     ghost use Rattle.ne_iter.specs.KeyWalkLaws.{HasFirst-shown};
+    ghost use Rattle.ne_iter.specs.Views.{shown_by};
+
+    ghost item_view = { shown_by (deref {X = T}) };
 
     ghost not_empty = { λ xs it made. HasFirst-shown deref xs it made.0 made.1 };
 }
@@ -203,6 +206,9 @@ impl<'a, T: Ord> IntoIterator for Union<'a, T> {
 impl<'a, T: Ord> NonEmptyIterator for Union<'a, T> {
     ghost use Rattle.std.specs.Map.Iter.{deref};
     ghost use Rattle.ne_iter.specs.KeyWalkLaws.{HasFirst-shown};
+    ghost use Rattle.ne_iter.specs.Views.{shown_by};
+
+    ghost item_view = { shown_by (deref {X = T}) };
 
     ghost not_empty = { λ xs it made. HasFirst-shown deref xs it made.0 made.1 };
 }

@@ -19,4 +19,6 @@ pub returns-clause-lists : goal.returns-clause-lists
 returns-clause-lists g c = chains_lists (chain_list (returns-clause-gives g c))
 
 pub returns-clause-shown : goal.returns-clause-shown
-returns-clause-shown g c = chains_shown (chain_view (returns-clause-gives g c))
+returns-clause-shown g c =
+    let view = g.Self.NonEmptyIterator.item_view in
+    chains_shown view (chain_view (returns-clause-gives g c) view.of)

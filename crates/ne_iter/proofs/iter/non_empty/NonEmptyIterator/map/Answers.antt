@@ -20,4 +20,6 @@ pub returns-clause-lists : goal.returns-clause-lists
 returns-clause-lists g c = maps_list (map_list (returns-clause-gives g c))
 
 pub returns-clause-shown : goal.returns-clause-shown
-returns-clause-shown g c = maps_shown (map_view (returns-clause-gives g c))
+returns-clause-shown g c =
+    let view = g.Self.NonEmptyIterator.item_view in
+    maps_shown view (map_view (returns-clause-gives g c) view.of)

@@ -5,9 +5,9 @@ use Rattle.ne_iter.specs.Scanned.{scanned_from, state_of, callee_of}
 use Rattle.ne_iter.proofs.ScannedRuns.{DrainsIf-scan, CallableInScan-always}
 use Rattle.std.proofs.Common.{refl}
 use Rattle.std.specs.List.{scan}
-use Rattle.ne_vec.specs.FrontLaws.{marked}
-use Rattle.ne_iter.proofs.AdapterLists.{scan_list}
-use Rattle.ne_iter.proofs.ReadLists.{lists_read, read_lists}
+use Rattle.ne_vec.specs.FrontLaws.{marked, view_marked}
+use Rattle.ne_iter.proofs.AdapterLists.{scan_list, scan_view}
+use Rattle.ne_iter.proofs.ReadLists.{lists_read, read_lists, shows_read}
 use Rattle.ne_iter.proofs.iter.non_empty.NonEmptyIterator.scan.Goals as goal
 
 pub returns-clause-gives : goal.returns-clause-gives
@@ -42,3 +42,15 @@ returns-clause-lists g c xs lists = (
         (scan_list (returns-clause-gives g c) step out xs acts (lists_read _ _ _ xs lists)),
   ),
 )
+
+pub returns-clause-shown : goal.returns-clause-shown
+returns-clause-shown g c xs shows =
+    let view = g.Self.NonEmptyIterator.item_view.of in (
+      view_marked view _ xs,
+      λ step out acts. (
+        refl,
+        read_lists _ _ _ (scan step out c.args.init xs)
+            (scan_view (returns-clause-gives g c) view step out xs acts
+            (shows_read _ _ _ view xs shows)),
+      ),
+    )

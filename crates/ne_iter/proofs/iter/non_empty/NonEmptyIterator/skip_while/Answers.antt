@@ -3,10 +3,10 @@ use Rattle.ne_iter.proofs.KeptRuns.{SkipWhileGives-from_steps}
 use Rattle.std.proofs.Common.{refl}
 use Rattle.std.specs.Prelude.{drop}
 use Rattle.std.specs.List.{prefix_len}
-use Rattle.ne_vec.specs.FrontLaws.{marked}
-use Rattle.ne_iter.proofs.AdapterLists.{skip_while_list}
-use Rattle.ne_iter.proofs.ClauseLists.{gives_fronts}
-use Rattle.ne_iter.proofs.ReadLists.{lists_read}
+use Rattle.ne_vec.specs.FrontLaws.{marked, view_marked}
+use Rattle.ne_iter.proofs.AdapterLists.{skip_while_list, skip_while_view}
+use Rattle.ne_iter.proofs.ClauseLists.{gives_fronts, shows_items}
+use Rattle.ne_iter.proofs.ReadLists.{lists_read, shows_read}
 use Rattle.ne_iter.proofs.iter.non_empty.NonEmptyIterator.skip_while.Goals as goal
 
 pub returns-clause-gives : goal.returns-clause-gives
@@ -22,6 +22,18 @@ returns-clause-lists g c xs lists = (
   λ test acts. (
     refl,
     gives_fronts _ (drop (prefix_len test xs) xs)
-        (skip_while_list (returns-clause-gives g c) test xs acts (lists_read _ _ _ xs lists)),
+        (skip_while_list test xs acts (lists_read _ _ _ xs lists) (returns-clause-gives g c)),
   ),
 )
+
+pub returns-clause-shown : goal.returns-clause-shown
+returns-clause-shown g c xs shows =
+    let view = g.Self.NonEmptyIterator.item_view in (
+      view_marked view.of _ xs,
+      λ test acts. (
+        refl,
+        shows_items view _ (drop (prefix_len test xs) xs)
+            (skip_while_view view.of test xs acts (shows_read _ _ _ view.of xs shows)
+            (returns-clause-gives g c)),
+      ),
+    )

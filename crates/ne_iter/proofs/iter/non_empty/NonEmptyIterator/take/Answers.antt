@@ -26,4 +26,6 @@ pub returns-clause-lists : goal.returns-clause-lists
 returns-clause-lists g c = gives_each (take _) (take_list (returns-clause-gives g c))
 
 pub returns-clause-shown : goal.returns-clause-shown
-returns-clause-shown g c = shows_each (take _) (take_view (returns-clause-gives g c))
+returns-clause-shown g c =
+    let view = g.Self.NonEmptyIterator.item_view in
+    shows_each view view.of (take _) (take_view (returns-clause-gives g c) view.of)

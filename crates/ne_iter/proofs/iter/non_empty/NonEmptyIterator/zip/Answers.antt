@@ -1,7 +1,7 @@
 use Rattle.std.specs.Iterator.Adapters.{zip_first, zip_second}
 use Rattle.ne_iter.proofs.Runs.{DrainsIf-zip}
-use Rattle.ne_iter.proofs.AdapterLists.{zip_list}
-use Rattle.ne_iter.proofs.ClauseLists.{zips_lists}
+use Rattle.ne_iter.proofs.AdapterLists.{zip_list, zip_view}
+use Rattle.ne_iter.proofs.ClauseLists.{zips_lists, zips_shown}
 use Rattle.ne_iter.proofs.iter.non_empty.NonEmptyIterator.zip.Goals as goal
 
 pub returns-clause-gives : goal.returns-clause-gives
@@ -22,3 +22,10 @@ returns-clause-gives g c whole ps h =
 pub returns-clause-lists : goal.returns-clause-lists
 returns-clause-lists g c =
     zips_lists g.met.U.IntoNonEmptyIterator.same_lists (zip_list (returns-clause-gives g c))
+
+pub returns-clause-shown : goal.returns-clause-shown
+returns-clause-shown g c =
+    let view = g.Self.NonEmptyIterator.item_view in
+    let other = g.U.IntoNEIter.NonEmptyIterator.item_view in
+    zips_shown view other g.met.U.IntoNonEmptyIterator.same_lists
+    (zip_view (returns-clause-gives g c) view.of other.of)

@@ -1,0 +1,286 @@
+//! Chains over references, which read structs and numbers where they are, without a copy.
+ghost use Rattle.std.specs.Prelude.{
+  ◌≡◌,
+  ◌/◌,
+  ◌++◌,
+  ◌∷◌,
+  ◌<◌,
+  ◌≤◌,
+  ◌^◌,
+  [],
+  map,
+  sum,
+  take,
+  drop,
+  length,
+  slice_get,
+  Some,
+  None,
+  IfOk,
+  ltb,
+  cond,
+};
+ghost use Rattle.std.specs.List.{All, Contains, enumerate_from, filter, filter_map, find, flat_map};
+ghost use Rattle.std.specs.List.{fold, list_all, list_any, prefix_len, scan, take_while, zip};
+ghost use Rattle.std.specs.Option.{option_map};
+ghost use Rattle.std.specs.Int.NonZero.{non_zero_usize_get};
+
+use nonempty_collections::{NEBTreeMap, NEVec, NonEmptyIterator, iter};
+use std::alloc::{AllocError, Global};
+use std::num::NonZeroUsize;
+
+/// A sale to a buyer.
+pub struct Sale {
+    pub buyer: u32,
+    pub price: u32,
+}
+
+/// Returns whether every price is below 10.
+pub fn all_cheap(sales: &NEVec<Sale>) -> bool
+    ensures { result ≡ list_all (λ s. ltb s.price 10) sales.now }
+{
+    sales.nonempty_iter().all(|s| s.price < 10)
+}
+
+/// Returns whether any price is below 10.
+pub fn any_cheap(sales: &NEVec<Sale>) -> bool
+    ensures { result ≡ list_any (λ s. ltb s.price 10) sales.now }
+{
+    sales.nonempty_iter().any(|s| s.price < 10)
+}
+
+/// Returns the first sale whose price is below 10.
+pub fn first_cheap<'a>(sales: &'a NEVec<Sale>) -> Option<&'a Sale>
+    ensures { option_map (λ s. s.now) result ≡ find (λ s. ltb s.price 10) sales.now }
+{
+    sales.nonempty_iter().find(|s| s.price < 10)
+}
+
+/// Returns the index of the first sale whose price is below 10.
+pub fn place_of_cheap(sales: &NEVec<Sale>) -> Option<usize>
+    ensures { result ≡ option_map (λ p. p.0)
+        (find (λ p. ltb p.1.price 10) (enumerate_from 0 sales.now)) }
+{
+    sales
+        .nonempty_iter()
+        .enumerate()
+        .find(|p| p.1.price < 10)
+        .map(|p| p.0)
+}
+
+/// Returns a sale with the greatest price.
+pub fn dearest<'a>(sales: &'a NEVec<Sale>) -> &'a Sale
+    ensures among { Contains sales.now result.now }
+    ensures bound { All (λ s. s.price ≤ result.now.price) sales.now }
+{
+    sales.nonempty_iter().max_by_key(|s| s.price)
+}
+
+/// Returns the price of the last sale, by a fold.
+pub fn last_price(sales: &NEVec<Sale>) -> u32
+    ensures { result ≡ fold (λ before s. s.price) 0 sales.now }
+{
+    sales.nonempty_iter().fold(0, |before, s| s.price)
+}
+
+/// Returns the buyer of the sale at index `n`.
+pub fn buyer_at(sales: &NEVec<Sale>, n: usize) -> Option<u32>
+    ensures { result ≡ option_map (λ s. s.buyer) (slice_get sales.now n) }
+{
+    sales.nonempty_iter().nth(n).map(|s| s.buyer)
+}
+
+/// Returns the sum of the prices.
+pub fn total(sales: &NEVec<Sale>) -> u32
+    requires { sum (map (λ s. s.price) sales.now) < 2 ^ 32 }
+    ensures { result ≡ sum (map (λ s. s.price) sales.now) }
+{
+    sales.nonempty_iter().map(|s| s.price).sum()
+}
+
+/// Returns the sum of the first `n` prices.
+pub fn total_of_first(sales: &NEVec<Sale>, n: NonZeroUsize) -> u32
+    requires { sum (map (λ s. s.price) (take (non_zero_usize_get n) sales.now)) < 2 ^ 32 }
+    ensures { result ≡ sum (map (λ s. s.price) (take (non_zero_usize_get n) sales.now)) }
+{
+    sales.nonempty_iter().take(n).map(|s| s.price).sum()
+}
+
+/// Returns the sum of the prices in two vectors, the second of which is passed as it is.
+pub fn total_of_both(sales: &NEVec<Sale>, others: &NEVec<Sale>) -> u32
+    requires { sum (map (λ s. s.price) (sales.now ++ others.now)) < 2 ^ 32 }
+    ensures { result ≡ sum (map (λ s. s.price) (sales.now ++ others.now)) }
+{
+    sales.nonempty_iter().chain(others).map(|s| s.price).sum()
+}
+
+/// Returns the sum of the prices below 10 of the first `n` sales.
+pub fn total_of_first_cheap(sales: &NEVec<Sale>, n: NonZeroUsize) -> u32
+    requires { sum (map (λ s. s.price)
+        (filter (λ s. ltb s.price 10) (take (non_zero_usize_get n) sales.now))) < 2 ^ 32 }
+    ensures { result ≡ sum (map (λ s. s.price)
+        (filter (λ s. ltb s.price 10) (take (non_zero_usize_get n) sales.now))) }
+{
+    sales
+        .nonempty_iter()
+        .take(n)
+        .filter(|s| s.price < 10)
+        .map(|s| s.price)
+        .sum()
+}
+
+/// Returns how many prices are below 10.
+pub fn how_many_cheap(sales: &NEVec<Sale>) -> usize
+    ensures { result ≡ length (filter (λ s. ltb s.price 10) sales.now) }
+{
+    sales.nonempty_iter().filter(|s| s.price < 10).count()
+}
+
+/// Returns the buyers in two vectors.
+pub fn buyers_of_both(
+    alloc: Global,
+    sales: &NEVec<Sale>,
+    others: &NEVec<Sale>,
+) -> Result<NEVec<u32>, AllocError>
+    ensures { IfOk result (λ v. v ≡ map (λ s. s.buyer) (sales.now ++ others.now)) }
+{
+    sales
+        .nonempty_iter()
+        .chain(others.nonempty_iter())
+        .map(|s| s.buyer)
+        .collect(alloc)
+}
+
+/// Returns the buyers of what costs less than 10, with `filter` and `map`.
+pub fn cheap_buyers(alloc: Global, sales: &NEVec<Sale>) -> Result<Vec<u32>, AllocError>
+    ensures { IfOk result (λ v.
+        v.items ≡ map (λ s. s.buyer) (filter (λ s. ltb s.price 10) sales.now)) }
+{
+    sales
+        .nonempty_iter()
+        .filter(|s| s.price < 10)
+        .map(|s| s.buyer)
+        .collect(alloc)
+}
+
+/// Returns the same by `filter_map`.
+pub fn buyers_of_cheap(alloc: Global, sales: &NEVec<Sale>) -> Result<Vec<u32>, AllocError>
+    ensures { IfOk result (λ v. v.items
+        ≡ filter_map (λ s. cond (ltb s.price 10) (Some s.buyer) None) sales.now) }
+{
+    sales
+        .nonempty_iter()
+        .filter_map(|s| if s.price < 10 { Some(s.buyer) } else { None })
+        .collect(alloc)
+}
+
+/// Returns the buyers after the first two.
+pub fn later_buyers(alloc: Global, sales: &NEVec<Sale>) -> Result<Vec<u32>, AllocError>
+    ensures { IfOk result (λ v. v.items ≡ map (λ s. s.buyer) (drop 2 sales.now)) }
+{
+    sales
+        .nonempty_iter()
+        .skip(2)
+        .map(|s| s.buyer)
+        .collect(alloc)
+}
+
+/// Returns the numbers before the first that is 10 or more.
+pub fn small_front(alloc: Global, items: &NEVec<u32>) -> Result<Vec<u32>, AllocError>
+    ensures { IfOk result (λ v. v.items ≡ take_while (λ x. ltb x 10) items.now) }
+{
+    items
+        .nonempty_iter()
+        .take_while(|x| **x < 10)
+        .copied()
+        .collect(alloc)
+}
+
+/// Returns the numbers from the first that is 10 or more.
+pub fn rest_from_great(alloc: Global, items: &NEVec<u32>) -> Result<Vec<u32>, AllocError>
+    ensures { IfOk result (λ v.
+        v.items ≡ drop (prefix_len (λ x. ltb x 10) items.now) items.now) }
+{
+    items
+        .nonempty_iter()
+        .skip_while(|x| **x < 10)
+        .copied()
+        .collect(alloc)
+}
+
+/// Returns the halves of the numbers, with their indices before them.
+pub fn halves_after_places(
+    alloc: Global,
+    items: &NEVec<u32>,
+) -> Result<NEVec<(usize, u32)>, AllocError>
+    ensures { IfOk result (λ v. v ≡ map (λ p. (p.0, p.1 / 2)) (enumerate_from 0 items.now)) }
+{
+    items
+        .nonempty_iter()
+        .enumerate()
+        .map(|p| (p.0, *p.1 / 2))
+        .collect(alloc)
+}
+
+/// Returns whether every price is at most the limit beside it.
+pub fn within(sales: &NEVec<Sale>, limits: &NEVec<u32>) -> bool
+    ensures { result ≡ list_all (λ p. ltb p.0.price p.1) (zip sales.now limits.now) }
+{
+    sales.nonempty_iter().zip(limits).all(|p| p.0.price < *p.1)
+}
+
+/// Returns the halves of the numbers that have another number beside them.
+pub fn halves_beside(
+    alloc: Global,
+    items: &NEVec<u32>,
+    others: &NEVec<u32>,
+) -> Result<NEVec<u32>, AllocError>
+    ensures { IfOk result (λ v. v ≡ map (λ p. p.0 / 2) (zip items.now others.now)) }
+{
+    items
+        .nonempty_iter()
+        .zip(others.nonempty_iter())
+        .map(|p| *p.0 / 2)
+        .collect(alloc)
+}
+
+/// Returns for each sale the price of the one before it, and 0 for the first.
+pub fn prices_before(alloc: Global, sales: &NEVec<Sale>) -> Result<NEVec<u32>, AllocError>
+    ensures { IfOk result (λ v. v ≡ scan (λ before s. s.price) (λ before s. before) 0 sales.now) }
+{
+    let step = |before: &mut u32, s: &Sale| {
+        let price = *before;
+        *before = s.price;
+        price
+    };
+    sales.nonempty_iter().scan(0, step).collect(alloc)
+}
+
+/// Returns the buyers, each from a source of its own.
+pub fn buyers_one_by_one(alloc: Global, sales: &NEVec<Sale>) -> Result<NEVec<u32>, AllocError>
+    ensures { IfOk result (λ v. v ≡ flat_map (λ s. s.buyer ∷ []) sales.now) }
+{
+    sales
+        .nonempty_iter()
+        .flat_map(|s| iter::once(s.buyer))
+        .collect(alloc)
+}
+
+/// Returns whether every sale in a map has a price below its key.
+pub fn all_below_keys(sales: &NEBTreeMap<u32, Sale>) -> bool
+    ensures { result ≡ list_all (λ p. ltb p.1.price p.0) sales.now.entries }
+{
+    sales.nonempty_iter().all(|p| p.1.price < *p.0)
+}
+
+/// Returns the keys of the prices in a map that are below 10.
+pub fn keys_of_cheap(alloc: Global, prices: &NEBTreeMap<u32, u32>) -> Result<Vec<u32>, AllocError>
+    ensures { IfOk result (λ v.
+        v.items ≡ map (λ p. p.0) (filter (λ p. ltb p.1 10) prices.now.entries)) }
+{
+    prices
+        .nonempty_iter()
+        .filter(|p| *p.1 < 10)
+        .map(|p| *p.0)
+        .collect(alloc)
+}
