@@ -20,6 +20,7 @@ pub use Rattle.ne_iter.specs.Looked
 pub use Rattle.ne_iter.specs.Peeks
 pub use Rattle.ne_iter.specs.Scanned
 pub use Rattle.ne_iter.specs.Sources
+pub use Rattle.ne_iter.specs.Views
 pub use Rattle.ne_tree.specs.SameMap as SameTreeMap
 pub use Rattle.ne_hash.specs.SameMap as SameHashedMap
 pub use Rattle.ne_index.specs.SameMap as SameIndexMap

@@ -247,6 +247,9 @@ impl<'a, T> IntoIterator for &'a Stack<T> {
 
 impl<'a, T> NonEmptyIterator for &'a Stack<T> {
     ghost use Rattle.user_towers.specs.OwnSourceLaws.{some_left};
+    ghost use Rattle.nonempty_collections.specs.Views.{referenced};
+
+    ghost item_view = { referenced };
 
     ghost not_empty = { λ s it made t ended. some_left s.now it made.0 made.1 ended.0 };
 }
@@ -284,5 +287,7 @@ impl<I: NonEmptyIterator> IntoIterator for Boxed<I> {
 }
 
 impl<I: NonEmptyIterator> NonEmptyIterator for Boxed<I> {
+    ghost item_view = { I.item_view };
+
     ghost not_empty = { λ b. I.not_empty (in_box b) };
 }
