@@ -1,5 +1,5 @@
--- What the items of a source show: a reference shows the item that it points to. Other items show
--- nothing, since what is said of them names the items themselves.
+-- What the items of a source show: a reference shows the item that it points to, and any other item
+-- shows itself.
 use Rattle.std.specs.Prelude.{ℕ}
 use Rattle.std.specs.Borrow.{Bor}
 
@@ -11,10 +11,6 @@ pub record View (A : Type 0) : Type 1 where
 -- It shows what f makes of it.
 abbrev pub shown_by : {A B : Type 0} → (A → B) → View A
 shown_by {B = B} f = record { Shown = B; of = f }
-
--- It shows nothing.
-abbrev pub nothing : {A : Type 0} → View A
-nothing = shown_by (λ _. tt {0})
 
 -- It shows itself.
 abbrev pub itself : {A : Type 0} → View A

@@ -40,7 +40,7 @@ ghost use Rattle.ne_iter.specs.SourceLists.{ZipsShown};
 ghost use Rattle.ne_iter.specs.Interspersed.{interspersed, JoinsLists, OnlyItsValues};
 ghost use Rattle.ne_iter.specs.Calls.{ActsAsWithState, ShownEach};
 ghost use Rattle.ne_iter.specs.Clones.{TriesClone};
-ghost use Rattle.ne_iter.specs.Views.{View, in_pairs, nothing, numbered};
+ghost use Rattle.ne_iter.specs.Views.{View, in_pairs, itself, numbered};
 ghost use Rattle.ne_iter.specs.Collected.{FrontMakes, values_or_first_err};
 ghost use Rattle.ne_iter.specs.KeyOrder.{SortsByKey};
 ghost use Rattle.ne_iter.specs.Parts.{map_source, map_callee, enumerate_source, take_source};
@@ -81,17 +81,17 @@ use std::num::NonZeroUsize;
 /// The law of this trait is `not_empty`: the iterator made from any value first returns an item. An
 /// implementation proves this law and needs nothing else; all methods but `next` are final.
 ///
-/// In contracts, `item_view` says what an item shows. A source of references has the line
+/// In contracts, `item_view` says what an item shows: a reference shows the item that it points to,
+/// and any other item shows itself. A source of references says so by the line
 /// `ghost item_view = { referenced };`, and what is proved of a chain over it is then about the
-/// items that its references point to. Other items show nothing, and need no such line. The Rust
-/// crate has nothing of the kind.
+/// items that its references point to. The Rust crate has nothing of the kind.
 ///
 /// ```
 /// let halves = [3u32, 1, 2].into_nonempty_iter().map(|x| x / 2);
 /// let halves: NEVec<u32> = halves.collect(alloc)?; // [1, 0, 1]
 /// ```
 pub trait NonEmptyIterator: IntoIterator {
-    ghost item_view: { View Self.Item } = { nothing };
+    ghost item_view: { View Self.Item } = { itself };
 
     /// Returns the first item, which always exists, and the iterator over the others.
     ///
