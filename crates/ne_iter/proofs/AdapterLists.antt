@@ -30,7 +30,7 @@ use Rattle.ne_iter.proofs.ListFronts.{filter_answered, filter_map_front, filter_
 use Rattle.ne_iter.proofs.ListFronts.{drop_front, drop_passed_front, take_passed_front}
 use Rattle.ne_iter.proofs.ListFronts.{take_passed_stopped, scan_front}
 use Rattle.ne_iter.proofs.MappedLists.{all_map, enumerate_map, fails_map, filter_map_of_map}
-use Rattle.ne_iter.proofs.MappedLists.{filter_map_view, scan_map, zip_map}
+use Rattle.ne_iter.proofs.MappedLists.{map_of_filter, scan_map, zip_map}
 use Rattle.ne_iter.proofs.ReadLists.{as_items, as_view}
 use Rattle.ne_iter.proofs.ScannedRuns.{scanned_values}
 use Rattle.ne_iter.proofs.Unrefused.{clones_in_ok, only_ok, spaced_front}
@@ -138,7 +138,7 @@ module _ {U V A S T : Type 0} {becomes : U → S → Type 0} {steps : S → Opti
           let all = parts.is ∙ ap (λ ps. items_of (filter (λ p. p.1) ps)) values.0
           ∙ filter_answered passes us in
           subst (AreFirst whole (filter test xs))
-          (sym (ap (map view) all ∙ filter_map_view view test us))
+          (sym (ap (map view) all ∙ map_of_filter view test us))
           (filter_front test whole xs (map view us) (list whole us parts.read))
 
       pub skip_while_view : SkipWhileGives (Reads becomes steps) (Reads made next) calls u f v

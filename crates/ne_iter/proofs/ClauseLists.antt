@@ -9,17 +9,18 @@ use Rattle.std.specs.Iterator.{ActsAs}
 use Rattle.std.specs.Iterator.Runs.{EachRunFrom}
 use Rattle.std.specs.List.{enumerate_from, flat_map, zip}
 use Rattle.ne_vec.specs.Fronts.{Lists, Shows, GivesItems, GivesShown, GivesFronts, ShowsFronts}
-use Rattle.ne_vec.specs.FrontLaws.{marked, view_marked}
-use Rattle.ne_iter.specs.Gives.{GivesList, ViewsList}
+use Rattle.ne_vec.specs.Fronts.{mark, shown_mark}
+use Rattle.ne_vec.specs.FrontLaws.{marked, shown_marked}
+use Rattle.ne_iter.specs.Gives.{GivesList, ViewsList, ZipGives}
 use Rattle.ne_iter.specs.SourceLists.{AnswersLists, BecomesList, ChainsLists, EachList, EachShown}
 use Rattle.ne_iter.specs.SourceLists.{FlattensLists, MapsList, MapsShown, MeetsList, SpreadsLists}
-use Rattle.ne_iter.specs.SourceLists.{BecomesShown, ChainsShown, MeetsShown, ShowsItems, ZipsLists}
-use Rattle.ne_iter.specs.SourceLists.{ZipsShown}
+use Rattle.ne_iter.specs.SourceLists.{BecomesShown, ChainsShown, MeetsShown, ShowsItems, ZipsKnown}
 use Rattle.ne_iter.specs.Sources.{Reads, SameLists}
 use Rattle.ne_iter.specs.Views.{View, in_pairs, itself}
 use Rattle.ne_vec.proofs.RunFronts.{run_drains}
+use Rattle.ne_iter.proofs.AdapterLists.{zip_view}
 use Rattle.ne_iter.proofs.ReadLists.{lists_read, read_lists, shows_read, read_shows, meets_read}
-use Rattle.ne_iter.proofs.ReadLists.{as_items, becomes_read, becomes_shown_read}
+use Rattle.ne_iter.proofs.ReadLists.{as_items, as_view, becomes_read, becomes_shown_read}
 
 module _ {U V A S T : Type 0} {becomes : U → S → Type 0} {steps : S → Option A → S → Type 0}
     {made : V → T → Type 0} {u : U} {v : V} where
@@ -49,7 +50,7 @@ module _ {U V A S T : Type 0} {becomes : U → S → Type 0} {steps : S → Opti
         → GivesList (Reads made next) v (map h xs))
         → MapsShown calls f (GivesItems made next) u v view (λ view. Shows becomes steps view.of)
     maps_shown view law xs shows = (
-      view_marked view.of u xs,
+      shown_marked u xs,
       λ h acts. (
         refl,
         read_lists _ _ v (map h xs) (law h xs acts (shows_read _ _ u view.of xs shows)),
@@ -63,7 +64,7 @@ module _ {U V A S T : Type 0} {becomes : U → S → Type 0} {steps : S → Opti
       → EachShown view (λ view. Shows becomes steps view.of) u
       (λ xs. GivesShown made next made_view v (makes xs))
   shows_each view made_view makes law xs shows = (
-    view_marked view.of u xs,
+    shown_marked u xs,
     read_shows _ _ v made_view (makes xs) (law xs (shows_read _ _ u view.of xs shows)),
   )
 
@@ -98,10 +99,10 @@ module _ {U W V S R T A : Type 0} {becomes : U → S → Type 0} {steps : S → 
         → ChainsShown view (λ view. Shows becomes steps view.of) (λ view. Shows meets other view.of)
         (MeetsShown meets other view) (GivesShown made next view.of) u w v
     chains_shown view law xs first = (
-      view_marked view.of u xs,
+      shown_marked u xs,
       (
         (λ ys second. (
-          view_marked view.of w ys,
+          shown_marked w ys,
           read_shows _ _ v view.of (xs ++ ys) (law xs ys (shows_read _ _ u view.of xs first)
               (shows_read _ _ w view.of ys second)),
         )),
@@ -113,104 +114,135 @@ module _ {U W V S R T A : Type 0} {becomes : U → S → Type 0} {steps : S → 
       ),
     )
 
-  module _ {B : Type 0} {other : R → Option B → R → Type 0} {next : T → Option (A × B) → T → Type 0}
-    where
-      pub zips_lists : {X Y : Type 0} {makes : W → X → Type 0} {made' : X → Y → Type 0}
-          {next' : Y → Option B → Y → Type 0} → SameLists meets other makes made' next'
-          → ((xs : List A) (ys : List B) → GivesList (Reads becomes steps) u xs
-          → GivesList (Reads meets other) w ys → GivesList (Reads made next) v (zip xs ys))
-          → ZipsLists (Lists becomes steps) (Lists meets other) (BecomesList makes made' next')
-          (GivesItems made next) u w v
-      zips_lists same law = (
-        (λ xs first. (
-          marked u xs,
-          λ ys second. (
-            marked w ys,
-            read_lists _ _ v (zip xs ys)
-                (law xs ys (lists_read _ _ u xs first) (lists_read _ _ w ys second)),
-          ),
-        )),
-        λ xs ys. (
-          refl,
-          λ first second. read_lists _ _ v (zip xs ys)
-              (law xs ys (lists_read _ _ u xs first) (becomes_read _ _ _ _ _ same w ys second)),
-        ),
-      )
+-- what is known of the lists of two sources, and of what the second becomes, for `ZipsKnown`
+zips_known : {A B : Type 0} {marked : List A → ℕ} {known : List A → Type 0}
+    {other_marked : List B → ℕ} {other_known becomes : List B → Type 0} (first : List A → Type 0)
+    (second : List B → Type 0) (gives : List (A × B) → Type 0) → ((xs : List A) → marked xs ≡ 0)
+    → ((ys : List B) → other_marked ys ≡ 0) → ((xs : List A) → known xs → first xs)
+    → ((ys : List B) → other_known ys → second ys) → ((ys : List B) → becomes ys → second ys)
+    → ((xs : List A) (ys : List B) → first xs → second ys → gives (zip xs ys))
+    → ZipsKnown marked known other_marked other_known becomes gives
+zips_known first second gives has_mark other_has_mark to_first to_second from_becomes law = (
+  (λ xs f. (
+    has_mark xs,
+    λ ys s. (other_has_mark ys, law xs ys (to_first xs f) (to_second ys s)),
+  )),
+  λ xs ys. (refl, λ f s. law xs ys (to_first xs f) (from_becomes ys s)),
+)
 
-      pub zips_shown : {X Y : Type 0} {makes : W → X → Type 0} {made' : X → Y → Type 0}
-          {next' : Y → Option B → Y → Type 0} (view : View A) (other_view : View B)
-          → SameLists meets other makes made' next'
-          → ((xs : List view.Shown) (ys : List other_view.Shown)
-          → ViewsList (Reads becomes steps) view.of u xs
-          → ViewsList (Reads meets other) other_view.of w ys
-          → ViewsList (Reads made next) (in_pairs view other_view).of v (zip xs ys))
-          → ZipsShown view other_view (λ view. Shows becomes steps view.of)
-          (λ view. Shows meets other view.of) (BecomesShown makes made' next' other_view)
-          (GivesShown made next (in_pairs view other_view).of) u w v
-      zips_shown view other_view same law =
-          let pairs = (in_pairs view other_view).of in (
-            (λ xs first. (
-              view_marked view.of u xs,
-              λ ys second. (
-                view_marked other_view.of w ys,
-                read_shows _ _ v pairs (zip xs ys) (law xs ys (shows_read _ _ u view.of xs first)
-                    (shows_read _ _ w other_view.of ys second)),
-              ),
-            )),
-            λ xs ys. (
-              refl,
-              λ first second. read_shows _ _ v pairs (zip xs ys)
-                  (law xs ys (shows_read _ _ u view.of xs first)
-                  (becomes_shown_read _ _ _ _ _ same w other_view ys second)),
-            ),
-          )
+-- two sources, side by side; each says which items it gives, or what its items show
+module _ {U W V S R T A B X Y : Type 0} {becomes : U → S → Type 0}
+    {steps : S → Option A → S → Type 0} {meets : W → R → Type 0}
+    {other : R → Option B → R → Type 0} {made : V → T → Type 0}
+    {next : T → Option (A × B) → T → Type 0} {makes : W → X → Type 0} {made' : X → Y → Type 0}
+    {next' : Y → Option B → Y → Type 0} {u : U} {w : W} {v : V}
+    (same : SameLists meets other makes made' next')
+    (gives : ZipGives (Reads becomes steps) (Reads meets other) (Reads made next) u w v) where
+  listed : (xs : List A) → Lists becomes steps u xs → ViewsList (Reads becomes steps) (λ x. x) u xs
+  listed xs first = as_view (Reads becomes steps) u xs (lists_read becomes steps u xs first)
+
+  other_listed : (ys : List B) → Lists meets other w ys
+      → ViewsList (Reads meets other) (λ y. y) w ys
+  other_listed ys second = as_view (Reads meets other) w ys (lists_read meets other w ys second)
+
+  becomes_listed : (ys : List B) → BecomesList makes made' next' w ys
+      → ViewsList (Reads meets other) (λ y. y) w ys
+  becomes_listed ys second = as_view (Reads meets other) w ys
+      (becomes_read meets other makes made' next' same w ys second)
+
+  pub zips_lists : ZipsKnown (mark u) (Lists becomes steps u) (mark w) (Lists meets other w)
+      (BecomesList makes made' next' w) (GivesItems made next v)
+  zips_lists = zips_known (ViewsList (Reads becomes steps) (λ x. x) u)
+      (ViewsList (Reads meets other) (λ y. y) w) (GivesItems made next v) (marked u) (marked w)
+      listed other_listed becomes_listed
+      (λ xs ys first second. read_lists made next v (zip xs ys)
+      (as_items (Reads made next) v (zip xs ys)
+      (zip_view gives (λ x. x) (λ y. y) xs ys first second)))
+
+  module _ (view : View A) where
+    shown : (xs : List view.Shown) → Shows becomes steps view.of u xs
+        → ViewsList (Reads becomes steps) view.of u xs
+    shown = shows_read becomes steps u view.of
+
+    pub zips_shown_first : ZipsKnown (shown_mark u) (Shows becomes steps view.of u) (mark w)
+        (Lists meets other w) (BecomesList makes made' next' w)
+        (GivesShown made next (in_pairs view itself).of v)
+    zips_shown_first = zips_known (ViewsList (Reads becomes steps) view.of u)
+        (ViewsList (Reads meets other) (λ y. y) w)
+        (GivesShown made next (in_pairs view itself).of v) (shown_marked u) (marked w)
+        shown other_listed becomes_listed
+        (λ xs ys first second. read_shows made next v (in_pairs view itself).of (zip xs ys)
+        (zip_view gives view.of (λ y. y) xs ys first second))
+
+  module _ (other_view : View B) where
+    other_shown : (ys : List other_view.Shown) → Shows meets other other_view.of w ys
+        → ViewsList (Reads meets other) other_view.of w ys
+    other_shown = shows_read meets other w other_view.of
+
+    becomes_shown : (ys : List other_view.Shown) → BecomesShown makes made' next' other_view w ys
+        → ViewsList (Reads meets other) other_view.of w ys
+    becomes_shown = becomes_shown_read meets other makes made' next' same w other_view
+
+    pub zips_shown_second : ZipsKnown (mark u) (Lists becomes steps u) (shown_mark w)
+        (Shows meets other other_view.of w) (BecomesShown makes made' next' other_view w)
+        (GivesShown made next (in_pairs itself other_view).of v)
+    zips_shown_second = zips_known (ViewsList (Reads becomes steps) (λ x. x) u)
+        (ViewsList (Reads meets other) other_view.of w)
+        (GivesShown made next (in_pairs itself other_view).of v) (marked u) (shown_marked w)
+        listed other_shown becomes_shown
+        (λ xs ys first second. read_shows made next v (in_pairs itself other_view).of (zip xs ys)
+        (zip_view gives (λ x. x) other_view.of xs ys first second))
+
+    pub zips_shown : (view : View A) → ZipsKnown (shown_mark u) (Shows becomes steps view.of u)
+        (shown_mark w) (Shows meets other other_view.of w)
+        (BecomesShown makes made' next' other_view w)
+        (GivesShown made next (in_pairs view other_view).of v)
+    zips_shown view = zips_known (ViewsList (Reads becomes steps) view.of u)
+        (ViewsList (Reads meets other) other_view.of w)
+        (GivesShown made next (in_pairs view other_view).of v) (shown_marked u) (shown_marked w)
+        (shown view) other_shown becomes_shown
+        (λ xs ys first second. read_shows made next v (in_pairs view other_view).of (zip xs ys)
+        (zip_view gives view.of other_view.of xs ys first second))
 
 -- the lists of inner sources, one after another
-module _ {U W V S R T B : Type 0} {becomes : U → S → Type 0} {meets : W → R → Type 0}
+module _ {U W V S R T B X Y : Type 0} {becomes : U → S → Type 0} {meets : W → R → Type 0}
     {other : R → Option B → R → Type 0} {made : V → T → Type 0} {next : T → Option B → T → Type 0}
-    {u : U} {v : V} where
+    {makes : W → X → Type 0} {made' : X → Y → Type 0} {next' : Y → Option B → Y → Type 0}
+    {u : U} {v : V} (same : SameLists meets other makes made' next') where
   pub spreads_lists : {A F : Type 0} {steps : S → Option A → S → Type 0}
       {calls : Mut F (A × Unit {0}) W} {f : F}
       → ((inner : A → List B) (xs : List A)
       → AnswersLists calls f (GivesList (Reads meets other)) inner
       → GivesList (Reads becomes steps) u xs → GivesList (Reads made next) v (flat_map inner xs))
-      → SpreadsLists calls f (Lists becomes steps) (Lists meets other) (MeetsList meets other)
+      → SpreadsLists calls f (Lists becomes steps) (BecomesList makes made' next')
       (GivesItems made next) u v
-  spreads_lists {steps = steps} {calls} {f} law xs lists = (
+  spreads_lists {steps = steps} law xs lists = (
     marked u xs,
-    λ inner.
-        let gives = λ (answers : AnswersLists calls f (GivesList (Reads meets other)) inner).
-        read_lists made next v (flat_map inner xs)
-        (law inner xs answers (lists_read becomes steps u xs lists)) in (
-          refl,
-          (λ answers. gives (λ x w g call.
-              let a = answers x w g call in (a.0, lists_read meets other w (inner x) a.1))),
-          (λ answers. gives (λ x w g call.
-              let a = answers x w g call in (
-                a.0,
-                as_items (Reads meets other) w (inner x)
-                    (meets_read meets other w itself (inner x) a.1),
-              ))),
-        ),
+    λ inner. (
+      refl,
+      λ answers. read_lists made next v (flat_map inner xs)
+          (law inner xs (λ x w g call.
+          let a = answers x w g call in
+          (a.0, becomes_read meets other makes made' next' same w (inner x) a.1))
+          (lists_read becomes steps u xs lists)),
+    ),
   )
 
   pub flattens_lists : {steps : S → Option W → S → Type 0}
       → ((inner : W → List B) (us : List W)
       → ((w : W) → GivesList (Reads meets other) w (inner w))
       → GivesList (Reads becomes steps) u us → GivesList (Reads made next) v (flat_map inner us))
-      → FlattensLists (Lists becomes steps) (Lists meets other) (MeetsList meets other)
-      (GivesItems made next) u v
+      → FlattensLists (Lists becomes steps) (BecomesList makes made' next') (GivesItems made next) u
+      v
   flattens_lists {steps} law us lists = (
     marked u us,
-    λ inner.
-        let gives = λ (each : (w : W) → GivesList (Reads meets other) w (inner w)).
-        read_lists made next v (flat_map inner us)
-        (law inner us each (lists_read becomes steps u us lists)) in (
-          refl,
-          (λ each. gives (λ w. lists_read meets other w (inner w) (each w))),
-          (λ each. gives (λ w. as_items (Reads meets other) w (inner w)
-              (meets_read meets other w itself (inner w) (each w)))),
-        ),
+    λ inner. (
+      refl,
+      λ each. read_lists made next v (flat_map inner us)
+          (law inner us
+          (λ w. becomes_read meets other makes made' next' same w (inner w) (each w))
+          (lists_read becomes steps u us lists)),
+    ),
   )
 
 -- an adapter that numbers the items of xs gives as many items

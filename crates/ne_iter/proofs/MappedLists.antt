@@ -12,11 +12,11 @@ module _ {A B : Type 0} (view : A → B) where
   kept_map test u us true e more = rw e (ap (λ l. view u ∷ l) more)
   kept_map test u us false e more = rw e more
 
-  pub filter_map_view : (test : B → Bool) (us : List A)
+  pub map_of_filter : (test : B → Bool) (us : List A)
       → map view (filter (λ x. test (view x)) us) ≡ filter test (map view us)
-  filter_map_view test [] = refl
-  filter_map_view test (u ∷ us) =
-      kept_map test u us (test (view u)) refl (filter_map_view test us)
+  map_of_filter test [] = refl
+  map_of_filter test (u ∷ us) =
+      kept_map test u us (test (view u)) refl (map_of_filter test us)
 
   pub filter_map_of_map : {C : Type 0} (h : B → Option C) (us : List A)
       → filter_map (λ x. h (view x)) us ≡ filter_map h (map view us)

@@ -3,7 +3,7 @@
 use Rattle.std.proofs.Common.{arith, ap, subst, ◌≡◌, ◌<◌, ◌∙◌, length, List, map}
 use Rattle.std.specs.Map.Iter.{LendsFirst, TakesFirst}
 use Rattle.ne_vec.specs.Fronts.{AreFirst, Lists, Shows}
-use Rattle.ne_vec.specs.FrontLaws.{front, marked, viewed_front, view_marked}
+use Rattle.ne_vec.specs.FrontLaws.{front, marked, viewed_front, shown_marked}
 use Rattle.ne_iter.specs.KeyWalks.{KeysWalk, KeyWalkGives, KeyWalkShows}
 use Rattle.ne_iter.specs.Sources.{HasFirst}
 
@@ -26,7 +26,7 @@ module _ {A X : Type 0} (shows : A → X) (w es : List X) (same : w ≡ es) wher
       (viewed_front (TakesFirst shows) shows (λ s. s) (λ s t x st. st) (λ s t st. st.0) it ys given)
 
   pub key_walk_shows : KeyWalkShows shows w es
-  key_walk_shows = (marked w es, view_marked shows w es, all_shown)
+  key_walk_shows = (marked w es, shown_marked w es, all_shown)
 
 -- an iterator by value gives the entries that it has left
 module _ {W X : Type 0} (becomes : W → List X → Type 0) (w : W) (es : List X)

@@ -8,7 +8,7 @@ use Rattle.std.specs.Iterator.{ActsAs}
 use Rattle.std.specs.Iterator.Runs.{Run, EachRunFrom}
 use Rattle.std.specs.List.{flat_map, zip}
 use Rattle.std.specs.Option.{option_map}
-use Rattle.ne_vec.specs.Fronts.{GivesFronts, Lists, Shows, ShowsFrontRun, mark, view_mark}
+use Rattle.ne_vec.specs.Fronts.{GivesFronts, Lists, Shows, ShowsFrontRun, mark, shown_mark}
 use Rattle.ne_iter.specs.Views.{View, itself}
 
 -- What `view` makes of the items of a run are the first of xs, and all of them if the run is whole.
@@ -38,15 +38,18 @@ module _ {W V T A : Type 0} (makes : W → V → Type 0) (becomes : V → T → 
   abbrev pub BecomesShown : (view : View A) → W → List view.Shown → Type 0
   BecomesShown view w xs = (v : V) → makes w v → Shows becomes steps view.of v xs
 
+-- P holds for each list that is known, which has a mark
+abbrev pub EachKnown : {A : Type 0} → (List A → ℕ) → (List A → Type 0) → (List A → Type 0) → Type 0
+EachKnown {A} marked known P = (xs : List A) → known xs → (marked xs ≡ 0) × P xs
+
 -- P holds for each list that the source gives
 abbrev pub EachList : {U A : Type 0} → (U → List A → Type 0) → U → (List A → Type 0) → Type 0
-EachList {A = A} lists u P = (xs : List A) → lists u xs → (mark u xs ≡ 0) × P xs
+EachList lists u P = EachKnown (mark u) (lists u) P
 
 -- P holds for each list that the items of the source show
 abbrev pub EachShown : {U A : Type 0} (view : View A)
     → ((view : View A) → U → List view.Shown → Type 0) → U → (List view.Shown → Type 0) → Type 0
-EachShown view shows u P =
-    (xs : List view.Shown) → shows view u xs → (view_mark view.of u xs ≡ 0) × P xs
+EachShown view shows u P = EachKnown (shown_mark u) (shows view u) P
 
 -- What `grind` learns about a run of an iterator of std whose items show those of xs. After it come
 -- std's own adapters, which ask for the list of a whole run.
@@ -91,23 +94,14 @@ ChainsShown view shows others meets gives u w v = EachShown view shows u (λ xs.
     EachShown view others w (λ ys. gives v (xs ++ ys))
     × ((ys : List view.Shown) → (xs ++ ys ≡ xs ++ ys) × (meets w ys → gives v (xs ++ ys))))
 
--- `zip`: the pairs of their items
-abbrev pub ZipsLists : {U W V A B : Type 0} → (U → List A → Type 0) → (W → List B → Type 0)
-    → (W → List B → Type 0) → (V → List (A × B) → Type 0) → U → W → V → Type 0
-ZipsLists {A = A} {B = B} lists others meets gives u w v =
-    EachList lists u (λ xs. EachList others w (λ ys. gives v (zip xs ys)))
+-- `zip`: the pairs of the items of two lists, of which the second is known for the second source
+-- itself, or for what it becomes. Either may be a list that the items show.
+abbrev pub ZipsKnown : {A B : Type 0} → (List A → ℕ) → (List A → Type 0) → (List B → ℕ)
+    → (List B → Type 0) → (List B → Type 0) → (List (A × B) → Type 0) → Type 0
+ZipsKnown {A} {B} marked known other_marked other_known becomes gives =
+    EachKnown marked known (λ xs. EachKnown other_marked other_known (λ ys. gives (zip xs ys)))
     × ((xs : List A) (ys : List B) → (zip xs ys ≡ zip xs ys)
-    × (lists u xs → meets w ys → gives v (zip xs ys)))
-
--- the same for what their items show
-abbrev pub ZipsShown : {U W V A B : Type 0} (view : View A) (other_view : View B)
-    → ((view : View A) → U → List view.Shown → Type 0)
-    → ((view : View B) → W → List view.Shown → Type 0) → (W → List other_view.Shown → Type 0)
-    → (V → List (view.Shown × other_view.Shown) → Type 0) → U → W → V → Type 0
-ZipsShown view other_view shows others meets gives u w v =
-    EachShown view shows u (λ xs. EachShown other_view others w (λ ys. gives v (zip xs ys)))
-    × ((xs : List view.Shown) (ys : List other_view.Shown) → (zip xs ys ≡ zip xs ys)
-    × (shows view u xs → meets w ys → gives v (zip xs ys)))
+    × (known xs → becomes ys → gives (zip xs ys)))
 
 -- each call of f with x leaves f unchanged and returns a source of the items of `inner x`
 abbrev pub AnswersLists : {A W B F : Type 0} → Mut F (A × Unit {0}) W → F
@@ -115,23 +109,20 @@ abbrev pub AnswersLists : {A W B F : Type 0} → Mut F (A × Unit {0}) W → F
 AnswersLists {A} {W} {F = F} calls f lists inner =
     (x : A) (w : W) (g : F) → Called calls f (x, tt) w g → (g ≡ f) × lists w (inner x)
 
--- `flat_map`: the lists of the sources that f returns, one after another. For these there may be no
--- clause that states their lists.
+-- `flat_map`: the lists of the sources that f returns, one after another. `becomes` says which list
+-- the source gives that such a value becomes.
 abbrev pub SpreadsLists : {U A W B V F : Type 0} → Mut F (A × Unit {0}) W → F
-    → (U → List A → Type 0) → (W → List B → Type 0) → (W → List B → Type 0)
-    → (V → List B → Type 0) → U → V → Type 0
-SpreadsLists {A = A} {B = B} calls f lists others meets gives u v =
+    → (U → List A → Type 0) → (W → List B → Type 0) → (V → List B → Type 0) → U → V → Type 0
+SpreadsLists {A = A} {B = B} calls f lists becomes gives u v =
     EachList lists u (λ xs. (inner : A → List B) → (flat_map inner xs ≡ flat_map inner xs)
-    × (AnswersLists calls f others inner → gives v (flat_map inner xs))
-    × (AnswersLists calls f meets inner → gives v (flat_map inner xs)))
+    × (AnswersLists calls f becomes inner → gives v (flat_map inner xs)))
 
 -- `flatten`: the lists of the items, one after another
 abbrev pub FlattensLists : {U W B V : Type 0} → (U → List W → Type 0) → (W → List B → Type 0)
-    → (W → List B → Type 0) → (V → List B → Type 0) → U → V → Type 0
-FlattensLists {W = W} {B = B} lists others meets gives u v =
+    → (V → List B → Type 0) → U → V → Type 0
+FlattensLists {W = W} {B = B} lists becomes gives u v =
     EachList lists u (λ us. (inner : W → List B) → (flat_map inner us ≡ flat_map inner us)
-    × (((w : W) → others w (inner w)) → gives v (flat_map inner us))
-    × (((w : W) → meets w (inner w)) → gives v (flat_map inner us)))
+    × (((w : W) → becomes w (inner w)) → gives v (flat_map inner us)))
 
 -- `next`: the first item, and an iterator that gives the others
 abbrev pub BeginsList : {U S A : Type 0} → (U → List A → Type 0) → (S → Option A → S → Type 0)

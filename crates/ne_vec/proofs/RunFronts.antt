@@ -8,7 +8,7 @@ use Rattle.std.specs.Iterator.{DrainsIf}
 use Rattle.std.specs.Iterator.Runs.{Run}
 use Rattle.ne_vec.specs.Fronts.{Became, GivesFronts, GivesItems, GivesShown, Lists, Shows}
 use Rattle.ne_vec.specs.Fronts.{ShowsFronts}
-use Rattle.ne_vec.specs.FrontLaws.{marked, view_marked}
+use Rattle.ne_vec.specs.FrontLaws.{marked, shown_marked}
 
 -- what the calls of a run returned
 pub run_drains : {S A : Type 0} (steps : S → Option A → S → Type 0) (p : Run steps) (it : S)
@@ -29,7 +29,7 @@ module _ {U S A : Type 0} (becomes : U → S → Type 0) (steps : S → Option A
         → Shows becomes steps view u xs → GivesShown becomes steps view u xs
     unfolding Became
     gives_shown view xs shows = (
-      (marked u xs, view_marked view u xs, shows),
+      (marked u xs, shown_marked u xs, shows),
       shows_fronts view xs shows,
       λ p seen made. shows_fronts view xs shows p.from made p seen refl,
     )

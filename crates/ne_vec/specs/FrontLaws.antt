@@ -8,7 +8,7 @@ use Rattle.std.specs.Slice.Iter.{iter_steps, iter_rest}
 use Rattle.std.specs.Vec.Iter.{into_iter_items, into_iter_len, into_iter_steps}
 use Rattle.std.specs.declared.slice.Iter.{Iter}
 use Rattle.std.specs.declared.vec.IntoIter.{IntoIter}
-use Rattle.ne_vec.specs.Fronts.{Became, mark, view_mark}
+use Rattle.ne_vec.specs.Fronts.{Became, mark, shown_mark}
 
 -- an iterator that takes the first item of the list it has left at each call
 module _ {S A B : Type 0} (steps : S → Option A → S → Type 0) (view : A → B) (rest : S → List B)
@@ -61,9 +61,9 @@ pub marked : {U A : Type 0} (u : U) (xs : List A) → mark u xs ≡ 0
 unfolding mark
 marked u xs = refl
 
-pub view_marked : {U A B : Type 0} (view : A → B) (u : U) (xs : List B) → view_mark view u xs ≡ 0
-unfolding view_mark
-view_marked view u xs = refl
+pub shown_marked : {U B : Type 0} (u : U) (xs : List B) → shown_mark u xs ≡ 0
+unfolding shown_mark
+shown_marked u xs = refl
 
 pub became : {U S : Type 0} (becomes : U → S → Type 0) (u : U) (it : S) → becomes u it
     → Became becomes u it

@@ -13,9 +13,10 @@ AreFirst {A} whole xs us = (more : List A) × (xs ≡ us ++ more) × (whole ≡ 
 unfoldable pub mark : {U A : Type 0} → U → List A → ℕ
 mark u xs = 0
 
--- the same for a view of the items
-unfoldable pub view_mark : {U A B : Type 0} → (A → B) → U → List B → ℕ
-view_mark view u xs = 0
+-- the same for a list that the items show. It does not name the view: `grind` does not match a
+-- function such as `λ p. (p.0, p.1.now)`.
+unfoldable pub shown_mark : {U B : Type 0} → U → List B → ℕ
+shown_mark u xs = 0
 
 module _ {U S A : Type 0} (becomes : U → S → Type 0) (steps : S → Option A → S → Type 0) where
   -- The source u gives the items of xs: what comes from an iterator that it becomes are the first
@@ -34,7 +35,7 @@ module _ {U S A : Type 0} (becomes : U → S → Type 0) (steps : S → Option A
   Listed u xs = (mark u xs ≡ 0) × Lists u xs
 
   abbrev pub Shown : {B : Type 0} → (A → B) → U → List B → Type 0
-  Shown view u xs = (mark u xs ≡ 0) × (view_mark view u xs ≡ 0) × Shows view u xs
+  Shown view u xs = (mark u xs ≡ 0) × (shown_mark u xs ≡ 0) × Shows view u xs
 
 module _ {S A : Type 0} (steps : S → Option A → S → Type 0) where
   -- What `grind` learns about a run of an iterator that gives the items of xs: at most as many

@@ -4,7 +4,7 @@ use Rattle.std.specs.Prelude.{List, length, map}
 use Rattle.std.specs.Slice.Iter.{iter_steps}
 use Rattle.std.specs.Vec.Iter.{into_iter_steps}
 use Rattle.ne_vec.specs.Fronts.{AreFirst, Lists, Shows}
-use Rattle.ne_vec.specs.FrontLaws.{shown_front, counted_front, marked, view_marked}
+use Rattle.ne_vec.specs.FrontLaws.{shown_front, counted_front, marked, shown_marked}
 use Rattle.ne_vec.specs.Walks.{Walks, WalksOut}
 use Rattle.ne_vec.specs.WalkFronts.{WalkShows, WalkGives}
 
@@ -15,7 +15,7 @@ module _ {X : Type 0} (s xs : List X) (same : s ≡ xs) where
       subst (λ l. AreFirst whole l (map (λ y. y.now) ys)) (made.1 ∙ same) (shown_front it ys given)
 
   pub walk_shows : WalkShows s xs
-  walk_shows = (marked s xs, view_marked (λ y. y.now) s xs, shows)
+  walk_shows = (marked s xs, shown_marked s xs, shows)
 
   lists : (Z : Type 0) → Lists (WalksOut {Z = Z}) into_iter_steps s xs
   unfolding Lists

@@ -139,6 +139,17 @@ pub fn is_subset(alloc: Global) -> Result<bool, AllocError>
     Ok(subset)
 }
 
+/// Asks the same of sets that are written out. This is no example of a comment: the attribute has
+/// the check search once more, without the lemmas of std, and that search ends.
+#[tactic(auto, using(std::proofs::Common::arith))]
+pub fn is_written_out_subset(alloc: Global) -> Result<bool, AllocError>
+    ensures { IfOk result (λ subset. subset ≡ true) }
+{
+    let a: NEIndexSet<u32> = neis![alloc; 1, 2]?;
+    let b: NEIndexSet<u32> = neis![alloc; 2, 1, 3]?;
+    Ok(a.is_subset(&b))
+}
+
 /// Asks whether the first set has each item of the second.
 pub fn is_superset(alloc: Global) -> Result<bool, AllocError>
     ensures { IfOk result (λ superset. superset ≡ true) }

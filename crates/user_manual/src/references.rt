@@ -25,7 +25,7 @@ ghost use Rattle.std.specs.List.{fold, list_all, list_any, prefix_len, scan, tak
 ghost use Rattle.std.specs.Option.{option_map};
 ghost use Rattle.std.specs.Int.NonZero.{non_zero_usize_get};
 
-use nonempty_collections::{NEBTreeMap, NEVec, NonEmptyIterator, iter};
+use nonempty_collections::{IntoNonEmptyIterator, NEBTreeMap, NEVec, NonEmptyIterator, iter};
 use std::alloc::{AllocError, Global};
 use std::num::NonZeroUsize;
 
@@ -222,6 +222,40 @@ pub fn halves_after_places(
         .collect(alloc)
 }
 
+/// Returns the first `n` prices, with their indices before them.
+pub fn first_prices_numbered(
+    alloc: Global,
+    sales: &NEVec<Sale>,
+    n: NonZeroUsize,
+) -> Result<NEVec<(usize, u32)>, AllocError>
+    ensures { IfOk result (λ v. v ≡ map (λ p. (p.0, p.1.price))
+        (take (non_zero_usize_get n) (enumerate_from 0 sales.now))) }
+{
+    sales
+        .nonempty_iter()
+        .enumerate()
+        .take(n)
+        .map(|p| (p.0, p.1.price))
+        .collect(alloc)
+}
+
+/// Returns the same, numbered after they are taken.
+pub fn numbered_first_prices(
+    alloc: Global,
+    sales: &NEVec<Sale>,
+    n: NonZeroUsize,
+) -> Result<NEVec<(usize, u32)>, AllocError>
+    ensures { IfOk result (λ v. v ≡ map (λ p. (p.0, p.1.price))
+        (enumerate_from 0 (take (non_zero_usize_get n) sales.now))) }
+{
+    sales
+        .nonempty_iter()
+        .take(n)
+        .enumerate()
+        .map(|p| (p.0, p.1.price))
+        .collect(alloc)
+}
+
 /// Returns whether every price is at most the limit beside it.
 pub fn within(sales: &NEVec<Sale>, limits: &NEVec<u32>) -> bool
     ensures { result ≡ list_all (λ p. ltb p.0.price p.1) (zip sales.now limits.now) }
@@ -241,6 +275,52 @@ pub fn halves_beside(
         .nonempty_iter()
         .zip(others.nonempty_iter())
         .map(|p| *p.0 / 2)
+        .collect(alloc)
+}
+
+/// Returns the prices that are beside one another in two vectors.
+pub fn prices_beside(
+    alloc: Global,
+    sales: &NEVec<Sale>,
+    others: &NEVec<Sale>,
+) -> Result<NEVec<(u32, u32)>, AllocError>
+    ensures { IfOk result (λ v.
+        v ≡ map (λ p. (p.0.price, p.1.price)) (zip sales.now others.now)) }
+{
+    sales
+        .nonempty_iter()
+        .zip(others.nonempty_iter())
+        .map(|p| (p.0.price, p.1.price))
+        .collect(alloc)
+}
+
+/// Returns for each sale whether its price is below the limit beside it, which is no reference.
+pub fn below_limits(
+    alloc: Global,
+    sales: &NEVec<Sale>,
+    limits: NEVec<u32>,
+) -> Result<NEVec<bool>, AllocError>
+    ensures { IfOk result (λ v. v ≡ map (λ p. ltb p.0.price p.1) (zip sales.now limits)) }
+{
+    sales
+        .nonempty_iter()
+        .zip(limits)
+        .map(|p| p.0.price < p.1)
+        .collect(alloc)
+}
+
+/// Returns the buyers after the numbers beside them, which are no references.
+pub fn buyers_after_numbers(
+    alloc: Global,
+    numbers: NEVec<u32>,
+    sales: &NEVec<Sale>,
+) -> Result<NEVec<(u32, u32)>, AllocError>
+    ensures { IfOk result (λ v. v ≡ map (λ p. (p.0, p.1.buyer)) (zip numbers sales.now)) }
+{
+    numbers
+        .into_nonempty_iter()
+        .zip(sales.nonempty_iter())
+        .map(|p| (p.0, p.1.buyer))
         .collect(alloc)
 }
 

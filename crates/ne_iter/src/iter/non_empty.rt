@@ -29,14 +29,13 @@ ghost use Rattle.std.specs.Global.{Global};
 ghost use Rattle.std.specs.declared.alloc.AllocError.{AllocError};
 ghost use Rattle.std.specs.List.Sorted.{IsSortedByKeyClosure, IsStableByKeyClosure};
 ghost use Rattle.ne_iter.specs.Sources.{IsNonEmpty, DrawsFirst};
-ghost use Rattle.ne_vec.specs.Fronts.{Shows, GivesFronts, mark, view_mark};
+ghost use Rattle.ne_vec.specs.Fronts.{Shows, GivesFronts, mark, shown_mark};
 ghost use Rattle.ne_vec.specs.WalkFronts.{WalkGives};
 ghost use Rattle.ne_iter.specs.SourceRuns.{RunsSome, RunsWhole, BeginsRuns};
 ghost use Rattle.ne_iter.specs.SourceLists.{BecomesList, BecomesShown, BeginsList, ChainsLists};
 ghost use Rattle.ne_iter.specs.SourceLists.{ChainsShown, CountsAs, EachList, EachShown};
 ghost use Rattle.ne_iter.specs.SourceLists.{FlattensLists, MapsList, MapsShown, MeetsList};
-ghost use Rattle.ne_iter.specs.SourceLists.{MeetsShown, ShowsItems, SpreadsLists, ZipsLists};
-ghost use Rattle.ne_iter.specs.SourceLists.{ZipsShown};
+ghost use Rattle.ne_iter.specs.SourceLists.{MeetsShown, ShowsItems, SpreadsLists, ZipsKnown};
 ghost use Rattle.ne_iter.specs.Interspersed.{interspersed, JoinsLists, OnlyItsValues};
 ghost use Rattle.ne_iter.specs.Calls.{ActsAsWithState, ShownEach};
 ghost use Rattle.ne_iter.specs.Clones.{TriesClone};
@@ -83,8 +82,9 @@ use std::num::NonZeroUsize;
 ///
 /// In contracts, `item_view` says what an item shows: a reference shows the item that it points to,
 /// and any other item shows itself. A source of references says so by the line
-/// `ghost item_view = { referenced };`, and what is proved of a chain over it is then about the
-/// items that its references point to. The Rust crate has nothing of the kind.
+/// `ghost item_view = { referenced };`, and the call that makes it says which list its items show
+/// (`Shown`), as `nonempty_iter` of a vector does. What is proved of a chain over it is then about
+/// the items that its references point to. The Rust crate has nothing of the kind.
 ///
 /// ```
 /// let halves = [3u32, 1, 2].into_nonempty_iter().map(|x| x / 2);
@@ -471,8 +471,8 @@ pub trait NonEmptyIterator: IntoIterator {
         ensures gives { FlatMapGives (⟦<Self as SourceWords>⟧.reads) (⟦<U as SourceWords>⟧.reads)
             (⟦<FlatMap<Self, U, F> as SourceWords>⟧.reads) F.FnMut self f result }
         ensures lists { SpreadsLists F.FnMut f (⟦<Self as SourceWords>⟧.lists)
-            (⟦<U as SourceWords>⟧.lists)
-            (MeetsList U.into_iter_gives U.IntoIter.next_gives)
+            (BecomesList U.into_nonempty_iter_gives U.IntoNEIter.into_iter_gives
+            U.IntoNEIter.IntoIter.next_gives)
             (⟦<FlatMap<Self, U, F> as SourceWords>⟧.gives_items) self result }
     {
         FlatMap {
@@ -502,8 +502,8 @@ pub trait NonEmptyIterator: IntoIterator {
             (⟦<Self::Item as SourceWords>⟧.reads)
             (⟦<Flatten<Self> as SourceWords>⟧.reads) self result }
         ensures lists { FlattensLists (⟦<Self as SourceWords>⟧.lists)
-            (⟦<Self::Item as SourceWords>⟧.lists)
-            (MeetsList Self.Item.into_iter_gives Self.Item.IntoIter.next_gives)
+            (BecomesList Self.Item.into_nonempty_iter_gives Self.Item.IntoNEIter.into_iter_gives
+            Self.Item.IntoNEIter.IntoIter.next_gives)
             (⟦<Flatten<Self> as SourceWords>⟧.gives_items) self result }
     {
         Flatten { iter: self }
@@ -1094,16 +1094,30 @@ pub trait NonEmptyIterator: IntoIterator {
         ensures holds { (zip_first result ≡ self) × (zip_second result ≡ other) }
         ensures gives { ZipGives (⟦<Self as SourceWords>⟧.reads) (⟦<U as SourceWords>⟧.reads)
             (⟦<Zip<Self, U> as SourceWords>⟧.reads) self other result }
-        ensures lists { ZipsLists (⟦<Self as SourceWords>⟧.lists) (⟦<U as SourceWords>⟧.lists)
+        ensures lists { ZipsKnown (mark self) (⟦<Self as SourceWords>⟧.lists self)
+            (mark other) (⟦<U as SourceWords>⟧.lists other)
             (BecomesList U.into_nonempty_iter_gives U.IntoNEIter.into_iter_gives
-            U.IntoNEIter.IntoIter.next_gives)
-            (⟦<Zip<Self, U> as SourceWords>⟧.gives_items) self other result }
-        ensures shown { ZipsShown item_view U.IntoNEIter.item_view
-            (⟦<Self as SourceWords>⟧.shows) (⟦<U as SourceWords>⟧.shows)
+            U.IntoNEIter.IntoIter.next_gives other)
+            (⟦<Zip<Self, U> as SourceWords>⟧.gives_items result) }
+        ensures shown { ZipsKnown
+            (shown_mark self) (⟦<Self as SourceWords>⟧.shows item_view self)
+            (shown_mark other) (⟦<U as SourceWords>⟧.shows U.IntoNEIter.item_view other)
             (BecomesShown U.into_nonempty_iter_gives U.IntoNEIter.into_iter_gives
-            U.IntoNEIter.IntoIter.next_gives U.IntoNEIter.item_view)
+            U.IntoNEIter.IntoIter.next_gives U.IntoNEIter.item_view other)
             (⟦<Zip<Self, U> as SourceWords>⟧.gives_shown
-            (in_pairs item_view U.IntoNEIter.item_view)) self other result }
+            (in_pairs item_view U.IntoNEIter.item_view) result) }
+        ensures shown_first { ZipsKnown
+            (shown_mark self) (⟦<Self as SourceWords>⟧.shows item_view self)
+            (mark other) (⟦<U as SourceWords>⟧.lists other)
+            (BecomesList U.into_nonempty_iter_gives U.IntoNEIter.into_iter_gives
+            U.IntoNEIter.IntoIter.next_gives other)
+            (⟦<Zip<Self, U> as SourceWords>⟧.gives_shown (in_pairs item_view itself) result) }
+        ensures shown_second { ZipsKnown (mark self) (⟦<Self as SourceWords>⟧.lists self)
+            (shown_mark other) (⟦<U as SourceWords>⟧.shows U.IntoNEIter.item_view other)
+            (BecomesShown U.into_nonempty_iter_gives U.IntoNEIter.into_iter_gives
+            U.IntoNEIter.IntoIter.next_gives U.IntoNEIter.item_view other)
+            (⟦<Zip<Self, U> as SourceWords>⟧.gives_shown
+            (in_pairs itself U.IntoNEIter.item_view) result) }
     {
         Zip { a: self, b: other }
     }

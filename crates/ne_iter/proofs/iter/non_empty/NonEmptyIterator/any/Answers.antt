@@ -1,6 +1,6 @@
 use Rattle.ne_iter.proofs.Stops.{TellsAny-from_run}
 use Rattle.ne_iter.specs.Sources.{Reads}
-use Rattle.ne_vec.specs.FrontLaws.{marked, view_marked}
+use Rattle.ne_vec.specs.FrontLaws.{marked, shown_marked}
 use Rattle.ne_iter.proofs.FirstAnswers.{tells_any, views_any}
 use Rattle.ne_iter.proofs.ReadLists.{lists_read, shows_read}
 use Rattle.ne_iter.proofs.iter.non_empty.NonEmptyIterator.any.Goals as goal
@@ -22,7 +22,7 @@ returns-clause-lists g c xs lists = (
 pub returns-clause-shown : goal.returns-clause-shown
 returns-clause-shown g c xs shows =
     let view = g.Self.NonEmptyIterator.item_view.of in (
-      view_marked view _ xs,
+      shown_marked _ xs,
       λ test acts. views_any
           (Reads g.Self.IntoIterator.into_iter_gives g.Self.IntoIter.Iterator.next_gives)
           c.args.self view xs (shows_read _ _ _ view xs shows) test c.args.f g.F.FnMut acts

@@ -3,7 +3,7 @@ use Rattle.std.proofs.iter.runs.Made.{to_end}
 use Rattle.std.proofs.lemmas.List.{length-map}
 use Rattle.std.specs.Prelude.{◌≡◌, length}
 use Rattle.std.specs.Int.NonZero.{non_zero_usize_get}
-use Rattle.ne_vec.specs.FrontLaws.{marked, view_marked}
+use Rattle.ne_vec.specs.FrontLaws.{marked, shown_marked}
 use Rattle.ne_iter.proofs.ReadLists.{of_drained, shown_read}
 use Rattle.ne_iter.proofs.iter.non_empty.NonEmptyIterator.count.Goals as goal
 
@@ -29,7 +29,7 @@ returns-clause-shown g c xs shows =
     let ran = c.count.ensures.ran in
     let made = c.into_iter.ensures.into_iter_gives in
     let steps = g.Self.IntoIter.Iterator.next_gives in (
-      view_marked view _ xs,
+      shown_marked _ xs,
       shown_read _ steps _ view xs shows (λ l. non_zero_usize_get c.in-Some.n ≡ length l) ran.0
           (record {
             it = c.into_iter.result;

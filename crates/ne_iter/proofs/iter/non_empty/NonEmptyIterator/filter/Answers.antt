@@ -2,7 +2,7 @@ use Rattle.std.proofs.Common.{subst, sym}
 use Rattle.ne_iter.proofs.KeptRuns.{FilterGives-from_steps}
 use Rattle.std.proofs.Common.{refl}
 use Rattle.std.specs.Prelude.{filter}
-use Rattle.ne_vec.specs.FrontLaws.{marked, view_marked}
+use Rattle.ne_vec.specs.FrontLaws.{marked, shown_marked}
 use Rattle.ne_iter.proofs.AdapterLists.{filter_list, filter_view}
 use Rattle.ne_iter.proofs.ClauseLists.{gives_fronts, shows_items}
 use Rattle.ne_iter.proofs.ReadLists.{lists_read, shows_read}
@@ -27,7 +27,7 @@ returns-clause-lists g c xs lists = (
 pub returns-clause-shown : goal.returns-clause-shown
 returns-clause-shown g c xs shows =
     let view = g.Self.NonEmptyIterator.item_view in (
-      view_marked view.of _ xs,
+      shown_marked _ xs,
       λ test acts. (
         refl,
         shows_items view _ (filter test xs)

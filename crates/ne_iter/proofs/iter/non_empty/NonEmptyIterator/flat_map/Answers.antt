@@ -26,4 +26,6 @@ returns-clause-gives g c whole zs h =
     }
 
 pub returns-clause-lists : goal.returns-clause-lists
-returns-clause-lists g c = spreads_lists (flat_map_list (returns-clause-gives g c))
+returns-clause-lists g c =
+    let same = g.met.U.IntoNonEmptyIterator.same_lists in
+    spreads_lists same (flat_map_list (returns-clause-gives g c))

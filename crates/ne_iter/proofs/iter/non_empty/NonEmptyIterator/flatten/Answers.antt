@@ -18,4 +18,6 @@ returns-clause-gives g c whole zs h =
     }
 
 pub returns-clause-lists : goal.returns-clause-lists
-returns-clause-lists g c = flattens_lists (flatten_list (returns-clause-gives g c))
+returns-clause-lists g c =
+    let same = g.met.Self.Item.IntoNonEmptyIterator.same_lists in
+    flattens_lists same (flatten_list (returns-clause-gives g c))

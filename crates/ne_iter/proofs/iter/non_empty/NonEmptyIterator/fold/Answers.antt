@@ -4,7 +4,7 @@ use Rattle.std.proofs.lemmas.List.Folds.{fold-map}
 use Rattle.ne_iter.proofs.FunctionCalls.{folded_value}
 use Rattle.std.specs.Prelude.{◌≡◌}
 use Rattle.std.specs.List.{fold}
-use Rattle.ne_vec.specs.FrontLaws.{marked, view_marked}
+use Rattle.ne_vec.specs.FrontLaws.{marked, shown_marked}
 use Rattle.ne_iter.proofs.ReadLists.{of_run, shown_read}
 use Rattle.ne_iter.proofs.iter.non_empty.NonEmptyIterator.fold.Goals as goal
 
@@ -34,7 +34,7 @@ returns-clause-shown g c xs shows =
     let view = g.Self.NonEmptyIterator.item_view.of in
     let told = returns-clause-gives g c in
     let init = c.args.init in (
-      view_marked view _ xs,
+      shown_marked _ xs,
       λ h acts.
           let value = folded_value g.F.FnMut c.args.f (λ total x. h total (view x)) init
           c.fold.result told.items told.f_then acts told.folded in

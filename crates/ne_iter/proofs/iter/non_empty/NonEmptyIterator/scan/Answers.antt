@@ -5,7 +5,7 @@ use Rattle.ne_iter.specs.Scanned.{scanned_from, state_of, callee_of}
 use Rattle.ne_iter.proofs.ScannedRuns.{DrainsIf-scan, CallableInScan-always}
 use Rattle.std.proofs.Common.{refl}
 use Rattle.std.specs.List.{scan}
-use Rattle.ne_vec.specs.FrontLaws.{marked, view_marked}
+use Rattle.ne_vec.specs.FrontLaws.{marked, shown_marked}
 use Rattle.ne_iter.proofs.AdapterLists.{scan_list, scan_view}
 use Rattle.ne_iter.proofs.ReadLists.{lists_read, read_lists, shows_read}
 use Rattle.ne_iter.proofs.iter.non_empty.NonEmptyIterator.scan.Goals as goal
@@ -46,7 +46,7 @@ returns-clause-lists g c xs lists = (
 pub returns-clause-shown : goal.returns-clause-shown
 returns-clause-shown g c xs shows =
     let view = g.Self.NonEmptyIterator.item_view.of in (
-      view_marked view _ xs,
+      shown_marked _ xs,
       λ step out acts. (
         refl,
         read_lists _ _ _ (scan step out c.args.init xs)

@@ -1,7 +1,7 @@
 use Rattle.std.proofs.Common.{subst, sym}
 use Rattle.ne_iter.proofs.KeptRuns.{SkipGives-from_steps}
 use Rattle.std.specs.Prelude.{drop}
-use Rattle.ne_vec.specs.FrontLaws.{marked, view_marked}
+use Rattle.ne_vec.specs.FrontLaws.{marked, shown_marked}
 use Rattle.ne_iter.proofs.AdapterLists.{skip_list, skip_view}
 use Rattle.ne_iter.proofs.ClauseLists.{gives_fronts, shows_items}
 use Rattle.ne_iter.proofs.ReadLists.{lists_read, shows_read}
@@ -23,7 +23,7 @@ returns-clause-lists g c xs lists = (
 pub returns-clause-shown : goal.returns-clause-shown
 returns-clause-shown g c xs shows =
     let view = g.Self.NonEmptyIterator.item_view in (
-      view_marked view.of _ xs,
+      shown_marked _ xs,
       shows_items view _ (drop c.args.n xs)
           (skip_view c.args.n (returns-clause-gives g c) view.of xs
           (shows_read _ _ _ view.of xs shows)),

@@ -3,7 +3,7 @@ use Rattle.ne_iter.proofs.KeptRuns.{SkipWhileGives-from_steps}
 use Rattle.std.proofs.Common.{refl}
 use Rattle.std.specs.Prelude.{drop}
 use Rattle.std.specs.List.{prefix_len}
-use Rattle.ne_vec.specs.FrontLaws.{marked, view_marked}
+use Rattle.ne_vec.specs.FrontLaws.{marked, shown_marked}
 use Rattle.ne_iter.proofs.AdapterLists.{skip_while_list, skip_while_view}
 use Rattle.ne_iter.proofs.ClauseLists.{gives_fronts, shows_items}
 use Rattle.ne_iter.proofs.ReadLists.{lists_read, shows_read}
@@ -29,7 +29,7 @@ returns-clause-lists g c xs lists = (
 pub returns-clause-shown : goal.returns-clause-shown
 returns-clause-shown g c xs shows =
     let view = g.Self.NonEmptyIterator.item_view in (
-      view_marked view.of _ xs,
+      shown_marked _ xs,
       λ test acts. (
         refl,
         shows_items view _ (drop (prefix_len test xs) xs)
