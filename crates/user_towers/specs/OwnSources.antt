@@ -1,5 +1,6 @@
 -- A user's own sources, and the list that a countdown gives.
-use Rattle.std.specs.Prelude.{ℕ, zero, suc, List, [], ◌∷◌}
+use Rattle.std.specs.Prelude.{◌≡◌, ℕ, zero, suc, ◌<◌, List, [], ◌∷◌, length}
+use Rattle.std.specs.Borrow.{Bor}
 use Rattle.std.specs.Int.NonZero.{non_zero_u32_get}
 use Rattle.std.specs.Box.{box_value}
 use Rattle.user_towers.specs.declared.own_sources.Countdown.{Countdown}
@@ -25,3 +26,7 @@ seconds_of s = non_zero_u32_get s.seconds
 -- the source in the box
 abbrev pub in_box : {I : Type 0} → Boxed I → I
 in_box b = box_value b.inner
+
+-- the stack behind a reference becomes the iterator that has all its items left
+abbrev pub WalksStack : {A : Type 0} → Bor (List A) → List A → Type 0
+WalksStack s it = (0 < length s.now) × (it ≡ s.now)

@@ -5,7 +5,9 @@
 ghost use Rattle.std.specs.Prelude.{◌≡◌, ◌<◌, List, [], ◌∷◌, length, reverse, IfOk, IfErr};
 ghost use Rattle.std.specs.Iterator.{YieldsFirst, YieldsFirstRef, at_most, item_count};
 ghost use Rattle.std.specs.Int.NonZero.{non_zero_u32_get};
+ghost use Rattle.nonempty_collections.specs.Fronts.{Shown};
 ghost use Rattle.user_towers.specs.OwnSources.{counted_down, start_of, left_of, seconds_of, in_box};
+ghost use Rattle.user_towers.specs.OwnSources.{WalksStack};
 
 use nonempty_collections::{IntoNonEmptyIterator, NonEmptyIterator};
 use std::alloc::{AllocError, Global};
@@ -157,6 +159,16 @@ impl<T: Drop> Stack<T> {
     }
 }
 
+impl<T> Stack<T> {
+    /// Returns a source of references to the items, the newest first. It says which list they show;
+    /// so a chain over it proves itself.
+    pub fn nonempty_iter(&self) -> &Stack<T>
+        ensures { Shown WalksStack (YieldsFirstRef (λ left. left)) (λ y. y.now) result self.now }
+    {
+        self
+    }
+}
+
 /// An iterator over the items of a [`Stack`], by value. In contracts its value is the list of the
 /// items that are left.
 #[derive(Drop)]
@@ -236,7 +248,7 @@ impl<'a, T> IntoIterator for &'a Stack<T> {
 
     type IntoIter = StackIter<'a, T>;
 
-    ghost into_iter_gives = { λ s it. (0 < length s.now) × (it ≡ s.now) };
+    ghost into_iter_gives = { WalksStack };
 
     fn into_iter(self) -> StackIter<'a, T> {
         StackIter {

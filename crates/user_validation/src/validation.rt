@@ -44,7 +44,6 @@ pub fn numbers(alloc: Global, fields: &NEVec<&str>) -> Result<Result<NEVec<u32>,
 {
     fields
         .nonempty_iter()
-        .copied()
         .enumerate()
         .map(|(place, text)| read(place, text))
         .collect(alloc)
@@ -56,7 +55,6 @@ pub fn faults(alloc: Global, fields: &NEVec<&str>) -> Result<Vec<Fault>, AllocEr
 {
     fields
         .nonempty_iter()
-        .copied()
         .enumerate()
         .map(|(place, text)| read(place, text))
         .filter_map(|reading| reading.err())
@@ -69,7 +67,6 @@ fn good_numbers(alloc: Global, fields: &NEVec<&str>) -> Result<Vec<u32>, AllocEr
 {
     fields
         .nonempty_iter()
-        .copied()
         .enumerate()
         .map(|(place, text)| read(place, text))
         .filter_map(|reading| reading.ok())

@@ -9,7 +9,7 @@ use nonempty_collections::{IntoIteratorExt, IntoNonEmptyIterator, NonEmptyIterat
 use std::convert::AsSlice;
 use std::num::{NonZeroU32, Wrapping};
 use std::test::Fail;
-use user_towers::{Boxed, Countdown, Stack, Start};
+use user_towers::{Boxed, Countdown, Stack, Start, all_below_ten, second_parts};
 
 // 3, 2 and 1.
 fn three() -> Result<Countdown, Fail> {
@@ -95,4 +95,13 @@ fn a_stack(rt: HostRuntime) -> Result<(), Fail> {
     adapters::copied(alloc, &stack, &[2, 1])?;
     adapters::cloned(alloc, &stack, &[Ok(2), Ok(1)])?;
     is(digits(stack, 0), 21)
+}
+
+#[test]
+fn over_a_stack(rt: HostRuntime) -> Result<(), Fail> {
+    let alloc = rt.alloc();
+    let mut pairs = Stack::new(alloc, (1u32, 5u32))?;
+    pairs.push((2, 7))?;
+    is(all_below_ten(&pairs), true)?;
+    same(second_parts(alloc, &pairs)?.as_slice(), &[7, 5])
 }
