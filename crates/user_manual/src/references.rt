@@ -256,7 +256,7 @@ pub fn numbered_first_prices(
         .collect(alloc)
 }
 
-/// Returns whether every price is at most the limit beside it.
+/// Returns whether every price is below the limit beside it.
 pub fn within(sales: &NEVec<Sale>, limits: &NEVec<u32>) -> bool
     ensures { result ≡ list_all (λ p. ltb p.0.price p.1) (zip sales.now limits.now) }
 {
@@ -294,7 +294,8 @@ pub fn prices_beside(
         .collect(alloc)
 }
 
-/// Returns for each sale whether its price is below the limit beside it, which is no reference.
+/// Returns for each sale whether its price is below the limit beside it. The limits are passed by
+/// value.
 pub fn below_limits(
     alloc: Global,
     sales: &NEVec<Sale>,
@@ -309,7 +310,7 @@ pub fn below_limits(
         .collect(alloc)
 }
 
-/// Returns the buyers after the numbers beside them, which are no references.
+/// Returns each number and the buyer beside it. The numbers are passed by value.
 pub fn buyers_after_numbers(
     alloc: Global,
     numbers: NEVec<u32>,
