@@ -34,7 +34,8 @@ module _ {A : Type 0} (beats : A → A → Bool) (xs : List A) (m : A) (place : 
   pub best_run_of : {U S : Type 0} {becomes : U → S → Type 0} {steps : S → Option A → S → Type 0}
       {u : U} → Reads becomes steps true u xs
       → RunsWhole becomes steps u (λ p. AnyItem p (λ x. x ≡ m)
-      × AllItems p (λ x. beats x m ≡ false))
+      × AllItems p (λ x. beats x m ≡ false)
+      × ((zs : List A) → p.items ≡ zs → Contains zs m))
   best_run_of {steps = steps} h = (
     h.it,
     h.made,
@@ -45,6 +46,8 @@ module _ {A : Type 0} (beats : A → A → Bool) (xs : List A) (m : A) (place : 
       (
         (place, best.0, subst (λ o. IsSomeAnd o (λ x. x ≡ m)) (sym here) refl),
         λ k. unbeaten_at k (slice_get xs k) refl,
+        λ zs same. subst (λ l. Contains l m) same
+            (place, best.0, get_or_from_slice_get xs place m m here),
       ),
     ),
   )

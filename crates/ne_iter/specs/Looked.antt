@@ -3,7 +3,7 @@ use Rattle.std.specs.Prelude.{◌≡◌, Option, None, Some, MatchOption, IfSome
 use Rattle.std.specs.Prelude.{true, false}
 use Rattle.std.specs.Iterator.Adapters.{peekable_peeked}
 use Rattle.std.specs.declared.iter.Ahead.{Ahead}
-use Rattle.std.specs.Iterator.Runs.{EachRunFrom}
+use Rattle.std.specs.Iterator.Runs.{EachRunFrom, IsIdenticalRun}
 use Rattle.ne_iter.specs.SourceRuns.{RunsSome, RunsWhole}
 
 -- an item was peeked
@@ -31,8 +31,7 @@ abbrev pub LooksRuns : {U V S T A : Type 0} → (U → S → Type 0) → (S → 
 LooksRuns becomes steps looked_steps iterator_of source result = MatchOption result
     (RunsWhole becomes steps source (λ q. (q.len ≡ 0) × (q.items ≡ [])))
     (λ v. EachRunFrom looked_steps (iterator_of v) (λ p.
-    RunsSome becomes steps source (λ q.
-    (q.whole ≡ p.whole) × (p.len ≡ q.len) × (p.items ≡ q.items)))
+    RunsSome becomes steps source (λ q. IsIdenticalRun p q))
     × RunsSome becomes steps source (λ q. q.len ≡ 1))
 
 -- If the source may be called until it ends, so may the result.

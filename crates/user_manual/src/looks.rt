@@ -3,6 +3,7 @@ ghost use Rattle.std.specs.Prelude.{
   ◌≡◌,
   ◌/◌,
   ◌<◌,
+  ◌≤◌,
   ◌∷◌,
   ◌↔◌,
   [],
@@ -17,6 +18,7 @@ ghost use Rattle.std.specs.Prelude.{
   Some,
   ltb,
 };
+ghost use Rattle.std.specs.List.{All, Contains};
 
 use nonempty_collections::{IntoIteratorExt, IntoNonEmptyIterator, NEVec, NonEmptyIterator};
 use std::alloc::{AllocError, Global};
@@ -62,6 +64,35 @@ pub fn has_item(items: Vec<u32>) -> bool
     ensures { (result ≡ true) ↔ (0 < length items.items) }
 {
     items.try_into_nonempty_iter().is_some()
+}
+
+/// Returns the greatest item of a vector that may be empty, or `None` if it is.
+pub fn greatest_if_any(items: Vec<u32>) -> Option<u32>
+    ensures among { MatchOption result (items.items ≡ []) (λ m. Contains items.items m) }
+    ensures bound { MatchOption result (items.items ≡ []) (λ m. All (λ x. x ≤ m) items.items) }
+{
+    Some(items.try_into_nonempty_iter()?.max())
+}
+
+/// Returns the least item of a vector that may be empty, or 0 if it is.
+pub fn least_or_zero(items: Vec<u32>) -> u32
+    ensures among { 0 < length items.items → Contains items.items result }
+    ensures bound { All (λ x. result ≤ x) items.items }
+{
+    match items.try_into_nonempty_iter() {
+        Some(source) => source.min(),
+        None => 0,
+    }
+}
+
+/// Returns the item at index 2, or `None` if there are fewer than three.
+pub fn third_if_any(items: Vec<u32>) -> Option<u32>
+    ensures { result ≡ slice_get items.items 2 }
+{
+    match items.try_into_nonempty_iter() {
+        Some(source) => source.nth(2),
+        None => None,
+    }
 }
 
 /// Returns the first item.

@@ -662,7 +662,8 @@ pub trait NonEmptyIterator: IntoIterator {
             × All (λ x. less_by Self.Item.cmp result x ≡ false) xs) }
         ensures runs { RunsWhole Self.into_iter_gives Self.IntoIter.next_gives self (λ p.
             AnyItem p (λ x. x ≡ result)
-            × AllItems p (λ x. less_by Self.Item.cmp result x ≡ false)) }
+            × AllItems p (λ x. less_by Self.Item.cmp result x ≡ false)
+            × ((xs : List Self.Item) → p.items ≡ xs → Contains xs result)) }
     {
         best(self, |kept, next| kept < next)
     }
@@ -741,7 +742,8 @@ pub trait NonEmptyIterator: IntoIterator {
             × All (λ x. less_by Self.Item.cmp x result ≡ false) xs) }
         ensures runs { RunsWhole Self.into_iter_gives Self.IntoIter.next_gives self (λ p.
             AnyItem p (λ x. x ≡ result)
-            × AllItems p (λ x. less_by Self.Item.cmp x result ≡ false)) }
+            × AllItems p (λ x. less_by Self.Item.cmp x result ≡ false)
+            × ((xs : List Self.Item) → p.items ≡ xs → Contains xs result)) }
     {
         best(self, |kept, next| next < kept)
     }

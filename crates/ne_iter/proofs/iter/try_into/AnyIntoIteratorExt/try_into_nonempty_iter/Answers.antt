@@ -1,6 +1,6 @@
 use Rattle.std.proofs.Common.{rules, refl, sym, subst, ◌∙◌}
 use Rattle.std.specs.Iterator.Adapters.{peekable_source, peekable_can}
-use Rattle.std.proofs.iter.runs.Made.{run, took}
+use Rattle.std.proofs.iter.runs.Made.{at-is, run, took}
 use Rattle.std.specs.Iterator.{IsFinite}
 use Rattle.std.specs.Prelude.{◌≡◌, ◌∷◌, [], true, false, None, Some}
 use Rattle.ne_iter.proofs.LookedRuns.{looked, reads_looked, found}
@@ -66,7 +66,11 @@ returns-then-is_some-clause-looks_runs g c =
           let given = reads_looked steps it v p.from p.items from h full (took p) in (
             it,
             c.into_iter.ensures.into_iter_gives,
-            (run steps it p.items p.whole given, refl, (refl, p.long, refl)),
+            (
+              run steps it p.items p.whole given,
+              refl,
+              ((sym p.long, refl, λ k. sym (at-is p k)), refl),
+            ),
           )),
       (first.it, first.made, (run steps first.it (one.0 ∷ []) false first.given, refl, refl)),
     )
