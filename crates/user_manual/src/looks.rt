@@ -78,6 +78,7 @@ pub fn greatest_if_any(items: Vec<u32>) -> Option<u32>
 pub fn least_or_zero(items: Vec<u32>) -> u32
     ensures among { 0 < length items.items → Contains items.items result }
     ensures bound { All (λ x. result ≤ x) items.items }
+    ensures zero { items.items ≡ [] → result ≡ 0 }
 {
     match items.try_into_nonempty_iter() {
         Some(source) => source.min(),
