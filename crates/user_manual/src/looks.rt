@@ -12,16 +12,19 @@ ghost use Rattle.std.specs.Prelude.{
   length,
   map,
   slice_get,
+  take,
   true,
   IfOk,
   MatchOption,
   Some,
   ltb,
 };
-ghost use Rattle.std.specs.List.{All, Contains};
+ghost use Rattle.std.specs.List.{All, Contains, list_all};
+ghost use Rattle.std.specs.Int.NonZero.{non_zero_usize_get};
 
 use nonempty_collections::{IntoIteratorExt, IntoNonEmptyIterator, NEVec, NonEmptyIterator};
 use std::alloc::{AllocError, Global};
+use std::num::NonZeroUsize;
 
 /// Returns the items of a vector that may be empty, or `None` if it is.
 pub fn looked(alloc: Global, items: Vec<u32>) -> Result<Option<NEVec<u32>>, AllocError>
@@ -93,6 +96,42 @@ pub fn third_if_any(items: Vec<u32>) -> Option<u32>
     match items.try_into_nonempty_iter() {
         Some(source) => source.nth(2),
         None => None,
+    }
+}
+
+/// Returns whether every item of a vector that may be empty is below 10.
+pub fn all_small(items: Vec<u32>) -> bool
+    ensures { result ≡ list_all (λ x. ltb x 10) items.items }
+{
+    match NEVec::try_from_vec(items) {
+        Some(items) => items.into_nonempty_iter().all(|x| x < 10),
+        None => true,
+    }
+}
+
+/// Returns the greatest half of an item of a vector that may be empty, or `None` if it is.
+pub fn greatest_half_if_any(items: Vec<u32>) -> Option<u32>
+    ensures among { MatchOption result (items.items ≡ [])
+        (λ m. Contains (map (λ x. x / 2) items.items) m) }
+    ensures bound { MatchOption result (items.items ≡ [])
+        (λ m. All (λ x. x ≤ m) (map (λ x. x / 2) items.items)) }
+{
+    let items = NEVec::try_from_vec(items)?;
+    Some(items.into_nonempty_iter().map(|x| x / 2).max())
+}
+
+/// Returns the first `n` items of a vector that may be empty, or `None` if it is.
+pub fn first_items_if_any(
+    alloc: Global,
+    items: Vec<u32>,
+    n: NonZeroUsize,
+) -> Result<Option<NEVec<u32>>, AllocError>
+    ensures { IfOk result (λ o. MatchOption o (items.items ≡ [])
+        (λ v. v ≡ take (non_zero_usize_get n) items.items)) }
+{
+    match NEVec::try_from_vec(items) {
+        Some(items) => Ok(Some(items.into_nonempty_iter().take(n).collect(alloc)?)),
+        None => Ok(None),
     }
 }
 
