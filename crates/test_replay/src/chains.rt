@@ -6,7 +6,7 @@ use crate::call::Call;
 use crate::runs;
 use nonempty_collections::{IntoNonEmptyIterator, NEVec, NonEmptyIterator};
 use std::alloc::{AllocError, Global};
-use user_towers::{parted, runs_of_answers, spread, spread_pairs};
+use user_generic::{parted, runs_of_answers, spread, spread_pairs};
 
 /// Adapters of references, and those that return numbers.
 pub fn answered(

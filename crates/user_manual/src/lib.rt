@@ -16,5 +16,6 @@ pub mod parts;
 pub mod references;
 pub mod runs;
 pub mod sources;
+pub mod start;
 pub mod texts;
 pub mod towers;

@@ -1,11 +1,11 @@
-//! The towers of the crate `user_towers`.
+//! The towers of the crate `user_generic`.
 
 use super::{is, list, of, same};
 use nonempty_collections::{IntoNonEmptyIterator, NESlice, NEVec};
 use std::convert::AsSlice;
 use std::num::NonZeroU32;
 use std::test::Fail;
-use user_towers::{
+use user_generic::{
     Countdown, first_runs, numbered, numbered_halves, parted, run_lengths, running_totals,
     runs_of_answers, scan_of_all, spread_countdown, spread_pairs,
 };

@@ -9,7 +9,7 @@ use nonempty_collections::{IntoIteratorExt, IntoNonEmptyIterator, NonEmptyIterat
 use std::convert::AsSlice;
 use std::num::{NonZeroU32, Wrapping};
 use std::test::Fail;
-use user_towers::{Boxed, Countdown, Stack, Start, all_below_ten, second_parts};
+use user_generic::{Boxed, Countdown, Stack, Start, all_below_ten, second_parts};
 
 // 3, 2 and 1.
 fn three() -> Result<Countdown, Fail> {

@@ -9,7 +9,7 @@ use std::alloc::{AllocError, Global};
 use std::cell::Cell;
 use std::num::NonZeroU32;
 use std::test::Fail;
-use user_towers::Countdown;
+use user_generic::Countdown;
 
 fn runs<K: PartialEq + Drop, S: NonEmptyIterator<Item = u32>, F: FnMut(&u32) -> K + Drop>(
     alloc: Global,

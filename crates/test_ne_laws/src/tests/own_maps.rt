@@ -3,7 +3,7 @@
 use super::prints;
 use ne_laws::map_calls::{MapCall, run_map};
 use std::test::Fail;
-use user_maps::PairMap;
+use user_generic::PairMap;
 
 #[test]
 fn calls_on_a_list_of_pairs(rt: HostRuntime) -> Result<(), Fail> {

@@ -1,0 +1,7 @@
+use Rattle.std.proofs.Common.{rules}
+use Rattle.user_generic.proofs.Pairs.{is_there}
+use Rattle.user_generic.proofs.own_maps.PairMapNonEmptyMap.has.Goals as goal
+
+pub returns : goal.returns
+returns g c =
+    let there = is_there (g.K.PartialEq.eq c.args.k.now) c.args.self.now in search rules

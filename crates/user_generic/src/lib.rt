@@ -1,0 +1,37 @@
+//! Generic code as a user writes it: chains of adapters over any source, a user's own sources and
+//! maps, and lists of calls on any map and on vectors. All of it is proved from the contracts of the
+//! public methods alone.
+//!
+//! This crate is not part of the library. What is proved here, a user of the library can prove.
+#![tactic(auto)]
+
+mod any_source;
+mod call_examples;
+mod inner_sources;
+mod map_calls;
+mod nested;
+mod numbering;
+mod over_a_stack;
+mod own_maps;
+mod own_sources;
+mod runs;
+mod two_collections;
+mod vector_calls;
+
+pub use any_source::{first_items, greatest, halves, joined, small};
+pub use call_examples::{calls_on_a_map, calls_on_a_vector, first_run};
+pub use inner_sources::{spread, spread_countdown, spread_pairs};
+pub use map_calls::{
+    any_calls, count_and_put, no_calls, put_and_ask, put_twice, write_and_ask, write_there,
+};
+pub use nested::{running_totals, scan_of_all};
+pub use numbering::{numbered, numbered_halves};
+pub use over_a_stack::{all_below_ten, second_parts};
+pub use own_maps::PairMap;
+pub use own_sources::{Boxed, Countdown, CountdownIter, Stack, StackIntoIter, StackIter, Start};
+pub use runs::{first_runs, run_lengths, runs_of_answers};
+pub use two_collections::parted;
+pub use vector_calls::{
+    any_calls_on_a_vector, no_calls_on_a_vector, pop_the_only_item, push_and_pop, push_and_reverse,
+    push_two,
+};

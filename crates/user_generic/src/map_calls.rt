@@ -1,0 +1,135 @@
+//! Lists of calls on maps: on each of the library's, on a user's own, and on any map. No function
+//! here has a proof file, and one calls a law.
+ghost use Rattle.std.specs.Prelude.{◌≡◌, ◌≢◌, ◌+◌, ◌<◌, [], ◌∷◌, true, false, None, Some, is_some};
+ghost use Rattle.std.specs.Prelude.{length, nat_eq, IfOk, OnOk};
+ghost use Rattle.std.specs.BTreeMap.{get as get_ordered};
+ghost use Rattle.std.specs.HashMap.{get};
+ghost use Rattle.std.specs.Map.{lookup};
+ghost use Rattle.std.specs.Ordering.{nat_cmp};
+
+use crate::own_maps::PairMap;
+use ne_laws::map_calls::{MapCall, MapReply, run_map};
+use ne_laws::maps::{NonEmptyMap, tree_maps_are_read_alike};
+use nonempty_collections::{NEBTreeMap, NEIndexMap, NEMap};
+use std::alloc::{AllocError, Global};
+
+/// No calls have no replies and leave the map as it is, whichever map it is.
+pub fn no_calls<M: NonEmptyMap<u32, u32>>(
+    alloc: Global,
+    m: &mut M,
+) -> Result<Vec<MapReply<u32>>, AllocError>
+    ensures replies { IfOk result (λ replies. replies.items ≡ []) }
+    ensures same { OnOk result (M.entries m.new ≡ M.entries m.old) }
+{
+    run_map(alloc, m, Vec::new(alloc))
+}
+
+/// Whatever the calls are, each has a reply, and the map has a key.
+pub fn any_calls<M: NonEmptyMap<u32, u32>>(
+    alloc: Global,
+    m: &mut M,
+    calls: Vec<MapCall<u32, u32>>,
+) -> Result<usize, AllocError>
+    ensures count { IfOk result (λ count. count ≡ length calls.items) }
+    ensures some { 0 < length (M.entries m.new) }
+{
+    Ok(run_map(alloc, m, calls)?.len())
+}
+
+/// A key that is inserted is there, and its old value is returned.
+pub fn put_and_ask(
+    alloc: Global,
+    m: &mut NEMap<u32, u32>,
+    k: u32,
+    v: u32,
+) -> Result<Vec<MapReply<u32>>, AllocError>
+    ensures replies { IfOk result (λ replies. replies.items
+        ≡ MapReply.Old (get nat_eq m.old k) ∷ MapReply.Has true ∷ []) }
+    ensures value { OnOk result (get nat_eq m.new k ≡ Some v) }
+{
+    let calls = vec![in alloc; MapCall::Insert(k, v), MapCall::Has(k)]?;
+    run_map(alloc, m, calls)
+}
+
+/// The calls are made in order: of two values at a key the last one stays, and another key keeps
+/// its value.
+pub fn put_twice(
+    alloc: Global,
+    m: &mut NEIndexMap<u32, u32>,
+    k: u32,
+    v: u32,
+    w: u32,
+    other: u32,
+) -> Result<Vec<MapReply<u32>>, AllocError>
+    requires { k ≢ other }
+    ensures replies { IfOk result (λ replies. replies.items
+        ≡ MapReply.Old (get nat_eq m.old k) ∷ MapReply.Old (Some v) ∷ []) }
+    ensures value { OnOk result (get nat_eq m.new k ≡ Some w) }
+    ensures others { OnOk result (get nat_eq m.new other ≡ get nat_eq m.old other) }
+{
+    let calls = vec![in alloc; MapCall::Insert(k, v), MapCall::Insert(k, w)]?;
+    run_map(alloc, m, calls)
+}
+
+/// A key that is not there is not written, and is still not there afterwards.
+pub fn write_and_ask(
+    alloc: Global,
+    m: &mut NEBTreeMap<u32, u32>,
+    k: u32,
+    v: u32,
+) -> Result<Vec<MapReply<u32>>, AllocError>
+    requires { lookup (nat_eq k) m.old.entries ≡ None }
+    ensures replies { IfOk result (λ replies. replies.items
+        ≡ MapReply.Old None ∷ MapReply.Has false ∷ []) }
+    ensures same { OnOk result (m.new.entries ≡ m.old.entries) }
+{
+    let calls = vec![in alloc; MapCall::Write(k, v), MapCall::Has(k)]?;
+    run_map(alloc, m, calls)
+}
+
+/// The same as [`put_and_ask`] on a tree map, in terms of the order of its keys. A law connects
+/// these terms with those of the calls.
+pub fn put_and_ask_in_order(
+    alloc: Global,
+    m: &mut NEBTreeMap<u32, u32>,
+    k: u32,
+    v: u32,
+) -> Result<Vec<MapReply<u32>>, AllocError>
+    ensures replies { IfOk result (λ replies. replies.items
+        ≡ MapReply.Old (get_ordered nat_cmp m.old k) ∷ MapReply.Has true ∷ []) }
+    ensures value { OnOk result (get_ordered nat_cmp m.new k ≡ Some v) }
+{
+    tree_maps_are_read_alike::<u32, u32>();
+    let calls = vec![in alloc; MapCall::Insert(k, v), MapCall::Has(k)]?;
+    run_map(alloc, m, calls)
+}
+
+/// A key that is there takes the new value, and there are as many keys as before.
+pub fn write_there(
+    alloc: Global,
+    m: &mut PairMap<u32, u32>,
+    k: u32,
+    v: u32,
+) -> Result<Vec<MapReply<u32>>, AllocError>
+    requires { is_some (lookup (nat_eq k) m.old) ≡ true }
+    ensures old { IfOk result (λ replies. replies.items
+        ≡ MapReply.Old (lookup (nat_eq k) m.old) ∷ []) }
+    ensures value { OnOk result (lookup (nat_eq k) m.new ≡ Some v) }
+    ensures len { OnOk result (length m.new ≡ length m.old) }
+{
+    run_map(alloc, m, vec![in alloc; MapCall::Write(k, v)]?)
+}
+
+/// Returns the number of keys before and after a new key is inserted.
+pub fn count_and_put<M: NonEmptyMap<u32, u32>>(
+    m: &mut M,
+    k: u32,
+    v: u32,
+) -> Result<(usize, usize), AllocError>
+    requires { lookup (nat_eq k) (M.entries m.old) ≡ None }
+    ensures { IfOk result (λ counts. counts.1 ≡ counts.0 + 1) }
+{
+    let before = m.size().get();
+    m.put(k, v)?;
+    Ok((before, m.size().get()))
+}

@@ -1,0 +1,34 @@
+//! A chain over two sources, into two collections.
+ghost use Rattle.std.specs.Prelude.{IfOk};
+ghost use Rattle.std.specs.Iterator.{IsFiniteIterable, CallableOnAll};
+ghost use Rattle.std.specs.Int.NonZero.{non_zero_usize_get};
+ghost use Rattle.user_generic.specs.TwoCollections.{IsParted};
+
+use nonempty_collections::iter::{NonEmptyIterator, SourceWords};
+use nonempty_collections::{IntoNonEmptyIterator, Singleton};
+use std::alloc::{AllocError, Global};
+use std::num::NonZeroUsize;
+
+/// Pairs what `f` returns for the items of `source` with the items of `other`, and collects the
+/// first `n` pairs into two collections.
+pub fn parted<
+    U: Drop,
+    D: Drop,
+    S: NonEmptyIterator,
+    F: FnMut(S::Item) -> U,
+    O: IntoNonEmptyIterator<Item = D>,
+    R: Singleton<Item = U> + Drop,
+    Q: Singleton<Item = D> + Drop,
+>(alloc: Global, source: S, f: F, other: O, n: NonZeroUsize) -> Result<(R, Q), AllocError>
+    requires ends { IsFiniteIterable S.into_iter_gives S.IntoIter.can_next S.IntoIter.remaining
+        source }
+    requires other_ends { IsFiniteIterable O.into_iter_gives O.IntoIter.can_next
+        O.IntoIter.remaining other }
+    requires callable { (it : S.IntoIter) → S.into_iter_gives source it
+        → CallableOnAll S.IntoIter.next_gives F.FnMut it f }
+    ensures { IfOk result (IsParted (⟦<S as SourceWords>⟧.reads) F.FnMut
+        (⟦<O as SourceWords>⟧.reads) R.collected Q.collected source f other
+        (non_zero_usize_get n)) }
+{
+    source.map(f).zip(other).take(n).unzip(alloc)
+}

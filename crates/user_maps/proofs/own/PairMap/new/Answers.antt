@@ -1,6 +1,0 @@
-use Rattle.user_maps.proofs.Pairs.{one_pair}
-use Rattle.user_maps.proofs.own.PairMap.new.Goals as goal
-
-pub invariant_of-result : goal.invariant_of-result
-invariant_of-result g c =
-    rw c.in_ok-new.ensures (one_pair g.met.K.Eq.laws c.args.k c.args.v)
