@@ -6,8 +6,8 @@ ghost use Rattle.std.specs.Prelude.{◌≡◌, ◌<◌, List, [], ◌∷◌, len
 ghost use Rattle.std.specs.Iterator.{YieldsFirst, YieldsFirstRef, at_most, item_count};
 ghost use Rattle.std.specs.Int.NonZero.{non_zero_u32_get};
 ghost use Rattle.nonempty_collections.specs.Fronts.{Shown};
-ghost use Rattle.user_generic.specs.OwnSources.{counted_down, start_of, left_of, seconds_of, in_box};
-ghost use Rattle.user_generic.specs.OwnSources.{WalksStack};
+ghost use Rattle.user_generic.specs.OwnSources.{counted_down, start_of, left_of, seconds_of};
+ghost use Rattle.user_generic.specs.OwnSources.{in_box, WalksStack};
 
 use nonempty_collections::{IntoNonEmptyIterator, NonEmptyIterator};
 use std::alloc::{AllocError, Global};

@@ -105,7 +105,7 @@ def wait_for(crate, log):
         said = read(log)
         if re.search(rf"^rt: {crate} (proved|is kept)", said, re.M):
             return True
-        if re.search(rf"^rt: {crate} NOT PROVED|^stage rt ci: ", said, re.M):
+        if re.search(rf"^rt: {crate} NOT PROVED|^rt ci has ended", said, re.M):
             return False
         time.sleep(1)
 
@@ -182,7 +182,7 @@ class Refusals:
             stop(f"crates/{program} is not there: rt ci builds it")
         self.room = tempfile.TemporaryDirectory()
         self.refuse = os.path.join(self.room.name, "refuse.so")
-        source = os.path.join(ROOT, ".ci", "refuse.c")
+        source = os.path.join(ROOT, ".ci", "fail_nth_allocation.c")
         words = ["-O1", "-shared", "-fPIC", "-nostdlib", "-o", self.refuse, source]
         subprocess.run([os.path.join(kit(), "toolchain", "bin", "clang"), *words], check=True)
 
