@@ -7,6 +7,7 @@
 
 mod any_source;
 mod call_examples;
+pub mod hashers;
 mod inner_sources;
 mod map_calls;
 mod nested;
@@ -17,6 +18,7 @@ mod own_sources;
 mod runs;
 mod two_collections;
 mod vector_calls;
+pub mod vectors;
 
 pub use any_source::{first_items, greatest, halves, joined, small};
 pub use call_examples::{calls_on_a_map, calls_on_a_vector, first_run};
