@@ -30,7 +30,7 @@ ITEMS = {
 # A clause that says what stands after a refusal, with its name, if it has one, and its first word.
 CLAUSE = r"ensures (\w*) ?\{ (OnErr|ExtendsWithItems|IsUnchanged|IsReordered)\b"
 # Calls that never allocate, although their type allows an `AllocError`; calls that fail only if a
-# clone of the items fails, which is tested in `test_ne_iter`; and calls that are tested under
+# clone of the items fails, which is tested in `test_library`; and calls that are tested under
 # another name.
 EXCUSED = {
     *("NESlice::clone", "Iter::clone", "Keys::clone", "Values::clone", "collect into ()"),

@@ -1,0 +1,122 @@
+//! Sources of a user's own: each method on a plain one, and each of the other sources once.
+//!
+//! The items of a chain are written as the digits of one number, the first item first, so that a
+//! test needs no vector.
+ghost use Rattle.std.specs.Iterator.{IsFiniteIterable};
+
+use super::{is, list, of, same};
+use nonempty_collections::{IntoIteratorExt, IntoNonEmptyIterator, NEVec, NonEmptyIterator};
+use std::alloc::AllocError;
+use std::convert::AsSlice;
+use std::num::{NonZeroU32, Wrapping};
+use std::test::Fail;
+use user_generic::{Boxed, Countdown, Stack, Start, all_below_ten, second_parts};
+
+// 3, 2 and 1.
+fn three() -> Result<Countdown, Fail> {
+    Ok(Countdown::new(NonZeroU32::new(3).ok_or("0 is no start")?))
+}
+
+// The digits of the items.
+fn digits<S: IntoIterator<Item = u32>>(items: S) -> u32
+    requires { IsFiniteIterable S.into_iter_gives S.IntoIter.can_next S.IntoIter.remaining items }
+{
+    let mut total = 0u32;
+    for item in items {
+        total = total.wrapping_mul(10).wrapping_add(item);
+    }
+    total
+}
+
+#[test]
+fn an_item(_rt: HostRuntime) -> Result<(), Fail> {
+    let found = (
+        three()?.next().0,
+        three()?.find(|x| *x > 1),
+        three()?.nth(1),
+    );
+    is(found, (3, Some(3), Some(2)))?;
+    let extremes = [three()?.max(), three()?.min()];
+    let by_key = [
+        three()?.max_by_key(|x| *x % 3),
+        three()?.min_by_key(|x| *x % 3),
+    ];
+    is(
+        (*three()?.peekable().peek(), extremes, by_key),
+        (3, [3, 1], [2, 3]),
+    )
+}
+
+#[test]
+fn a_total(_rt: HostRuntime) -> Result<(), Fail> {
+    let decided = (three()?.all(|x| x < 3), three()?.any(|x| x == 2));
+    is((decided, three()?.count().get()), ((false, true), 3))?;
+    let reduced = three()?.reduce(|x, y| x.wrapping_mul(10).wrapping_add(y));
+    let sum = three()?.map(Wrapping).sum::<Wrapping<u32>>().0;
+    let product = three()?.map(Wrapping).product::<Wrapping<u32>>().0;
+    is([reduced, sum, product], [321, 6, 6])
+}
+
+#[test]
+fn adapted(_rt: HostRuntime) -> Result<(), Fail> {
+    let chained = digits(three()?.take(of(2)?).chain(three()?));
+    let zipped = digits(three()?.zip([4u32, 5]).map(|(x, y)| x.wrapping_add(y)));
+    is([chained, zipped], [32321, 77])?;
+    let spread = digits(three()?.flat_map(|x| [x, 0]));
+    let placed = three()?
+        .enumerate()
+        .map(|(place, x)| if place == 0 { 0 } else { x });
+    is(
+        [spread, digits(placed), digits(three()?.peekable())],
+        [302010, 21, 321],
+    )
+}
+
+#[test]
+fn parts(_rt: HostRuntime) -> Result<(), Fail> {
+    let kept = [
+        digits(three()?.filter(|x| *x > 1)),
+        digits(three()?.filter_map(Some)),
+    ];
+    let skipped = [
+        digits(three()?.skip(2)),
+        digits(three()?.skip_while(|x| *x > 2)),
+    ];
+    let front = digits(three()?.take_while(|x| *x > 2));
+    is((kept, skipped, front), ([32, 321], [1, 21], 3))
+}
+
+#[test]
+fn collected(rt: HostRuntime) -> Result<(), Fail> {
+    let sorted = digits(three()?.sorted_by_key(rt.alloc(), |x| *x)?);
+    let runs: Result<NEVec<NEVec<u32>>, AllocError> = three()?
+        .group_by(rt.alloc(), |x| *x / 2)
+        .collect(rt.alloc())?;
+    let runs = runs?;
+    is(
+        (sorted, runs.len().get(), runs.first().len().get()),
+        (123, 2, 2),
+    )
+}
+
+#[test]
+fn of_other_kinds(rt: HostRuntime) -> Result<(), Fail> {
+    let start = Start::new(NonZeroU32::new(3).ok_or("0 is no start")?);
+    let peeked = three()?.try_into_nonempty_iter().ok_or("nothing there")?;
+    let boxed = Boxed::new(rt.alloc(), three()?)?;
+    let all = [
+        digits(start.into_nonempty_iter()),
+        digits(peeked),
+        digits(boxed),
+    ];
+    is(all, [321, 321, 321])
+}
+
+#[test]
+fn a_stack(rt: HostRuntime) -> Result<(), Fail> {
+    let mut pairs = Stack::new(rt.alloc(), (1u32, 5u32))?;
+    pairs.push((2, 7))?;
+    is(all_below_ten(&pairs), true)?;
+    same(second_parts(rt.alloc(), &pairs)?.as_slice(), &[7, 5])?;
+    is(digits(pairs.map(|pair| pair.0)), 21)
+}

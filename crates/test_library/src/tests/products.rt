@@ -1,0 +1,77 @@
+//! Products with many rows, what `all_unique` draws, and clones of items that fail.
+
+use super::numbers::Number;
+use super::{bump, is, list, prints};
+use nonempty_collections::{IntoNonEmptyIterator, NEVec, NonEmptyIterator, NonEmptyItertools, nev};
+use std::alloc::{AllocError, Global};
+use std::cell::Cell;
+use std::test::Fail;
+
+// Three hundred rows of three hundred pairs: pair 40 of row 7 is at its index.
+#[test]
+fn large(rt: HostRuntime) -> Result<(), Fail> {
+    let items: Vec<u32> = (0u32..300).collect(rt.alloc())?;
+    let items = NEVec::try_from_vec(items).ok_or("no item")?;
+    let rows = items.nonempty_iter().copied();
+    let mut pairs = rows.cartesian_product(&items).into_iter();
+    let (row, column) = pairs.nth(7 * 300 + 40).ok_or("no pair")??;
+    let mut later = 0usize;
+    for pair in pairs {
+        let _pair = pair?;
+        later = later.wrapping_add(1);
+    }
+    is((row, *column, later), (7, 40, 300 * 300 - (7 * 300 + 41)))
+}
+
+// What `all_unique` returns for the items, and how many items it draws for that.
+fn differs(alloc: Global, items: &[u32], unique: bool, drawn: u32) -> Result<(), Fail> {
+    let draws = Cell::new(0u32);
+    let source = list(alloc, items)?.into_nonempty_iter().map(|item: u32| {
+        bump(&draws);
+        item
+    });
+    is((source.all_unique(alloc)?, draws.get()), (unique, drawn))
+}
+
+#[test]
+fn items_that_differ(rt: HostRuntime) -> Result<(), Fail> {
+    let alloc = rt.alloc();
+    differs(alloc, &[1, 2, 3, 4, 1, 5], false, 5)?;
+    differs(alloc, &[2, 3, 4, 1, 5], true, 5)?;
+    differs(alloc, &[7, 7, 7], false, 2)
+}
+
+// The results of two rows of two pairs up to the end, if this clone of an item fails, and how many
+// items of the left side are drawn for that.
+fn stops(alloc: Global, failing: u32, wanted: &str, drawn: u32) -> Result<(), Fail> {
+    let (clones, draws) = (Cell::new(0u32), Cell::new(0u32));
+    let numbers = |value: u32| {
+        bump(&draws);
+        Number {
+            value,
+            clones: &clones,
+            failing,
+        }
+    };
+    let columns = nev![alloc; 5u32, 6]?;
+    let source = [1u32, 2].into_nonempty_iter().map(numbers);
+    let pairs = source.cartesian_product(&columns).into_iter();
+    let came = pairs.map(|pair| pair.map(|(number, column)| (number.value, *column)));
+    let came: Vec<Result<(u32, u32), AllocError>> = came.collect(alloc)?;
+    prints(alloc, &came, wanted)?;
+    is(draws.get(), drawn)
+}
+
+#[test]
+fn failed_clones(rt: HostRuntime) -> Result<(), Fail> {
+    let alloc = rt.alloc();
+    stops(alloc, 1, "[Err(AllocError)]", 1)?;
+    stops(alloc, 2, "[Ok((1, 5)), Err(AllocError)]", 1)?;
+    stops(alloc, 3, "[Ok((1, 5)), Ok((1, 6)), Err(AllocError)]", 2)?;
+    stops(
+        alloc,
+        0,
+        "[Ok((1, 5)), Ok((1, 6)), Ok((2, 5)), Ok((2, 6))]",
+        2,
+    )
+}

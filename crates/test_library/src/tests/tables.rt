@@ -1,0 +1,303 @@
+//! Maps and sets of each kind, under hashers of the tests' own: what is dropped, and what is found.
+//! Keys and values are owners of a token. Two owners of a token are equal.
+
+use super::{is, of};
+use nonempty_collections::{NEBTreeMap, NEBTreeSet, NEIndexMap, NEIndexSet, NEMap, NESet};
+use std::alloc::{AllocError, Global};
+use std::hash::{BuildHasher, BuildHasherDefault, FoldHasher, Hasher};
+use std::rc::Rc;
+use std::test::Fail;
+
+type Owner = Rc<u32>;
+
+// A map or a set. In a map the value of a key is one more owner of the key's token.
+trait Table: Clone + Drop {
+    // Inserts the key, and in a set puts it in place of the equal one.
+    fn put(&mut self, key: Owner) -> Result<(), AllocError>;
+
+    // Extends the table by the key.
+    fn take_in(&mut self, key: Owner) -> Result<(), AllocError>;
+
+    fn has(&self, key: &Owner) -> bool;
+
+    fn size(&self) -> usize;
+}
+
+impl Table for NEBTreeMap<Owner, Owner> {
+    fn put(&mut self, key: Owner) -> Result<(), AllocError> {
+        drop(self.insert(key.clone()?, key)?);
+        Ok(())
+    }
+
+    fn take_in(&mut self, key: Owner) -> Result<(), AllocError> {
+        self.extend([(key.clone()?, key)])
+    }
+
+    fn has(&self, key: &Owner) -> bool {
+        self.contains_key(key)
+    }
+
+    fn size(&self) -> usize {
+        self.len().get()
+    }
+}
+
+impl<S: BuildHasher + Clone + Drop> Table for NEMap<Owner, Owner, S> {
+    fn put(&mut self, key: Owner) -> Result<(), AllocError> {
+        drop(self.insert(key.clone()?, key)?);
+        Ok(())
+    }
+
+    fn take_in(&mut self, key: Owner) -> Result<(), AllocError> {
+        self.extend([(key.clone()?, key)])
+    }
+
+    fn has(&self, key: &Owner) -> bool {
+        self.contains_key(key)
+    }
+
+    fn size(&self) -> usize {
+        self.len().get()
+    }
+}
+
+impl<S: BuildHasher + Clone + Drop> Table for NEIndexMap<Owner, Owner, S> {
+    fn put(&mut self, key: Owner) -> Result<(), AllocError> {
+        drop(self.insert(key.clone()?, key)?);
+        Ok(())
+    }
+
+    fn take_in(&mut self, key: Owner) -> Result<(), AllocError> {
+        self.extend([(key.clone()?, key)])
+    }
+
+    fn has(&self, key: &Owner) -> bool {
+        self.contains_key(key)
+    }
+
+    fn size(&self) -> usize {
+        self.len().get()
+    }
+}
+
+impl Table for NEBTreeSet<Owner> {
+    fn put(&mut self, key: Owner) -> Result<(), AllocError> {
+        self.insert(key.clone()?)?;
+        drop(self.replace(key)?);
+        Ok(())
+    }
+
+    fn take_in(&mut self, key: Owner) -> Result<(), AllocError> {
+        self.extend([key])
+    }
+
+    fn has(&self, key: &Owner) -> bool {
+        self.contains(key)
+    }
+
+    fn size(&self) -> usize {
+        self.len().get()
+    }
+}
+
+impl<S: BuildHasher + Clone + Drop> Table for NESet<Owner, S> {
+    fn put(&mut self, key: Owner) -> Result<(), AllocError> {
+        self.insert(key.clone()?)?;
+        drop(self.replace(key)?);
+        Ok(())
+    }
+
+    fn take_in(&mut self, key: Owner) -> Result<(), AllocError> {
+        self.extend([key])
+    }
+
+    fn has(&self, key: &Owner) -> bool {
+        self.contains(key)
+    }
+
+    fn size(&self) -> usize {
+        self.len().get()
+    }
+}
+
+impl<S: BuildHasher + Clone + Drop> Table for NEIndexSet<Owner, S> {
+    fn put(&mut self, key: Owner) -> Result<(), AllocError> {
+        self.insert(key.clone()?)?;
+        drop(self.replace(key)?);
+        Ok(())
+    }
+
+    fn take_in(&mut self, key: Owner) -> Result<(), AllocError> {
+        self.extend([key])
+    }
+
+    fn has(&self, key: &Owner) -> bool {
+        self.contains(key)
+    }
+
+    fn size(&self) -> usize {
+        self.len().get()
+    }
+}
+
+// Fails unless the token is the only key of the table. Puts it again, and a second key, each twice.
+// Fails unless the table then has both, each with so many owners, and drops these and those of its
+// clone.
+fn changed<T: Table>(alloc: Global, token: &Owner, mut table: T, each: usize) -> Result<(), Fail> {
+    is((table.has(token), table.size()), (true, 1))?;
+    let second = Rc::new(alloc, 8u32)?;
+    table.put(token.clone()?)?;
+    table.take_in(token.clone()?)?;
+    table.put(second.clone()?)?;
+    table.take_in(second.clone()?)?;
+    let held = (Rc::strong_count(token) - 1, Rc::strong_count(&second) - 1);
+    let copy = table.clone()?;
+    drop(table);
+    let copied = (Rc::strong_count(token) - 1, Rc::strong_count(&second) - 1);
+    is((held, copied), ((each, each), (each, each)))?;
+    let third = Rc::new(alloc, 9u32)?;
+    let found = (copy.has(token), copy.has(&second), copy.has(&third));
+    is((found, copy.size()), ((true, true, false), 2))?;
+    drop(copy);
+    is((Rc::strong_count(token), Rc::strong_count(&second)), (1, 1))
+}
+
+#[test]
+fn tree_map(rt: HostRuntime) -> Result<(), Fail> {
+    let token = Rc::new(rt.alloc(), 7u32)?;
+    let map = NEBTreeMap::new(rt.alloc(), token.clone()?, token.clone()?)?;
+    changed(rt.alloc(), &token, map, 2)
+}
+
+#[test]
+fn tree_set(rt: HostRuntime) -> Result<(), Fail> {
+    let token = Rc::new(rt.alloc(), 7u32)?;
+    let set = NEBTreeSet::new(rt.alloc(), token.clone()?)?;
+    changed(rt.alloc(), &token, set, 1)
+}
+
+#[test]
+fn hashed_map(rt: HostRuntime) -> Result<(), Fail> {
+    let token = Rc::new(rt.alloc(), 7u32)?;
+    let map: NEMap<Owner, Owner> = NEMap::new(rt.alloc(), token.clone()?, token.clone()?)?;
+    changed(rt.alloc(), &token, map, 2)
+}
+
+#[test]
+fn hashed_set(rt: HostRuntime) -> Result<(), Fail> {
+    let token = Rc::new(rt.alloc(), 7u32)?;
+    let set: NESet<Owner> = NESet::new(rt.alloc(), token.clone()?)?;
+    changed(rt.alloc(), &token, set, 1)
+}
+
+#[test]
+fn index_map(rt: HostRuntime) -> Result<(), Fail> {
+    let token = Rc::new(rt.alloc(), 7u32)?;
+    let map: NEIndexMap<Owner, Owner> = NEIndexMap::new(
+        rt.alloc(),
+        token.clone()?,
+        token.clone()?,
+    )?;
+    changed(rt.alloc(), &token, map, 2)
+}
+
+#[test]
+fn index_set(rt: HostRuntime) -> Result<(), Fail> {
+    let token = Rc::new(rt.alloc(), 7u32)?;
+    let set: NEIndexSet<Owner> = NEIndexSet::new(rt.alloc(), token.clone()?)?;
+    changed(rt.alloc(), &token, set, 1)
+}
+
+// Gives all keys the same hash, which costs time and changes no result.
+#[derive(Clone, Copy)]
+struct Colliding;
+
+impl Hasher for Colliding {
+    ghost write = { λ h _. h };
+
+    ghost finish = { λ _. 7 };
+
+    fn finish(&self) -> u64 {
+        7
+    }
+
+    fn write(&mut self, _bytes: &[u8]) {}
+}
+
+impl BuildHasher for Colliding {
+    type Hasher = Colliding;
+
+    ghost build_hasher = { λ s. s };
+
+    fn build_hasher(&self) -> Colliding {
+        *self
+    }
+}
+
+#[test]
+fn maps_of_colliding_keys(rt: HostRuntime) -> Result<(), Fail> {
+    let token = Rc::new(rt.alloc(), 7u32)?;
+    let map = NEMap::with_hasher(rt.alloc(), Colliding, token.clone()?, token.clone()?)?;
+    changed(rt.alloc(), &token, map, 2)?;
+    let map = NEIndexMap::with_hasher(rt.alloc(), Colliding, token.clone()?, token.clone()?)?;
+    changed(rt.alloc(), &token, map, 2)
+}
+
+#[test]
+fn sets_of_colliding_keys(rt: HostRuntime) -> Result<(), Fail> {
+    let token = Rc::new(rt.alloc(), 7u32)?;
+    let set = NESet::with_hasher(rt.alloc(), Colliding, token.clone()?)?;
+    changed(rt.alloc(), &token, set, 1)?;
+    let set = NEIndexSet::with_hasher(rt.alloc(), Colliding, token.clone()?)?;
+    changed(rt.alloc(), &token, set, 1)
+}
+
+// Hashes as the default hasher does, and is told apart from other ones by its number.
+#[derive(Clone, Copy, Drop)]
+struct Numbered {
+    number: u32,
+    hashing: BuildHasherDefault<FoldHasher>,
+}
+
+fn of_number(number: u32) -> Numbered {
+    Numbered {
+        number,
+        hashing: BuildHasherDefault::new(),
+    }
+}
+
+impl BuildHasher for Numbered {
+    ghost use Rattle.std.specs.Hash.BuildHasherDefault.{initial_hasher};
+
+    type Hasher = FoldHasher;
+
+    ghost build_hasher = { λ s. initial_hasher s.hashing };
+
+    fn build_hasher(&self) -> FoldHasher {
+        self.hashing.build_hasher()
+    }
+}
+
+// The hasher that is passed is the one that is kept.
+#[test]
+fn numbered_hashers(rt: HostRuntime) -> Result<(), Fail> {
+    let (alloc, four) = (rt.alloc(), of(4)?);
+    let map = NEMap::with_capacity_and_hasher(alloc, four, of_number(5), 1, 'a')?;
+    let set = NESet::with_capacity_and_hasher(alloc, four, of_number(6), 1)?;
+    is([map.hasher().number, set.hasher().number], [5, 6])?;
+    let map = NEIndexMap::with_capacity_and_hasher(alloc, four, of_number(7), 1, 'a')?;
+    let set = NEIndexSet::with_capacity_and_hasher(alloc, four, of_number(8), 1)?;
+    is([map.hasher().number, set.hasher().number], [7, 8])
+}
+
+// There is no memory for so many keys.
+#[test]
+fn too_large(rt: HostRuntime) -> Result<(), Fail> {
+    let most = of(usize::MAX)?;
+    let map: Result<NEMap<u32, u32>, AllocError> = NEMap::with_capacity(rt.alloc(), most, 1, 2);
+    let mut set: NESet<u32> = NESet::new(rt.alloc(), 1)?;
+    is(
+        [map.is_err(), set.reserve(usize::MAX).is_err()],
+        [true, true],
+    )
+}
