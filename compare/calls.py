@@ -1,5 +1,6 @@
-"""The calls that `compare/replay` makes, and its scripts of calls. A call has a name, the name of
-its closure or "", and numbers."""
+"""The calls on vectors that `compare/replay` makes, and its scripts of calls. A call has a name,
+the name of its closure or "", and numbers. A script begins with the vector: `vector` and its
+items."""
 
 import glob
 import itertools
@@ -9,7 +10,7 @@ from collections import namedtuple
 
 from program import HERE
 
-CRATE, TWIN = "test_replay", "replay"
+NAME = "vectors"
 GREATEST = 2**32 - 1
 EDGES = sorted(
     {
@@ -262,7 +263,7 @@ EXCUSED = [
 
 
 def setting(items):
-    return "try_from_vec", "", tuple(items)
+    return "vector", "", tuple(items)
 
 
 def prepared(call):
@@ -277,7 +278,7 @@ def is_allowed(script):
     searches = all(
         first[:2] == (SORTS[name], closure) for first, (name, closure, _) in behind if name in SORTS
     )
-    return script[0][0] == "try_from_vec" and bool(script[0][2]) and searches
+    return script[0][0] == "vector" and bool(script[0][2]) and searches
 
 
 def each_call(name, values):
@@ -461,7 +462,7 @@ def scripts(chance, count):
 
 def counted(script):
     """Returns what is counted in a script: its calls, without the line that it begins with."""
-    return [("vector", name) for name, _, _ in script[1:]]
+    return [(script[0][0], name) for name, _, _ in script[1:]]
 
 
 def sample():
@@ -493,17 +494,12 @@ def text(scripts):
     return "".join(f"{line(call)}\n" for script in scripts for call in script).encode()
 
 
-def arms(crate):
-    """Returns the names of calls in the match arms of a program."""
+def arms():
+    """Returns the names of calls in the match arms of the program."""
     named = set()
-    for path in glob.glob(os.path.join(HERE, os.pardir, "crates", crate, "src", "*.rt")):
+    for path in glob.glob(os.path.join(HERE, os.pardir, "crates", "test_replay", "src", "*.rt")):
         if os.path.basename(path) != "closure.rt":
             with open(path) as it:
                 for arm in re.findall(r'^ *(".*?)=>|call\.name [!=]= ("\w+")', it.read(), re.M):
                     named.update(re.findall(r'"(\w+)"', "".join(arm)))
     return named
-
-
-def unlisted():
-    """Returns the names that either the program or this table lacks."""
-    return sorted(arms(CRATE) ^ set(NAMES))

@@ -14,13 +14,13 @@ from calls import (
     Kind,
     a_place,
     an_item,
-    arms,
+    counted,
     lists,
     parsed,
     single,
 )
 
-CRATE, TWIN = "test_replay_keyed", "replay_keyed"
+NAME = "keyed"
 MAPS = ["tree_map", "hashed_map", "indexed_map"]
 SETS = ["tree_set", "hashed_set", "indexed_set"]
 SUBJECTS = MAPS + SETS
@@ -202,11 +202,6 @@ EXCUSED = [
         "the port leaves them out",
     ),
 ]
-
-
-def counted(script):
-    """Returns what is counted in a script: its calls, without the line that it begins with."""
-    return [(script[0][0], name) for name, _, _ in script[1:]]
 
 
 def is_open(script, call):
@@ -501,8 +496,3 @@ def sample():
             for step in 1, twice - 1:
                 script += [(subject, "", (f"{twice}*{step}",)), WALK]
     return script
-
-
-def unlisted():
-    """Returns the names that either the program or this table lacks."""
-    return sorted(arms(CRATE) ^ {*SUBJECTS, *(name for _, name in CALLS)})

@@ -1,6 +1,7 @@
 """Builds a proved program and its twin. Also holds a reference of what `ne_runs` must do, which was
 written from the description of its modes and faults alone."""
 
+import glob
 import os
 import re
 import shutil
@@ -41,12 +42,14 @@ def build(name="ne_runs", status=2):
 
 
 def built_twin(folder, name):
-    """Builds a program's twin beside the Rust crate in this folder, and returns its path."""
+    """Builds a program's twin, with its modules, beside the Rust crate in this folder, and returns
+    its path."""
     if not os.path.exists(os.path.join(folder, "Cargo.toml")):
         sys.exit(f"{folder} has no Cargo.toml: compare/README.md says how it is made")
     programs = os.path.join(folder, "src", "bin")
     os.makedirs(programs, exist_ok=True)
-    shutil.copy(os.path.join(HERE, f"{name}.rs"), os.path.join(programs, f"{name}.rs"))
+    for path in glob.glob(os.path.join(HERE, f"{name}*.rs")):
+        shutil.copy(path, programs)
     subprocess.run(
         ["cargo", "build", "--release", "--offline", "--quiet", "--bin", name],
         cwd=folder,

@@ -1,6 +1,11 @@
-//! A call, as a line of a script writes it: a name, perhaps a closure's name, and numbers.
+//! A call, as a line of a script writes it: a name, perhaps a closure's name, and numbers. A word
+//! `COUNT*STEP` means COUNT numbers, the multiples of STEP from 0 on, each modulo COUNT. So a short
+//! line has many numbers, in rising, falling or scrambled order.
 
 use crate::closure::Closure;
+use crate::key::Key;
+use ne_laws::map_calls::MapCall;
+use ne_laws::vector_calls::VecCall;
 use nonempty_collections::NEVec;
 use std::alloc::{AllocError, Global};
 use std::num::NonZeroUsize;
@@ -22,6 +27,29 @@ pub struct Call<'t> {
     pub place: usize,
     /// The first of its numbers as a size, which is at least 1.
     pub size: NonZeroUsize,
+    /// The last of its numbers as a size, which is at least 1.
+    pub room: NonZeroUsize,
+}
+
+// Adds the numbers that `count*step` means.
+fn put_multiples(numbers: &mut Vec<u32>, count: &str, step: &str) -> Result<(), AllocError> {
+    let (count, step) = (count.parse().unwrap_or(0u32), step.parse().unwrap_or(0u32));
+    for place in 0..count {
+        numbers.push(place.wrapping_mul(step).checked_rem(count).unwrap_or(0))?;
+    }
+    Ok(())
+}
+
+fn sized(number: u32) -> NonZeroUsize {
+    NonZeroUsize::new(number as usize).unwrap_or(NonZeroUsize::MIN)
+}
+
+// The items, or the one item if there are none.
+fn or_one<T: Drop>(alloc: Global, items: Vec<T>, one: T) -> Result<NEVec<T>, AllocError> {
+    match NEVec::try_from_vec(items) {
+        Some(items) => Ok(items),
+        None => NEVec::new(alloc, one),
+    }
 }
 
 impl<'t> Call<'t> {
@@ -32,7 +60,9 @@ impl<'t> Call<'t> {
         let mut closure = Closure::default();
         let mut numbers = Vec::new(alloc);
         for word in words {
-            if let Ok(number) = word.parse::<u32>() {
+            if let Some((count, step)) = word.split_once('*') {
+                put_multiples(&mut numbers, count, step)?;
+            } else if let Ok(number) = word.parse::<u32>() {
                 numbers.push(number)?;
             } else if let Some(named) = Closure::named(word) {
                 closure = named;
@@ -40,16 +70,15 @@ impl<'t> Call<'t> {
         }
         let first = numbers.first().copied().unwrap_or(0);
         let last = numbers.last().copied().unwrap_or(0);
-        let place = first as usize;
-        let size = NonZeroUsize::new(place).unwrap_or(NonZeroUsize::MIN);
         Ok(Call {
             name,
             closure,
             numbers,
             first,
             last,
-            place,
-            size,
+            place: first as usize,
+            size: sized(first),
+            room: sized(last),
         })
     }
 
@@ -63,4 +92,82 @@ impl<'t> Call<'t> {
         let rest = self.numbers.as_slice().get(1..).unwrap_or(&[]);
         NEVec::from_parts(self.first, Vec::from_slice(alloc, rest)?)
     }
+
+    /// Its number at an index, or 0 if it has none there.
+    pub fn number(&self, place: usize) -> u32 {
+        self.numbers.get(place).copied().unwrap_or(0)
+    }
+
+    /// The key of its number at an index.
+    pub fn key(&self, place: usize) -> Key {
+        Key::new(self.number(place))
+    }
+
+    /// Its numbers as keys, of which there may be none.
+    pub fn items(&self, alloc: Global) -> Result<Vec<Key>, AllocError> {
+        let mut items = Vec::new(alloc);
+        for number in self.numbers.as_slice() {
+            items.push(Key::new(*number))?;
+        }
+        Ok(items)
+    }
+
+    /// Its numbers as keys, or the key of 0 if it has none.
+    pub fn some_items(&self, alloc: Global) -> Result<NEVec<Key>, AllocError> {
+        or_one(alloc, self.items(alloc)?, Key::new(0))
+    }
+
+    /// Its numbers two by two as keys and values, of which there may be none.
+    pub fn pairs(&self, alloc: Global) -> Result<Vec<(Key, u32)>, AllocError> {
+        let mut pairs = Vec::new(alloc);
+        for pair in self.numbers.as_slice().chunks(2) {
+            pairs.push((Key::new(at(pair, 0)), at(pair, 1)))?;
+        }
+        Ok(pairs)
+    }
+
+    /// Its numbers two by two as keys and values, or the key and the value 0 if it has none.
+    pub fn some_pairs(&self, alloc: Global) -> Result<NEVec<(Key, u32)>, AllocError> {
+        or_one(alloc, self.pairs(alloc)?, (Key::new(0), 0))
+    }
+
+    /// Its numbers two by two as calls on a vector: which call it is, and its index, length or
+    /// item.
+    pub fn vector_calls(&self, alloc: Global) -> Result<Vec<VecCall<u32>>, AllocError> {
+        let mut calls = Vec::new(alloc);
+        for pair in self.numbers.as_slice().chunks(2) {
+            let (number, place) = (at(pair, 1), at(pair, 1) as usize);
+            calls.push(match at(pair, 0) % 8 {
+                0 => VecCall::Push(number),
+                1 => VecCall::Pop,
+                2 => VecCall::Remove(place),
+                3 => VecCall::SwapRemove(place),
+                4 => VecCall::Insert(place, number),
+                5 => VecCall::Truncate(sized(number)),
+                6 => VecCall::Reverse,
+                _ => VecCall::Len,
+            })?;
+        }
+        Ok(calls)
+    }
+
+    /// Its numbers three by three as calls on a map: which call it is, its key and its value.
+    pub fn map_calls(&self, alloc: Global) -> Result<Vec<MapCall<Key, u32>>, AllocError> {
+        let mut calls = Vec::new(alloc);
+        for three in self.numbers.as_slice().chunks(3) {
+            let (key, value) = (Key::new(at(three, 1)), at(three, 2));
+            calls.push(match at(three, 0) % 4 {
+                0 => MapCall::Insert(key, value),
+                1 => MapCall::Write(key, value),
+                2 => MapCall::Has(key),
+                _ => MapCall::Len,
+            })?;
+        }
+        Ok(calls)
+    }
+}
+
+// The number at an index, or 0 if there is none.
+fn at(numbers: &[u32], place: usize) -> u32 {
+    numbers.get(place).copied().unwrap_or(0)
 }

@@ -1,28 +1,31 @@
 //! Replays a script of calls: reads it from standard input, one call per line, and prints a line
 //! for each call.
 //!
-//! The line has the result, or the name of the error, then the vector as it is after the call, and
-//! how often the call's closure was called. A twin in Rust does the same with the Rust crate: see
+//! A line that names a kind of collection makes one of its numbers, on which the following lines
+//! call. A script begins with a vector. The line that is printed has the result, and then the
+//! collection as it is after the call, or its length if it is long; on a vector also how often the
+//! call's closure was called. A reference implementation does the same with the Rust crate: see
 //! `compare/replay`.
 #![tactic(auto)]
 
-mod answer;
+mod adapters;
 mod call;
-mod chains;
 mod closure;
 mod collected;
 mod consumers;
-mod listed;
-mod runs;
+mod key;
+mod keyed;
 mod slice;
-mod sources;
+mod transcript;
 mod vector;
 
 use call::Call;
-use nonempty_collections::NEVec;
+use keyed::{HashedMap, HashedSet, IndexedMap, IndexedSet, TreeMap, TreeSet};
+use nonempty_collections::{IntoNonEmptyIterator, NEVec, NonEmptyIterator};
 use std::alloc::{AllocError, Global};
 use std::io;
 use std::process::ExitCode;
+use transcript::{Answered, Transcript, put};
 
 fn main(rt: HostRuntime) -> ExitCode {
     let Ok(script) = io::read_to_string(rt.alloc(), rt.stdin()) else {
@@ -38,55 +41,80 @@ fn main(rt: HostRuntime) -> ExitCode {
 }
 
 fn replayed(alloc: Global, script: &str) -> Result<String, AllocError> {
-    let mut items = NEVec::new(alloc, 0)?;
-    let mut text = String::new(alloc);
+    let mut out = Transcript::new(alloc);
+    let mut subject = Subject::Vector(NEVec::new(alloc, 0)?);
     for line in script.lines() {
         let call = Call::parsed(alloc, line)?;
-        replay(alloc, &mut items, &call, &mut text)?;
+        replay(&mut subject, &call, &mut out)?;
     }
-    Ok(text)
+    Ok(out.text)
 }
 
 // Makes the call, and writes its line.
-fn replay(
-    alloc: Global,
-    items: &mut NEVec<u32>,
-    call: &Call,
-    text: &mut String,
-) -> Result<(), AllocError> {
-    if !answered(alloc, items, call, text)? {
-        write!(text, "no such call")?;
-    }
-    write!(text, " | {items:?} | {}\n", call.closure.calls())
+fn replay(subject: &mut Subject, call: &Call, out: &mut Transcript) -> Answered {
+    answered(subject, call, out)?;
+    out.said(" | ")?;
+    out.is_sorted = subject.is_hashed();
+    out.is_brief = true;
+    subject.write(call, out)?;
+    out.is_brief = false;
+    out.said("\n")
 }
 
-// Makes the call, and reports whether there is one of its name.
-fn answered(
-    alloc: Global,
-    items: &mut NEVec<u32>,
-    call: &Call,
-    text: &mut String,
-) -> Result<bool, AllocError> {
-    if vector::changed(alloc, items, call, text)? {
-        return Ok(true);
+// Makes the collection, or the call.
+fn answered(subject: &mut Subject, call: &Call, out: &mut Transcript) -> Answered {
+    let alloc = out.alloc;
+    match call.name {
+        "vector" => put(subject, Ok(Subject::Vector(call.vector(alloc)?))),
+        "tree_map" => put(subject, Ok(Subject::TreeMap(keyed::map(call, alloc)?))),
+        "hashed_map" => put(subject, Ok(Subject::HashedMap(keyed::map(call, alloc)?))),
+        "indexed_map" => put(subject, Ok(Subject::IndexedMap(keyed::map(call, alloc)?))),
+        "tree_set" => put(subject, Ok(Subject::TreeSet(keyed::set(call, alloc)?))),
+        "hashed_set" => put(subject, Ok(Subject::HashedSet(keyed::set(call, alloc)?))),
+        "indexed_set" => put(subject, Ok(Subject::IndexedSet(keyed::set(call, alloc)?))),
+        _ => subject.answered(call, out),
     }
-    if vector::read(alloc, items, call, text)? {
-        return Ok(true);
+}
+
+// The collection on which the calls are made.
+#[derive(Drop)]
+enum Subject {
+    Vector(NEVec<u32>),
+    TreeMap(TreeMap),
+    HashedMap(HashedMap),
+    IndexedMap(IndexedMap),
+    TreeSet(TreeSet),
+    HashedSet(HashedSet),
+    IndexedSet(IndexedSet),
+}
+
+impl Subject {
+    // Whether its order of iteration is unspecified.
+    fn is_hashed(&self) -> bool {
+        matches!(self, Subject::HashedMap(_) | Subject::HashedSet(_))
     }
-    if slice::read(alloc, items, call, text)? {
-        return Ok(true);
+
+    fn answered(&mut self, call: &Call, out: &mut Transcript) -> Answered {
+        match self {
+            Subject::Vector(items) => vector::made(items, call, out),
+            Subject::TreeMap(map) => keyed::tree_map(map, call, out),
+            Subject::HashedMap(map) => keyed::hashed_map(map, call, out),
+            Subject::IndexedMap(map) => keyed::indexed_map(map, call, out),
+            Subject::TreeSet(set) => keyed::tree_set(set, call, out),
+            Subject::HashedSet(set) => keyed::hashed_set(set, call, out),
+            Subject::IndexedSet(set) => keyed::indexed_set(set, call, out),
+        }
     }
-    if sources::read(alloc, call, text)? {
-        return Ok(true);
+
+    fn write(&self, call: &Call, out: &mut Transcript) -> Answered {
+        match self {
+            Subject::Vector(items) => write!(out.text, "{items:?} | {}", call.closure.calls()),
+            Subject::TreeMap(map) => keyed::tree_map_iter(map.iter(), out),
+            Subject::HashedMap(map) => keyed::hashed_map_iter(map.iter(), out),
+            Subject::IndexedMap(map) => keyed::indexed_map_iter(map.iter(), out),
+            Subject::TreeSet(set) => keyed::tree_set_iter(set.iter(), out),
+            Subject::HashedSet(set) => keyed::hashed_set_iter(set.iter(), out),
+            Subject::IndexedSet(set) => keyed::indexed_set_iter(set.iter(), out),
+        }
     }
-    if consumers::answered(alloc, items, call, text)? {
-        return Ok(true);
-    }
-    if collected::answered(alloc, items, call, text)? {
-        return Ok(true);
-    }
-    if listed::answered(alloc, items, call, text)? {
-        return Ok(true);
-    }
-    chains::answered(alloc, items, call, text)
 }

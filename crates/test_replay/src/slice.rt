@@ -1,114 +1,104 @@
-//! Calls on slices and on chunks. The last arm of a function tries the calls of the next one.
+//! Calls on slices and on chunks, and on sources that are neither a vector nor a slice. The last
+//! arm of a function tries the calls of the next one.
 
-use crate::answer::{listed, made, rest, said, told};
+use crate::adapters;
 use crate::call::Call;
-use crate::vector::hashed;
-use nonempty_collections::{IntoNonEmptyIterator, NESlice, NEVec, NonEmptyIterator};
-use std::alloc::{AllocError, Global};
+use crate::transcript::{Answered, Transcript};
+use crate::vector::{hashed, shared};
+use nonempty_collections::iter::once;
+use nonempty_collections::{
+    IntoIteratorExt, IntoNonEmptyIterator, NESlice, NEVec, NonEmptyArrayExt, NonEmptyIterator,
+};
 use std::convert::AsSlice;
 
-/// Calls on the slice of the whole vector.
-pub fn read(
-    alloc: Global,
-    items: &NEVec<u32>,
-    call: &Call,
-    text: &mut String,
-) -> Result<bool, AllocError> {
+/// Calls on the slice of the whole vector, and the calls that no function before has.
+pub fn read(items: &NEVec<u32>, call: &Call, out: &mut Transcript) -> Answered {
     let slice = items.as_nonempty_slice();
     match call.name {
-        "slice_first" => told(text, slice.first()),
-        "slice_last" => told(text, slice.last()),
-        "slice_len" => told(text, slice.len()),
-        "slice_is_empty" => told(text, slice.is_empty()),
-        "slice_index" if call.place < slice.len().get() => told(text, slice[call.place]),
-        "slice_index" => said(text, "out of range"),
-        "slice_as_ref" => told(text, slice.as_slice()),
-        "slice_clone" => made(text, slice.clone()),
-        _ => walked(alloc, items, call, text),
+        "slice_first" => out.told(slice.first()),
+        "slice_last" => out.told(slice.last()),
+        "slice_len" => out.told(slice.len()),
+        "slice_is_empty" => out.told(slice.is_empty()),
+        "slice_index" if call.place < slice.len().get() => out.told(slice[call.place]),
+        "slice_index" => out.said("out of range"),
+        "slice_as_ref" => out.told(slice.as_slice()),
+        "slice_clone" => out.made(slice.clone()),
+        _ => iterated(items, call, out),
     }
 }
 
 // Iterators over the slice of the whole vector, which is taken by value and by reference.
-fn walked(
-    alloc: Global,
-    items: &NEVec<u32>,
-    call: &Call,
-    text: &mut String,
-) -> Result<bool, AllocError> {
+fn iterated(items: &NEVec<u32>, call: &Call, out: &mut Transcript) -> Answered {
     let slice = items.as_nonempty_slice();
     match call.name {
-        "slice_iter" => rest(text, slice.iter().copied().collect(alloc)),
-        "slice_nonempty_iter" => rest(text, slice.nonempty_iter().copied().collect(alloc)),
-        "slice_into_iter" => rest(text, slice.into_iter().copied().collect(alloc)),
-        "slice_ref_into_iter" => rest(text, (&slice).into_iter().copied().collect(alloc)),
-        "slice_into_nonempty_iter" => {
-            rest(text, slice.into_nonempty_iter().copied().collect(alloc))
-        }
-        "slice_ref_into_nonempty_iter" => {
-            rest(text, (&slice).into_nonempty_iter().copied().collect(alloc))
-        }
-        _ => chunked(alloc, items, call, text),
+        "slice_iter" => shared(slice.iter(), out),
+        "slice_nonempty_iter" => shared(slice.nonempty_iter().into_iter(), out),
+        "slice_into_iter" => shared(slice.into_iter(), out),
+        "slice_ref_into_iter" => shared((&slice).into_iter(), out),
+        "slice_into_nonempty_iter" => shared(slice.into_nonempty_iter().into_iter(), out),
+        "slice_ref_into_nonempty_iter" => shared((&slice).into_nonempty_iter().into_iter(), out),
+        _ => chunked(items, call, out),
     }
 }
 
 // Calls on the chunks of the vector.
-fn chunked(
-    alloc: Global,
-    items: &NEVec<u32>,
-    call: &Call,
-    text: &mut String,
-) -> Result<bool, AllocError> {
+fn chunked(items: &NEVec<u32>, call: &Call, out: &mut Transcript) -> Answered {
     match call.name {
-        "slice_chunks" => {
-            for chunk in items.as_nonempty_slice().nonempty_chunks(call.size) {
-                write!(text, "{chunk:?} ")?;
-            }
-            Ok(true)
-        }
-        "nonempty_chunks" => {
-            for chunk in items.nonempty_chunks(call.size) {
-                write!(text, "{chunk:?} ")?;
-            }
-            Ok(true)
-        }
+        "slice_chunks" => out.collected(items.as_nonempty_slice().nonempty_chunks(call.size)),
+        "nonempty_chunks" => out.collected(items.nonempty_chunks(call.size)),
         "chunk_sizes" => {
             let chunks = items.nonempty_chunks(call.size);
-            made(
-                text,
-                chunks
-                    .map(|chunk| chunk.len().get())
-                    .collect::<NEVec<usize>>(alloc),
-            )
+            out.collected(chunks.map(|chunk| chunk.len().get()))
         }
-        _ => tried(items, call, text),
+        _ => tried(items, call, out),
     }
 }
 
 // Calls on the slice of the call's numbers, of which there may be none.
-fn tried(items: &NEVec<u32>, call: &Call, text: &mut String) -> Result<bool, AllocError> {
-    match call.name {
-        "slice_try_from" | "slice_eq" | "slice_cmp" | "slice_partial_cmp" | "slice_hash" => {
-            match NESlice::try_from_slice(call.numbers.as_slice()) {
-                Some(slice) => compared(items.as_nonempty_slice(), slice, call, text),
-                None => said(text, "None"),
-            }
-        }
-        _ => Ok(false),
+fn tried(items: &NEVec<u32>, call: &Call, out: &mut Transcript) -> Answered {
+    match NESlice::try_from_slice(call.numbers.as_slice()) {
+        Some(slice) => compared(items, slice, call, out),
+        None if call.name == "slice_try_from" => out.said("None"),
+        None => other(items, call, out),
     }
 }
 
 fn compared<'a>(
-    items: NESlice<'a, u32>,
-    slice: NESlice<'a, u32>,
+    items: &NEVec<u32>,
+    other_slice: NESlice<'a, u32>,
     call: &Call,
-    text: &mut String,
-) -> Result<bool, AllocError> {
+    out: &mut Transcript,
+) -> Answered {
+    let slice = items.as_nonempty_slice();
     match call.name {
-        "slice_try_from" => told(text, slice),
-        "slice_eq" => told(text, items == slice),
-        "slice_cmp" => told(text, items.cmp(&slice)),
-        "slice_partial_cmp" => told(text, items.partial_cmp(&slice)),
-        "slice_hash" => told(text, hashed(&items) == hashed(&slice)),
-        _ => Ok(false),
+        "slice_try_from" => out.told(other_slice),
+        "slice_eq" => out.told(slice == other_slice),
+        "slice_cmp" => out.told(slice.cmp(&other_slice)),
+        "slice_partial_cmp" => out.told(slice.partial_cmp(&other_slice)),
+        "slice_hash" => out.told(hashed(&slice) == hashed(&other_slice)),
+        _ => other(items, call, out),
+    }
+}
+
+// Calls on an array of three items, by value and by reference: the call's first number, its last,
+// and the first again. Then one item, and an iterator over the call's numbers, which may be empty.
+fn other(items: &NEVec<u32>, call: &Call, out: &mut Transcript) -> Answered {
+    let array = [call.first, call.last, call.first];
+    match call.name {
+        "array_len" => out.told(array.nonzero_len()),
+        "array_slice" => out.told(array.as_nonempty_slice()),
+        "array_vec" => out.made(array.into_nonempty_vec(out.alloc)),
+        "array_iter" => out.collected(array.into_nonempty_iter()),
+        "array_ref_iter" => out.collected((&array).into_nonempty_iter()),
+        "once" => out.collected(once(call.first)),
+        "try_into_nonempty_iter" => peeked(call, out),
+        _ => adapters::referenced(items, call, out),
+    }
+}
+
+fn peeked(call: &Call, out: &mut Transcript) -> Answered {
+    match call.list(out.alloc)?.try_into_nonempty_iter() {
+        Some(numbers) => out.collected(numbers),
+        None => out.said("None"),
     }
 }

@@ -1,25 +1,18 @@
 //! Calls on a vector. The last arm of a function tries the calls of the next one.
+ghost use Rattle.std.specs.Iterator.{IsFiniteIterable};
 
-use crate::answer::{done, listed, made, rest, said, told};
 use crate::call::Call;
+use crate::slice;
+use crate::transcript::{Answered, Transcript, put, put_ok, put_some, write};
+use ne_laws::vector_calls::run_vec;
 use nonempty_collections::{IntoNonEmptyIterator, NEVec, NonEmptyIterator, Singleton, nev};
-use std::alloc::{AllocError, Global};
+use std::alloc::AllocError;
 use std::hash::{DefaultHasher, Hash, Hasher};
+use std::{slice as std_slice, vec};
 
-// The vector that was made replaces the current one.
-fn put(items: &mut NEVec<u32>, made: Result<NEVec<u32>, AllocError>) -> Result<bool, AllocError> {
-    *items = made?;
-    Ok(true)
-}
-
-/// Calls that make a vector, which replaces the current one, and then those that change it.
-pub fn changed(
-    alloc: Global,
-    items: &mut NEVec<u32>,
-    call: &Call,
-    text: &mut String,
-) -> Result<bool, AllocError> {
-    let (first, last) = (call.first, call.last);
+/// All calls on a vector. Those that make one, which replaces the current one, come first.
+pub fn made(items: &mut NEVec<u32>, call: &Call, out: &mut Transcript) -> Answered {
+    let (alloc, first, last) = (out.alloc, call.first, call.last);
     match call.name {
         "new" => put(items, NEVec::new(alloc, first)),
         "from_elem" => put(items, NEVec::from_elem(alloc, last, call.size)),
@@ -30,235 +23,166 @@ pub fn changed(
         "nev_two" => put(items, nev![alloc; first, last]),
         "nev_three" => put(items, nev![alloc; first, last, first]),
         "nev_many" => put(items, nev![alloc; last; 3]),
-        _ => tried(alloc, items, call, text),
-    }
-}
-
-// Puts what was made from something that may be empty. If it is empty, the current vector stays.
-fn put_some(
-    items: &mut NEVec<u32>,
-    text: &mut String,
-    made: Option<NEVec<u32>>,
-) -> Result<bool, AllocError> {
-    match made {
-        Some(made) => put(items, Ok(made)),
-        None => said(text, "None"),
-    }
-}
-
-fn by_try_from(
-    items: &mut NEVec<u32>,
-    text: &mut String,
-    numbers: Vec<u32>,
-) -> Result<bool, AllocError> {
-    match NEVec::try_from(numbers) {
-        Ok(made) => put(items, Ok(made)),
-        Err(error) => {
-            write!(text, "{error}, {error:?} None")?;
-            Ok(true)
-        }
+        _ => tried(items, call, out),
     }
 }
 
 // Calls that make a vector from something that may be empty.
-fn tried(
-    alloc: Global,
-    items: &mut NEVec<u32>,
-    call: &Call,
-    text: &mut String,
-) -> Result<bool, AllocError> {
+fn tried(items: &mut NEVec<u32>, call: &Call, out: &mut Transcript) -> Answered {
+    let alloc = out.alloc;
     match call.name {
-        "try_from_vec" => put_some(items, text, NEVec::try_from_vec(call.list(alloc)?)),
-        "try_from_slice" => put_some(
-            items,
-            text,
-            NEVec::try_from_slice(alloc, call.numbers.as_slice())?,
-        ),
-        "try_from" => by_try_from(items, text, call.list(alloc)?),
-        _ => written(alloc, items, call, text),
-    }
-}
-
-fn write_at(items: &mut NEVec<u32>, call: &Call, text: &mut String) -> Result<bool, AllocError> {
-    match items.get_mut(call.place) {
-        Some(item) => done(*item = call.last),
-        None => said(text, "None"),
+        "try_from_vec" => put_some(items, out, NEVec::try_from_vec(call.list(alloc)?)),
+        "try_from_slice" => {
+            let made = NEVec::try_from_slice(alloc, call.numbers.as_slice())?;
+            put_some(items, out, made)
+        }
+        "try_from" => put_ok(items, out, NEVec::try_from(call.list(alloc)?)),
+        _ => written(items, call, out),
     }
 }
 
 // Calls that write items in place.
-fn written(
-    alloc: Global,
-    items: &mut NEVec<u32>,
-    call: &Call,
-    text: &mut String,
-) -> Result<bool, AllocError> {
+fn written(items: &mut NEVec<u32>, call: &Call, out: &mut Transcript) -> Answered {
     match call.name {
-        "first_mut" => done(*items.first_mut() = call.last),
-        "last_mut" => done(*items.last_mut() = call.last),
-        "get_mut" => write_at(items, call, text),
-        "index_mut" if call.place < items.len().get() => done(items[call.place] = call.last),
-        "index_mut" => said(text, "out of range"),
-        "as_mut_slice" => done(items.as_mut_slice().reverse()),
-        "iter_mut" => done(by_iter_mut(items, call)),
-        "nonempty_iter_mut" => done(by_nonempty_iter_mut(items, call)),
-        "for_mut" => done(by_for_mut(items, call)),
-        "reverse" => done(items.reverse()),
-        _ => edited(alloc, items, call, text),
+        "first_mut" => Ok(*items.first_mut() = call.last),
+        "last_mut" => Ok(*items.last_mut() = call.last),
+        "get_mut" => write(items.get_mut(call.place), call.last, out),
+        "index_mut" if call.place < items.len().get() => Ok(items[call.place] = call.last),
+        "index_mut" => out.said("out of range"),
+        "as_mut_slice" => Ok(items.as_mut_slice().reverse()),
+        "iter_mut" => Ok(rewrite(items.iter_mut(), call)),
+        "nonempty_iter_mut" => Ok(rewrite(items.nonempty_iter_mut(), call)),
+        "for_mut" => Ok(rewrite(&mut *items, call)),
+        "reverse" => Ok(items.reverse()),
+        _ => edited(items, call, out),
     }
 }
 
-fn by_iter_mut(items: &mut NEVec<u32>, call: &Call) {
-    for item in items.iter_mut() {
+// Writes what the closure returns in place of each item.
+fn rewrite<'a, I: IntoIterator<Item = &'a mut u32>>(iter: I, call: &Call)
+    requires { IsFiniteIterable I.into_iter_gives I.IntoIter.can_next I.IntoIter.remaining iter }
+{
+    for item in iter {
         *item = call.closure.of(*item);
     }
-}
-
-fn by_nonempty_iter_mut(items: &mut NEVec<u32>, call: &Call) {
-    for item in items.nonempty_iter_mut() {
-        *item = call.closure.of(*item);
-    }
-}
-
-fn by_for_mut(items: &mut NEVec<u32>, call: &Call) {
-    for item in &mut *items {
-        *item = call.closure.of(*item);
-    }
-}
-
-// A call that allocates and has no other result.
-fn grown(made: Result<(), AllocError>) -> Result<bool, AllocError> {
-    made?;
-    Ok(true)
-}
-
-fn append(
-    items: &mut NEVec<u32>,
-    text: &mut String,
-    other: Result<Vec<u32>, AllocError>,
-) -> Result<bool, AllocError> {
-    let mut other = other?;
-    items.append(&mut other)?;
-    told(text, other)
 }
 
 // Calls that add and remove items.
-fn edited(
-    alloc: Global,
-    items: &mut NEVec<u32>,
-    call: &Call,
-    text: &mut String,
-) -> Result<bool, AllocError> {
+fn edited(items: &mut NEVec<u32>, call: &Call, out: &mut Transcript) -> Answered {
     match call.name {
-        "push" => grown(items.push(call.first)),
-        "pop" => told(text, items.pop()),
+        "push" => items.push(call.first),
+        "pop" => out.told(items.pop()),
         "remove" if items.len().get() == 1 || call.place < items.len().get() => {
-            told(text, items.remove(call.place))
+            out.told(items.remove(call.place))
         }
         "swap_remove" if items.len().get() == 1 || call.place < items.len().get() => {
-            told(text, items.swap_remove(call.place))
+            out.told(items.swap_remove(call.place))
         }
-        "remove" | "swap_remove" => said(text, "out of range"),
-        "insert" if call.place <= items.len().get() => grown(items.insert(call.place, call.last)),
-        "insert" => said(text, "out of range"),
-        "append" => append(items, text, call.list(alloc)),
-        "extend" => grown(items.extend(call.numbers.iter().copied())),
-        "truncate" => done(items.truncate(call.size)),
-        _ => kept(items, call, text),
+        "insert" if call.place <= items.len().get() => items.insert(call.place, call.last),
+        "remove" | "swap_remove" | "insert" => out.said("out of range"),
+        "append" => append(items, call, out),
+        "extend" => items.extend(call.numbers.iter().copied()),
+        "truncate" => Ok(items.truncate(call.size)),
+        "run_vec" => out.made(run_vec(out.alloc, items, call.vector_calls(out.alloc)?)),
+        _ => kept(items, call, out),
     }
+}
+
+fn append(items: &mut NEVec<u32>, call: &Call, out: &mut Transcript) -> Answered {
+    let mut other = call.list(out.alloc)?;
+    items.append(&mut other)?;
+    out.told(other)
 }
 
 // Puts what a call kept. If it kept nothing, the current vector stays.
 fn put_kept(
     items: &mut NEVec<u32>,
-    text: &mut String,
+    out: &mut Transcript,
     kept: Result<NEVec<u32>, Vec<u32>>,
-) -> Result<bool, AllocError> {
+) -> Answered {
     match kept {
         Ok(kept) => put(items, Ok(kept)),
-        Err(nothing) => told(text, nothing),
+        Err(nothing) => out.told(nothing),
     }
 }
 
 // Calls that keep some of the items.
-fn kept(items: &mut NEVec<u32>, call: &Call, text: &mut String) -> Result<bool, AllocError> {
+fn kept(items: &mut NEVec<u32>, call: &Call, out: &mut Transcript) -> Answered {
     let closure = &call.closure;
     match call.name {
         "retain" => {
             let all = items.clone()?;
-            put_kept(items, text, all.retain(|x| closure.holds(*x)))
+            put_kept(items, out, all.retain(|x| closure.holds(*x)))
         }
         "retain_mut" => {
             let all = items.clone()?;
-            put_kept(
-                items,
-                text,
-                all.retain_mut(|x| {
-                    *x = closure.of(*x);
-                    *x % 2 == 0
-                }),
-            )
+            let holds = |x: &mut u32| {
+                *x = closure.of(*x);
+                *x % 2 == 0
+            };
+            put_kept(items, out, all.retain_mut(holds))
         }
-        "dedup" => done(items.dedup()),
-        "dedup_by" => done(items.dedup_by(|x, y| closure.of(*x) == closure.of(*y))),
-        "dedup_by_key" => done(items.dedup_by_key(|x| closure.of(*x))),
-        _ => sorted(items, call),
+        "dedup" => Ok(items.dedup()),
+        "dedup_by" => Ok(items.dedup_by(|x, y| closure.of(*x) == closure.of(*y))),
+        "dedup_by_key" => Ok(items.dedup_by_key(|x| closure.of(*x))),
+        _ => sorted(items, call, out),
     }
 }
 
 // Calls that sort. How often a closure is called is up to std.
-fn sorted(items: &mut NEVec<u32>, call: &Call) -> Result<bool, AllocError> {
+fn sorted(items: &mut NEVec<u32>, call: &Call, out: &mut Transcript) -> Answered {
     let closure = call.closure.anew();
     match call.name {
-        "sort" => grown(items.sort()),
-        "sort_by" => grown(items.sort_by(|x, y| closure.order(*x, *y))),
-        "sort_by_key" => grown(items.sort_by_key(|x| closure.of(*x))),
-        _ => Ok(false),
+        "sort" => items.sort(),
+        "sort_by" => items.sort_by(|x, y| closure.order(*x, *y)),
+        "sort_by_key" => items.sort_by_key(|x| closure.of(*x)),
+        _ => read(items, call, out),
     }
 }
 
-/// Calls that read the vector.
-pub fn read(
-    alloc: Global,
-    items: &NEVec<u32>,
-    call: &Call,
-    text: &mut String,
-) -> Result<bool, AllocError> {
+// Calls that read the vector.
+fn read(items: &NEVec<u32>, call: &Call, out: &mut Transcript) -> Answered {
     match call.name {
-        "first" => told(text, items.first()),
-        "last" => told(text, items.last()),
-        "get" => told(text, items.get(call.place)),
-        "index" if call.place < items.len().get() => told(text, items[call.place]),
-        "index" => said(text, "out of range"),
-        "len" => told(text, items.len()),
-        "is_empty" => told(text, items.is_empty()),
-        "capacity" => told(text, items.capacity() >= items.len()),
-        "contains" => told(text, items.contains(&call.first)),
-        "as_ref" => told(text, items.as_ref()),
-        "split_first" => told(text, items.split_first()),
-        "split" => told(text, items.split()),
-        "clone" => listed(text, items.clone()),
-        "into_vec" => told(text, Vec::from(items.clone()?)),
-        _ => walked(alloc, items, call, text),
+        "first" => out.told(items.first()),
+        "last" => out.told(items.last()),
+        "get" => out.told(items.get(call.place)),
+        "index" if call.place < items.len().get() => out.told(items[call.place]),
+        "index" => out.said("out of range"),
+        "len" => out.told(items.len()),
+        "is_empty" => out.told(items.is_empty()),
+        "capacity" => out.told(items.capacity() >= items.len()),
+        "contains" => out.told(items.contains(&call.first)),
+        "as_ref" => out.told(items.as_ref()),
+        "split_first" => out.told(items.split_first()),
+        "split" => out.told(items.split()),
+        "clone" => out.made(items.clone()),
+        "into_vec" => out.told(Vec::from(items.clone()?)),
+        "debug" => out.printed(items),
+        _ => iterated(items, call, out),
     }
+}
+
+/// Writes what an iterator over references yields.
+pub fn shared(iter: std_slice::Iter<u32>, out: &mut Transcript) -> Answered {
+    out.yielded(iter)
+}
+
+// Writes what an iterator by value yields.
+fn owned(iter: vec::IntoIter<u32>, out: &mut Transcript) -> Answered {
+    out.yielded(iter)
 }
 
 // Iterators over the vector, which is taken by value and by reference.
-fn walked(
-    alloc: Global,
-    items: &NEVec<u32>,
-    call: &Call,
-    text: &mut String,
-) -> Result<bool, AllocError> {
+fn iterated(items: &NEVec<u32>, call: &Call, out: &mut Transcript) -> Answered {
     match call.name {
-        "iter" => rest(text, items.iter().copied().collect(alloc)),
-        "nonempty_iter" => rest(text, items.nonempty_iter().copied().collect(alloc)),
-        "nonempty_iter_clone" => rest(text, items.nonempty_iter().clone()?.copied().collect(alloc)),
-        "into_iter" => rest(text, items.clone()?.into_iter().collect(alloc)),
-        "ref_into_iter" => rest(text, items.into_iter().copied().collect(alloc)),
-        "into_nonempty_iter" => rest(text, items.clone()?.into_nonempty_iter().collect(alloc)),
-        "ref_into_nonempty_iter" => rest(text, items.into_nonempty_iter().copied().collect(alloc)),
-        _ => compared(alloc, items, call, text),
+        "iter" => shared(items.iter(), out),
+        "nonempty_iter" => shared(items.nonempty_iter().into_iter(), out),
+        "nonempty_iter_clone" => shared(items.nonempty_iter().clone()?.into_iter(), out),
+        "into_iter" => owned(items.clone()?.into_iter(), out),
+        "ref_into_iter" => shared(items.into_iter(), out),
+        "into_nonempty_iter" => owned(items.clone()?.into_nonempty_iter().into_iter(), out),
+        "ref_into_nonempty_iter" => shared(items.into_nonempty_iter().into_iter(), out),
+        _ => compared(items, call, out),
     }
 }
 
@@ -269,37 +193,27 @@ pub fn hashed<T: Hash>(value: &T) -> u64 {
     hasher.finish()
 }
 
-// The longer text of the vector, with a line for each item.
-fn lines(alloc: Global, items: &NEVec<u32>) -> Result<String, AllocError> {
-    format!(in alloc; "{items:#?}")
-}
-
-// Calls that print the vector, and compare it with one of the call's numbers.
-fn compared(
-    alloc: Global,
-    items: &NEVec<u32>,
-    call: &Call,
-    text: &mut String,
-) -> Result<bool, AllocError> {
+// Calls that compare the vector with one of the call's numbers.
+fn compared(items: &NEVec<u32>, call: &Call, out: &mut Transcript) -> Answered {
+    let alloc = out.alloc;
     match call.name {
-        "debug" => made(text, lines(alloc, items)),
-        "eq" => told(text, *items == call.vector(alloc)?),
-        "cmp" => told(text, items.cmp(&call.vector(alloc)?)),
-        "partial_cmp" => told(text, items.partial_cmp(&call.vector(alloc)?)),
-        "lt" => told(text, *items < call.vector(alloc)?),
-        "hash" => told(text, hashed(items) == hashed(&call.vector(alloc)?)),
-        _ => searched(items, call, text),
+        "eq" => out.told(*items == call.vector(alloc)?),
+        "cmp" => out.told(items.cmp(&call.vector(alloc)?)),
+        "partial_cmp" => out.told(items.partial_cmp(&call.vector(alloc)?)),
+        "lt" => out.told(*items < call.vector(alloc)?),
+        "hash" => out.told(hashed(items) == hashed(&call.vector(alloc)?)),
+        _ => searched(items, call, out),
     }
 }
 
 // Searches. How often a closure is called is up to std.
-fn searched(items: &NEVec<u32>, call: &Call, text: &mut String) -> Result<bool, AllocError> {
+fn searched(items: &NEVec<u32>, call: &Call, out: &mut Transcript) -> Answered {
     let (closure, x) = (call.closure.anew(), call.first);
     match call.name {
-        "binary_search" => told(text, items.binary_search(&x)),
-        "binary_search_by" => told(text, items.binary_search_by(|y| closure.of(*y).cmp(&x))),
-        "binary_search_by_key" => told(text, items.binary_search_by_key(&x, |y| closure.of(*y))),
-        "partition_point" => told(text, items.partition_point(|y| closure.of(*y) < x)),
-        _ => Ok(false),
+        "binary_search" => out.told(items.binary_search(&x)),
+        "binary_search_by" => out.told(items.binary_search_by(|y| closure.of(*y).cmp(&x))),
+        "binary_search_by_key" => out.told(items.binary_search_by_key(&x, |y| closure.of(*y))),
+        "partition_point" => out.told(items.partition_point(|y| closure.of(*y) < x)),
+        _ => slice::read(items, call, out),
     }
 }

@@ -1,14 +1,16 @@
-//! How results are written. Each function reports that there is such a call.
+//! How results are written.
 //!
-//! A call's arm ends in one of these, so no arm continues after it. The check then has one path for
-//! each arm to follow, and no values to drop where the arms join.
+//! A call's arm ends in one of these functions, so no arm continues after it. The check then has
+//! one path for each arm to follow, and no values to drop where the arms join.
 ghost use Rattle.std.specs.Iterator.{IsFiniteIterable};
 
+use nonempty_collections::iter::SourceWords;
+use nonempty_collections::{Error, NEVec, NonEmptyIterator};
 use std::alloc::{AllocError, Global};
 use std::fmt::Debug;
 
-/// Whether there is a call of the name, if there was memory for it.
-pub type Answered = Result<bool, AllocError>;
+/// Whether there was memory for a call and its result.
+pub type Answered = Result<(), AllocError>;
 
 /// What has been written, and how iterators are written.
 #[derive(Drop)]
@@ -36,8 +38,7 @@ impl Transcript {
 
     /// Writes a result.
     pub fn told<T: Debug + Drop>(&mut self, answer: T) -> Answered {
-        write!(self.text, "{answer:?}")?;
-        Ok(true)
+        write!(self.text, "{answer:?}")
     }
 
     /// Writes a result, if there was memory for it.
@@ -45,52 +46,64 @@ impl Transcript {
         self.told(answer?)
     }
 
+    /// Writes a result that holds clones, if there was memory for it and for each of them.
+    pub fn cloned<T: Debug + Drop>(
+        &mut self,
+        answer: Result<Result<T, AllocError>, AllocError>,
+    ) -> Answered {
+        self.told(answer??)
+    }
+
     /// Writes a text as it is.
     pub fn said(&mut self, words: &str) -> Answered {
-        write!(self.text, "{words}")?;
-        Ok(true)
+        write!(self.text, "{words}")
     }
 
-    /// Reports that a call without a result was made, if there was memory for it.
-    pub fn did(&mut self, done: Result<(), AllocError>) -> Answered {
-        done?;
-        Ok(true)
+    /// Writes the vector into which a source is collected.
+    pub fn collected<T: Debug + Drop, S: NonEmptyIterator<Item = T>>(
+        &mut self,
+        source: S,
+    ) -> Answered
+        requires { ⟦<S as SourceWords>⟧.ends source }
+    {
+        let items: NEVec<T> = source.collect(self.alloc)?;
+        self.told(items)
     }
 
-    /// Writes what an iterator gives. For more than a hundred items it writes their number, the
-    /// first, the last and a checksum of all.
-    pub fn walked<T: Ord + Debug + Drop, I: IntoIterator<Item = T>>(&mut self, walk: I) -> Answered
+    /// Writes the items that an iterator yields. For more than a hundred items it writes their
+    /// number, the first, the last and a checksum of all.
+    pub fn yielded<T: Ord + Debug + Drop, I: IntoIterator<Item = T>>(&mut self, iter: I) -> Answered
         requires { IsFiniteIterable I.into_iter_gives I.IntoIter.can_next I.IntoIter.remaining
-            walk }
+            iter }
     {
         let list = Vec::new(self.alloc);
-        self.listed(list, walk)
+        self.listed(list, iter)
     }
 
-    /// Writes a first item and what an iterator gives after it.
-    pub fn walked_from<T: Ord + Debug + Drop, I: IntoIterator<Item = T> + Drop>(
+    /// Writes a first item and those that an iterator yields after it.
+    pub fn yielded_after<T: Ord + Debug + Drop, I: IntoIterator<Item = T> + Drop>(
         &mut self,
         first: T,
-        walk: I,
+        iter: I,
     ) -> Answered
         requires { IsFiniteIterable I.into_iter_gives I.IntoIter.can_next I.IntoIter.remaining
-            walk }
+            iter }
     {
         let mut list = Vec::new(self.alloc);
         list.push(first)?;
-        self.listed(list, walk)
+        self.listed(list, iter)
     }
 
-    // Writes a list, and what an iterator gives after it.
+    // Writes a list, and the items that an iterator yields after it.
     fn listed<T: Ord + Debug + Drop, I: IntoIterator<Item = T>>(
         &mut self,
         mut list: Vec<T>,
-        walk: I,
+        iter: I,
     ) -> Answered
         requires { IsFiniteIterable I.into_iter_gives I.IntoIter.can_next I.IntoIter.remaining
-            walk }
+            iter }
     {
-        list.extend(walk)?;
+        list.extend(iter)?;
         if self.is_brief && list.len() > MOST {
             return self.told(list.len());
         }
@@ -117,7 +130,7 @@ impl Transcript {
             write!(self.text, "{short} ")?;
         }
         let long = format!(in self.alloc; "{:#?}", [value])?;
-        self.walked(long.as_str().lines())
+        self.yielded(long.as_str().lines())
     }
 }
 
@@ -132,4 +145,36 @@ fn checksum(text: &str) -> u32 {
         sum = sum.wrapping_mul(31).wrapping_add(byte as u32);
     }
     sum
+}
+
+/// Puts the collection that was made in place of the current one, if there was memory for it.
+pub fn put<C: Drop>(there: &mut C, made: Result<C, AllocError>) -> Answered {
+    *there = made?;
+    Ok(())
+}
+
+/// Puts what was made from something that may be empty. If it is empty, writes `None`, and the
+/// current collection stays.
+pub fn put_some<C: Drop>(there: &mut C, out: &mut Transcript, made: Option<C>) -> Answered {
+    match made {
+        Some(made) => put(there, Ok(made)),
+        None => out.said("None"),
+    }
+}
+
+/// Puts what was made from something that may be empty. If it is empty, writes the error, and the
+/// current collection stays.
+pub fn put_ok<C: Drop>(there: &mut C, out: &mut Transcript, made: Result<C, Error>) -> Answered {
+    match made {
+        Ok(made) => put(there, Ok(made)),
+        Err(error) => write!(out.text, "{error}, {error:?}"),
+    }
+}
+
+/// Writes a number through a reference, if there is one.
+pub fn write(place: Option<&mut u32>, number: u32, out: &mut Transcript) -> Answered {
+    match place {
+        Some(place) => Ok(*place = number),
+        None => out.said("None"),
+    }
 }

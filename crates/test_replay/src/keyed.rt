@@ -1,0 +1,521 @@
+//! Calls on maps and sets. What the kinds have in common is written once, as macros, by groups of
+//! calls; the last arm of a group tries the calls of the next function.
+ghost use Rattle.std.specs.Iterator.{IsFiniteIterable};
+
+use crate::call::Call;
+use crate::key::Key;
+use crate::transcript::{Answered, Transcript, put, put_ok, put_some, write};
+use indexmap::{IndexMap, IndexSet, map as index_map, set as index_set};
+use ne_laws::map_calls::run_map;
+use ne_laws::maps::NonEmptyMap;
+use nonempty_collections::{
+    FromNonEmptyIterator, IntoNonEmptyIterator, NEBTreeMap, NEBTreeSet, NEIndexMap, NEIndexSet,
+    NEMap, NESet, NonEmptyIterator, Singleton, nebtm, nebts, neim, neis, nem, nes,
+};
+use std::alloc::{AllocError, Global};
+use std::collections::{
+    BTreeMap, BTreeSet, HashMap, HashSet, btree_map, btree_set, hash_map, hash_set,
+};
+use std::hash::BuildHasherDefault;
+
+/// The map that iterates in ascending order.
+pub type TreeMap = NEBTreeMap<Key, u32>;
+
+/// The map whose order is unspecified.
+pub type HashedMap = NEMap<Key, u32>;
+
+/// The map that iterates in the order of insertion.
+pub type IndexedMap = NEIndexMap<Key, u32>;
+
+/// The set that iterates in ascending order.
+pub type TreeSet = NEBTreeSet<Key>;
+
+/// The set whose order is unspecified.
+pub type HashedSet = NESet<Key>;
+
+/// The set that iterates in the order of insertion.
+pub type IndexedSet = NEIndexSet<Key>;
+
+/// The map that is collected from the call's pairs.
+pub fn map<M: FromNonEmptyIterator<(Key, u32)>>(
+    call: &Call,
+    alloc: Global,
+) -> Result<M, AllocError> {
+    call.some_pairs(alloc)?.into_nonempty_iter().collect(alloc)
+}
+
+/// The set that is collected from the call's keys.
+pub fn set<S: FromNonEmptyIterator<Key>>(call: &Call, alloc: Global) -> Result<S, AllocError> {
+    call.some_items(alloc)?.into_nonempty_iter().collect(alloc)
+}
+
+// Calls that make a map, which replaces the current one.
+macro_rules! made_map {
+    ($map:expr, $call:expr, $out:expr, $next:ident, $Map:ident, $written:ident) => {{
+        let (alloc, key, value) = ($out.alloc, $call.key(0), $call.number(1));
+        match $call.name {
+            "new" => put($map, $Map::new(alloc, key, value)),
+            "singleton" => put($map, $Map::singleton(alloc, (key, value))),
+            "written_one" => put($map, $written![alloc; key => value]),
+            "written_two" => put(
+                $map,
+                $written![alloc; key => value, $call.key(2) => $call.number(3)],
+            ),
+            "collect" => put($map, map($call, alloc)),
+            "try_from_map" => put_some(
+                $map,
+                $out,
+                $Map::try_from_map($call.pairs(alloc)?.into_iter().collect(alloc)?),
+            ),
+            _ => $next($map, $call, $out),
+        }
+    }};
+}
+
+// Calls that make a set, which replaces the current one.
+macro_rules! made_set {
+    ($set:expr, $call:expr, $out:expr, $next:ident, $Set:ident, $written:ident, $Std:ident) => {{
+        let (alloc, item) = ($out.alloc, $call.key(0));
+        match $call.name {
+            "new" => put($set, $Set::new(alloc, item)),
+            "singleton" => put($set, $Set::singleton(alloc, item)),
+            "written_one" => put($set, $written![alloc; item]),
+            "written_two" => put($set, $written![alloc; item, $call.key(1)]),
+            "collect" => put($set, set($call, alloc)),
+            "try_from_set" => put_some(
+                $set,
+                $out,
+                $Set::try_from_set($call.items(alloc)?.into_iter().collect(alloc)?),
+            ),
+            "try_from" => {
+                let items: $Std<Key> = $call.items(alloc)?.into_iter().collect(alloc)?;
+                put_ok($set, $out, $Set::try_from(items))
+            }
+            _ => $next($set, $call, $out),
+        }
+    }};
+}
+
+// Calls that make a map or a set of one part with room, or with a hasher, and calls on its room.
+macro_rules! with_room {
+    ($it:expr, $call:expr, $out:expr, $next:ident, $Kind:ident, $($part:expr),*) => {{
+        let (alloc, hasher) = ($out.alloc, BuildHasherDefault::new());
+        match $call.name {
+            "with_capacity" => put($it, $Kind::with_capacity(alloc, $call.room, $($part),*)),
+            "with_hasher" => put($it, $Kind::with_hasher(alloc, hasher, $($part),*)),
+            "with_capacity_and_hasher" => put(
+                $it,
+                $Kind::with_capacity_and_hasher(alloc, $call.room, hasher, $($part),*),
+            ),
+            "shrink_to_fit" => $it.shrink_to_fit(),
+            "capacity" => $out.told((
+                $it.capacity() >= $it.len(),
+                $it.capacity().get() >= $call.place,
+            )),
+            "is_empty" => $out.told($it.is_empty()),
+            _ => $next($it, $call, $out),
+        }
+    }};
+}
+
+// Calls that insert pairs, write a value, or look up a key.
+macro_rules! changed_map {
+    ($map:expr, $call:expr, $out:expr, $next:ident) => {{
+        let (key, value) = ($call.key(0), $call.number(1));
+        match $call.name {
+            "insert" => $out.made($map.insert(key, value)),
+            "extend_one" => $map.extend_one((key, value)),
+            "run_map" => run($map, $call, $out),
+            "extend" => $map.extend($call.pairs($out.alloc)?),
+            "get_mut" => write($map.get_mut(&key), value, $out),
+            "contains_key" => $out.told($map.contains_key(&key)),
+            "get" => $out.told($map.get(&key)),
+            "get_key_value" => $out.told($map.get_key_value(&key)),
+            _ => $next($map, $call, $out),
+        }
+    }};
+}
+
+// Makes a list of calls.
+fn run<M: NonEmptyMap<Key, u32>>(map: &mut M, call: &Call, out: &mut Transcript) -> Answered {
+    let calls = call.map_calls(out.alloc)?;
+    out.made(run_map(out.alloc, map, calls))
+}
+
+// Calls that index maps lack.
+macro_rules! changed_std_map {
+    ($map:expr, $call:expr, $out:expr, $next:ident, $Map:ident, $Std:ident) => {
+        match $call.name {
+            "try_from" => {
+                let alloc = $out.alloc;
+                let pairs: $Std<Key, u32> = $call.pairs(alloc)?.into_iter().collect(alloc)?;
+                put_ok($map, $out, $Map::try_from(pairs))
+            }
+            "iter_mut" => Ok(rewrite($map.iter_mut(), $call.first)),
+            "nonempty_iter_mut" => Ok(rewrite($map.nonempty_iter_mut(), $call.first)),
+            "mut_into_iter" => Ok(rewrite($map.into_iter(), $call.first)),
+            _ => $next($map, $call, $out),
+        }
+    };
+}
+
+// Changes each value to one that depends on the old one and on the number.
+fn rewrite<'a, I: IntoIterator<Item = (&'a Key, &'a mut u32)>>(iter: I, number: u32)
+    requires { IsFiniteIterable I.into_iter_gives I.IntoIter.can_next I.IntoIter.remaining iter }
+{
+    for (_key, value) in iter {
+        *value = value.wrapping_mul(31).wrapping_add(number);
+    }
+}
+
+// Calls that insert an item, or look one up.
+macro_rules! changed_set {
+    ($set:expr, $call:expr, $out:expr, $next:ident) => {{
+        let item = $call.key(0);
+        match $call.name {
+            "insert" => $out.made($set.insert(item)),
+            "replace" => $out.made($set.replace(item)),
+            "extend_one" => $set.extend_one(item),
+            "extend" => $set.extend($call.items($out.alloc)?),
+            "contains" => $out.told($set.contains(&item)),
+            "get" => $out.told($set.get(&item)),
+            _ => $next($set, $call, $out),
+        }
+    }};
+}
+
+// Calls that read a whole map or set. `shared` and `owned` write what an iterator by reference and
+// by value yields. So each arm passes on an iterator of std's or of `indexmap`'s, and what the
+// iterators of one type need is proved once.
+macro_rules! iterated {
+    ($it:expr, $call:expr, $out:expr, $next:ident, $shared:ident, $owned:ident, $Std:ident) => {
+        match $call.name {
+            "len" => $out.told($it.len()),
+            "as_ref" => $out.told($it.as_ref().len()),
+            "debug" => $out.printed($it),
+            "clone" => $out.told($it.clone()? == *$it),
+            "iter" => $shared($it.iter(), $out),
+            "nonempty_iter" => $shared($it.nonempty_iter().into_iter(), $out),
+            "ref_into_iter" => $shared((&*$it).into_iter(), $out),
+            "ref_into_nonempty_iter" => $shared((&*$it).into_nonempty_iter().into_iter(), $out),
+            "into_iter" => $owned($it.clone()?.into_iter(), $out),
+            "into_nonempty_iter" => $owned($it.clone()?.into_nonempty_iter().into_iter(), $out),
+            "into_map" | "into_set" => $owned($Std::from($it.clone()?).into_iter(), $out),
+            _ => $next($it, $call, $out),
+        }
+    };
+}
+
+// Calls that read a part of a map, or compare it.
+macro_rules! compared_map {
+    ($map:expr, $call:expr, $out:expr) => {
+        match $call.name {
+            "keys" => $out.yielded($map.keys()),
+            "values" => $out.yielded($map.values()),
+            "eq" => $out.told(*$map == map($call, $out.alloc)?),
+            _ => $out.said("no such call"),
+        }
+    };
+}
+
+// Calls with another set.
+macro_rules! compared_set {
+    ($set:expr, $call:expr, $out:expr) => {{
+        let other = set($call, $out.alloc)?;
+        match $call.name {
+            "eq" => $out.told(*$set == other),
+            "is_disjoint" => $out.told($set.is_disjoint(&other)),
+            "is_subset" => $out.told($set.is_subset(&other)),
+            "is_superset" => $out.told($set.is_superset(&other)),
+            "difference" => $out.yielded($set.difference(&other)),
+            "intersection" => $out.yielded($set.intersection(&other)),
+            "union" => $out.yielded($set.union(&other)),
+            "union_next" => {
+                let (first, rest) = $set.union(&other).next();
+                $out.yielded_after(first, rest)
+            }
+            _ => $out.said("no such call"),
+        }
+    }};
+}
+
+/// Calls on a tree map.
+pub fn tree_map(map: &mut TreeMap, call: &Call, out: &mut Transcript) -> Answered {
+    made_map!(map, call, out, tree_map_changed, TreeMap, nebtm)
+}
+
+fn tree_map_changed(map: &mut TreeMap, call: &Call, out: &mut Transcript) -> Answered {
+    changed_map!(map, call, out, tree_map_more)
+}
+
+fn tree_map_more(map: &mut TreeMap, call: &Call, out: &mut Transcript) -> Answered {
+    changed_std_map!(map, call, out, tree_map_iterated, TreeMap, BTreeMap)
+}
+
+/// Writes what an iterator over a tree map yields.
+pub fn tree_map_iter(iter: btree_map::Iter<Key, u32>, out: &mut Transcript) -> Answered {
+    out.yielded(iter)
+}
+
+fn tree_map_into_iter(iter: btree_map::IntoIter<Key, u32>, out: &mut Transcript) -> Answered {
+    out.yielded(iter)
+}
+
+fn tree_map_iterated(map: &TreeMap, call: &Call, out: &mut Transcript) -> Answered {
+    iterated!(
+        map,
+        call,
+        out,
+        tree_map_compared,
+        tree_map_iter,
+        tree_map_into_iter,
+        BTreeMap
+    )
+}
+
+fn tree_map_compared(map: &TreeMap, call: &Call, out: &mut Transcript) -> Answered {
+    compared_map!(map, call, out)
+}
+
+/// Calls on a hashed map.
+pub fn hashed_map(map: &mut HashedMap, call: &Call, out: &mut Transcript) -> Answered {
+    made_map!(map, call, out, hashed_map_room, HashedMap, nem)
+}
+
+fn hashed_map_room(map: &mut HashedMap, call: &Call, out: &mut Transcript) -> Answered {
+    with_room!(
+        map,
+        call,
+        out,
+        hashed_map_changed,
+        HashedMap,
+        call.key(0),
+        call.number(1)
+    )
+}
+
+fn hashed_map_changed(map: &mut HashedMap, call: &Call, out: &mut Transcript) -> Answered {
+    changed_map!(map, call, out, hashed_map_more)
+}
+
+fn hashed_map_more(map: &mut HashedMap, call: &Call, out: &mut Transcript) -> Answered {
+    changed_std_map!(map, call, out, hashed_map_iterated, HashedMap, HashMap)
+}
+
+/// Writes what an iterator over a hashed map yields.
+pub fn hashed_map_iter(iter: hash_map::Iter<Key, u32>, out: &mut Transcript) -> Answered {
+    out.yielded(iter)
+}
+
+fn hashed_map_into_iter(iter: hash_map::IntoIter<Key, u32>, out: &mut Transcript) -> Answered {
+    out.yielded(iter)
+}
+
+fn hashed_map_iterated(map: &HashedMap, call: &Call, out: &mut Transcript) -> Answered {
+    iterated!(
+        map,
+        call,
+        out,
+        hashed_map_compared,
+        hashed_map_iter,
+        hashed_map_into_iter,
+        HashMap
+    )
+}
+
+fn hashed_map_compared(map: &HashedMap, call: &Call, out: &mut Transcript) -> Answered {
+    compared_map!(map, call, out)
+}
+
+/// Calls on an index map.
+pub fn indexed_map(map: &mut IndexedMap, call: &Call, out: &mut Transcript) -> Answered {
+    made_map!(map, call, out, indexed_map_room, IndexedMap, neim)
+}
+
+fn indexed_map_room(map: &mut IndexedMap, call: &Call, out: &mut Transcript) -> Answered {
+    with_room!(
+        map,
+        call,
+        out,
+        indexed_map_changed,
+        IndexedMap,
+        call.key(0),
+        call.number(1)
+    )
+}
+
+fn indexed_map_changed(map: &mut IndexedMap, call: &Call, out: &mut Transcript) -> Answered {
+    changed_map!(map, call, out, indexed_map_placed)
+}
+
+fn indexed_map_placed(map: &mut IndexedMap, call: &Call, out: &mut Transcript) -> Answered {
+    let (a, b, len) = (call.place, call.last as usize, map.len().get());
+    match call.name {
+        "swap_indices" if a < len && b < len => Ok(map.swap_indices(a, b)),
+        "index" if a < len => out.told(map[a]),
+        "swap_indices" | "index" => out.said("out of range"),
+        "first" => out.told(map.first()),
+        "last" => out.told(map.last()),
+        "get_index_of" => out.told(map.get_index_of(&call.key(0))),
+        "nonempty_iter_clone" => out.yielded(map.nonempty_iter().clone()?),
+        "keys_clone" => out.yielded(map.keys().clone()?),
+        "values_clone" => out.yielded(map.values().clone()?),
+        _ => indexed_map_iterated(map, call, out),
+    }
+}
+
+/// Writes what an iterator over an index map yields.
+pub fn indexed_map_iter(iter: index_map::Iter<Key, u32>, out: &mut Transcript) -> Answered {
+    out.yielded(iter)
+}
+
+fn indexed_map_into_iter(iter: index_map::IntoIter<Key, u32>, out: &mut Transcript) -> Answered {
+    out.yielded(iter)
+}
+
+fn indexed_map_iterated(map: &IndexedMap, call: &Call, out: &mut Transcript) -> Answered {
+    iterated!(
+        map,
+        call,
+        out,
+        indexed_map_compared,
+        indexed_map_iter,
+        indexed_map_into_iter,
+        IndexMap
+    )
+}
+
+fn indexed_map_compared(map: &IndexedMap, call: &Call, out: &mut Transcript) -> Answered {
+    compared_map!(map, call, out)
+}
+
+/// Calls on a tree set.
+pub fn tree_set(set: &mut TreeSet, call: &Call, out: &mut Transcript) -> Answered {
+    made_set!(set, call, out, tree_set_changed, TreeSet, nebts, BTreeSet)
+}
+
+fn tree_set_changed(set: &mut TreeSet, call: &Call, out: &mut Transcript) -> Answered {
+    changed_set!(set, call, out, tree_set_iterated)
+}
+
+/// Writes what an iterator over a tree set yields.
+pub fn tree_set_iter(iter: btree_set::Iter<Key>, out: &mut Transcript) -> Answered {
+    out.yielded(iter)
+}
+
+fn tree_set_into_iter(iter: btree_set::IntoIter<Key>, out: &mut Transcript) -> Answered {
+    out.yielded(iter)
+}
+
+fn tree_set_iterated(set: &TreeSet, call: &Call, out: &mut Transcript) -> Answered {
+    iterated!(
+        set,
+        call,
+        out,
+        tree_set_compared,
+        tree_set_iter,
+        tree_set_into_iter,
+        BTreeSet
+    )
+}
+
+fn tree_set_compared(set: &TreeSet, call: &Call, out: &mut Transcript) -> Answered {
+    compared_set!(set, call, out)
+}
+
+/// Calls on a hashed set.
+pub fn hashed_set(set: &mut HashedSet, call: &Call, out: &mut Transcript) -> Answered {
+    made_set!(set, call, out, hashed_set_room, HashedSet, nes, HashSet)
+}
+
+fn hashed_set_room(set: &mut HashedSet, call: &Call, out: &mut Transcript) -> Answered {
+    with_room!(set, call, out, hashed_set_reserved, HashedSet, call.key(0))
+}
+
+fn hashed_set_reserved(set: &mut HashedSet, call: &Call, out: &mut Transcript) -> Answered {
+    match call.name {
+        "reserve" => set.reserve(call.place),
+        _ => hashed_set_changed(set, call, out),
+    }
+}
+
+fn hashed_set_changed(set: &mut HashedSet, call: &Call, out: &mut Transcript) -> Answered {
+    changed_set!(set, call, out, hashed_set_iterated)
+}
+
+/// Writes what an iterator over a hashed set yields.
+pub fn hashed_set_iter(iter: hash_set::Iter<Key>, out: &mut Transcript) -> Answered {
+    out.yielded(iter)
+}
+
+fn hashed_set_into_iter(iter: hash_set::IntoIter<Key>, out: &mut Transcript) -> Answered {
+    out.yielded(iter)
+}
+
+fn hashed_set_iterated(set: &HashedSet, call: &Call, out: &mut Transcript) -> Answered {
+    iterated!(
+        set,
+        call,
+        out,
+        hashed_set_compared,
+        hashed_set_iter,
+        hashed_set_into_iter,
+        HashSet
+    )
+}
+
+fn hashed_set_compared(set: &HashedSet, call: &Call, out: &mut Transcript) -> Answered {
+    compared_set!(set, call, out)
+}
+
+/// Calls on an index set.
+pub fn indexed_set(set: &mut IndexedSet, call: &Call, out: &mut Transcript) -> Answered {
+    made_set!(set, call, out, indexed_set_room, IndexedSet, neis, IndexSet)
+}
+
+fn indexed_set_room(set: &mut IndexedSet, call: &Call, out: &mut Transcript) -> Answered {
+    with_room!(
+        set,
+        call,
+        out,
+        indexed_set_reserved,
+        IndexedSet,
+        call.key(0)
+    )
+}
+
+fn indexed_set_reserved(set: &mut IndexedSet, call: &Call, out: &mut Transcript) -> Answered {
+    match call.name {
+        "reserve" => set.reserve(call.place),
+        _ => indexed_set_changed(set, call, out),
+    }
+}
+
+fn indexed_set_changed(set: &mut IndexedSet, call: &Call, out: &mut Transcript) -> Answered {
+    changed_set!(set, call, out, indexed_set_iterated)
+}
+
+/// Writes what an iterator over an index set yields.
+pub fn indexed_set_iter(iter: index_set::Iter<Key>, out: &mut Transcript) -> Answered {
+    out.yielded(iter)
+}
+
+fn indexed_set_into_iter(iter: index_set::IntoIter<Key>, out: &mut Transcript) -> Answered {
+    out.yielded(iter)
+}
+
+fn indexed_set_iterated(set: &IndexedSet, call: &Call, out: &mut Transcript) -> Answered {
+    iterated!(
+        set,
+        call,
+        out,
+        indexed_set_compared,
+        indexed_set_iter,
+        indexed_set_into_iter,
+        IndexSet
+    )
+}
+
+fn indexed_set_compared(set: &IndexedSet, call: &Call, out: &mut Transcript) -> Answered {
+    compared_set!(set, call, out)
+}
