@@ -1,14 +1,13 @@
-//! Sources of a user's own: each method on a plain one, and each of the other sources once.
+//! Sources of a user's own: methods on a plain one, and each of the other sources once.
 //!
 //! The items of a chain are written as the digits of one number, the first item first, so that a
 //! test needs no vector.
 ghost use Rattle.std.specs.Iterator.{IsFiniteIterable};
 
-use super::{is, list, of, same};
-use nonempty_collections::{IntoIteratorExt, IntoNonEmptyIterator, NEVec, NonEmptyIterator};
-use std::alloc::AllocError;
+use super::{is, of, same};
+use nonempty_collections::{IntoIteratorExt, IntoNonEmptyIterator, NonEmptyIterator};
 use std::convert::AsSlice;
-use std::num::{NonZeroU32, Wrapping};
+use std::num::NonZeroU32;
 use std::test::Fail;
 use user_generic::{Boxed, Countdown, Stack, Start, all_below_ten, second_parts};
 
@@ -48,16 +47,6 @@ fn an_item(_rt: HostRuntime) -> Result<(), Fail> {
 }
 
 #[test]
-fn a_total(_rt: HostRuntime) -> Result<(), Fail> {
-    let decided = (three()?.all(|x| x < 3), three()?.any(|x| x == 2));
-    is((decided, three()?.count().get()), ((false, true), 3))?;
-    let reduced = three()?.reduce(|x, y| x.wrapping_mul(10).wrapping_add(y));
-    let sum = three()?.map(Wrapping).sum::<Wrapping<u32>>().0;
-    let product = three()?.map(Wrapping).product::<Wrapping<u32>>().0;
-    is([reduced, sum, product], [321, 6, 6])
-}
-
-#[test]
 fn adapted(_rt: HostRuntime) -> Result<(), Fail> {
     let chained = digits(three()?.take(of(2)?).chain(three()?));
     let zipped = digits(three()?.zip([4u32, 5]).map(|(x, y)| x.wrapping_add(y)));
@@ -69,33 +58,6 @@ fn adapted(_rt: HostRuntime) -> Result<(), Fail> {
     is(
         [spread, digits(placed), digits(three()?.peekable())],
         [302010, 21, 321],
-    )
-}
-
-#[test]
-fn parts(_rt: HostRuntime) -> Result<(), Fail> {
-    let kept = [
-        digits(three()?.filter(|x| *x > 1)),
-        digits(three()?.filter_map(Some)),
-    ];
-    let skipped = [
-        digits(three()?.skip(2)),
-        digits(three()?.skip_while(|x| *x > 2)),
-    ];
-    let front = digits(three()?.take_while(|x| *x > 2));
-    is((kept, skipped, front), ([32, 321], [1, 21], 3))
-}
-
-#[test]
-fn collected(rt: HostRuntime) -> Result<(), Fail> {
-    let sorted = digits(three()?.sorted_by_key(rt.alloc(), |x| *x)?);
-    let runs: Result<NEVec<NEVec<u32>>, AllocError> = three()?
-        .group_by(rt.alloc(), |x| *x / 2)
-        .collect(rt.alloc())?;
-    let runs = runs?;
-    is(
-        (sorted, runs.len().get(), runs.first().len().get()),
-        (123, 2, 2),
     )
 }
 
