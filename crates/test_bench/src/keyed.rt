@@ -1,13 +1,15 @@
 //! Workloads over maps and sets. Each is written once, in terms of what it needs from a map or a
 //! set.
 
-mod map;
-mod set;
+mod kinds;
 
 use crate::input::{mixed, next, paired, scrambled};
-use map::Table;
-use nonempty_collections::{NEBTreeMap, NEBTreeSet, NEIndexMap, NEIndexSet, NEMap, NESet, NEVec};
-use set::Bag;
+use kinds::{Bag, Table};
+use ne_laws::maps::NonEmptyMap;
+use nonempty_collections::{
+    FromNonEmptyIterator, IntoNonEmptyIterator, NEBTreeMap, NEBTreeSet, NEIndexMap, NEIndexSet,
+    NEMap, NESet, NonEmptyIterator,
+};
 use std::alloc::{AllocError, Global};
 use std::num::NonZeroUsize;
 
@@ -30,38 +32,50 @@ fn of<M: Table + Drop, S: Bag + Drop>(
     step: &str,
     n: NonZeroUsize,
 ) -> Result<Option<u64>, AllocError> {
+    let half = n.get() as u64 / 2;
     let checksum = match step {
-        "insert" => inserted::<M>(alloc, n)?.length(),
-        "collect" => collected::<M>(alloc, n)?.length(),
-        "look_up" => look_up(&collected::<M>(alloc, n)?, n),
-        "walk" => collected::<M>(alloc, n)?.combined(),
+        "insert" => inserted(M::of_one(alloc)?, alloc, n)?,
+        "collect" => length(&pairs::<M>(alloc, n)?),
+        "look_up" => look_up(&pairs::<M>(alloc, n)?, n),
+        "walk" => pairs::<M>(alloc, n)?.combined(),
         "maps" => mixed(
-            collected::<M>(alloc, n)?.length(),
-            collected::<M>(alloc, n)?.length(),
+            length(&pairs::<M>(alloc, n)?),
+            length(&pairs::<M>(alloc, n)?),
         ),
-        "equal" => u64::from(collected::<M>(alloc, n)?.is_same(&collected::<M>(alloc, n)?)),
+        "equal" => u64::from(pairs::<M>(alloc, n)? == pairs::<M>(alloc, n)?),
         "sets" => mixed(
             numbers::<S>(alloc, n, 0)?.length(),
-            numbers::<S>(alloc, n, n.get() as u64 / 2)?.length(),
+            numbers::<S>(alloc, n, half)?.length(),
         ),
-        "union" => numbers::<S>(alloc, n, 0)?.united(&numbers::<S>(alloc, n, n.get() as u64 / 2)?),
-        "set_equal" => u64::from(numbers::<S>(alloc, n, 0)?.is_same(&numbers::<S>(alloc, n, 0)?)),
+        "union" => numbers::<S>(alloc, n, 0)?.united(&numbers::<S>(alloc, n, half)?),
+        "set_equal" => u64::from(numbers::<S>(alloc, n, 0)? == numbers::<S>(alloc, n, 0)?),
         _ => return Ok(None),
     };
     Ok(Some(checksum))
 }
 
-fn inserted<M: Table + Drop>(alloc: Global, n: NonZeroUsize) -> Result<M, AllocError> {
-    let pairs = paired(alloc, n)?;
-    let mut map = M::of_one(alloc, 0, 0)?;
-    for (key, value) in pairs {
-        map.put(key, value)?;
-    }
-    Ok(map)
+fn length<M: NonEmptyMap<u64, u64>>(map: &M) -> u64 {
+    map.size().get() as u64
 }
 
-fn collected<M: Table + Drop>(alloc: Global, n: NonZeroUsize) -> Result<M, AllocError> {
-    M::of_all(alloc, paired(alloc, n)?)
+// The number of keys of a map into which the pairs are inserted one by one.
+fn inserted<M: NonEmptyMap<u64, u64> + Drop>(
+    mut map: M,
+    alloc: Global,
+    n: NonZeroUsize,
+) -> Result<u64, AllocError> {
+    for (key, value) in paired(alloc, n)? {
+        map.put(key, value)?;
+    }
+    Ok(length(&map))
+}
+
+// The map into which the pairs are collected.
+fn pairs<M: FromNonEmptyIterator<(u64, u64)>>(
+    alloc: Global,
+    n: NonZeroUsize,
+) -> Result<M, AllocError> {
+    paired(alloc, n)?.into_nonempty_iter().collect(alloc)
 }
 
 // Looks up twice as many keys as there are, about half of them in vain.
@@ -76,10 +90,14 @@ fn look_up<M: Table>(map: &M, n: NonZeroUsize) -> u64 {
 }
 
 // The set of `n` numbers from `least` on, some of them more than once.
-fn numbers<S: Bag + Drop>(alloc: Global, n: NonZeroUsize, least: u64) -> Result<S, AllocError> {
+fn numbers<S: FromNonEmptyIterator<u64>>(
+    alloc: Global,
+    n: NonZeroUsize,
+    least: u64,
+) -> Result<S, AllocError> {
     let mut items = scrambled(alloc, n)?;
     for x in &mut items {
         *x = (*x % n.get() as u64).wrapping_add(least);
     }
-    S::of_all(alloc, items)
+    items.into_nonempty_iter().collect(alloc)
 }

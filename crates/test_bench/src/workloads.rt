@@ -1,4 +1,5 @@
 //! The workloads, each over `n` items.
+ghost use Rattle.std.specs.Iterator.{IsFiniteIterable};
 
 use crate::input::{mixed, nested, next, paired, rising, scrambled};
 use crate::{keyed, listed};
@@ -52,7 +53,9 @@ fn length_and_last(items: &NEVec<u64>) -> u64 {
     mixed(items.len().get() as u64, *items.last())
 }
 
-fn combined(items: &NEVec<u64>) -> u64 {
+fn combined<'a, I: IntoIterator<Item = &'a u64>>(items: I) -> u64
+    requires { IsFiniteIterable I.into_iter_gives I.IntoIter.can_next I.IntoIter.remaining items }
+{
     let mut checksum = 0u64;
     for x in items {
         checksum = mixed(checksum, *x);
@@ -115,11 +118,7 @@ fn chain(alloc: Global, n: NonZeroUsize) -> Result<u64, AllocError> {
         .take(n)
         .filter(|x| *x % 4 != 0)
         .collect(alloc)?;
-    let mut checksum = 0u64;
-    for x in &kept {
-        checksum = mixed(checksum, *x);
-    }
-    Ok(checksum)
+    Ok(combined(&kept))
 }
 
 fn zip_max(alloc: Global, n: NonZeroUsize) -> Result<u64, AllocError> {
@@ -174,11 +173,7 @@ fn adjacent_runs(alloc: Global, n: NonZeroUsize) -> Result<u64, AllocError> {
 
 fn flatten(alloc: Global, n: NonZeroUsize) -> Result<u64, AllocError> {
     let lists = nested(alloc, n)?;
-    let mut checksum = 0u64;
-    for x in lists.nonempty_iter().flatten() {
-        checksum = mixed(checksum, *x);
-    }
-    Ok(checksum)
+    Ok(combined(lists.nonempty_iter().flatten()))
 }
 
 fn scan(alloc: Global, n: NonZeroUsize) -> Result<u64, AllocError> {
