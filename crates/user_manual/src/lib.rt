@@ -9,6 +9,7 @@ pub mod adapters;
 pub mod any_source;
 pub mod consumers;
 pub mod joins;
+pub mod keyed;
 pub mod looks;
 pub mod mixed;
 pub mod nested;

@@ -1,0 +1,90 @@
+//! Hashed maps and sets.
+ghost use Rattle.std.specs.Prelude.{◌≡◌, ◌+◌, ◌++◌, ◌↔◌, [], ◌∷◌, map, nat_eq, IfOk, IsTrue};
+ghost use Rattle.std.specs.Prelude.{OnOk, Some};
+ghost use Rattle.std.specs.HashSet.{IsSameSet, IsUnion};
+ghost use Rattle.ne_iter.specs.Collected.{IsMapOf, IsSetOf};
+ghost use Rattle.ne_hash.specs.SameMap.{IsSameMap};
+
+use super::two;
+use nonempty_collections::{IntoNonEmptyIterator, NEMap, NESet, NEVec, NonEmptyIterator};
+use std::alloc::{AllocError, Global};
+use std::collections::{HashMap, HashSet};
+
+/// Returns the sum of each key and its value, in the order of the map.
+pub fn sums(alloc: Global, m: NEMap<u16, u16>) -> Result<NEVec<u32>, AllocError>
+    ensures { IfOk result (λ v. v ≡ map (λ p. p.0 + p.1) m.entries) }
+{
+    m.into_nonempty_iter()
+        .map(|p| u32::from(p.0) + u32::from(p.1))
+        .collect(alloc)
+}
+
+/// Returns the map of two pairs with the same key.
+pub fn pairs(alloc: Global, k: u32, first: u32, second: u32) -> Result<NEMap<u32, u32>, AllocError>
+    ensures { IfOk result (λ m. IsMapOf nat_eq ((k, first) ∷ (k, second) ∷ []) m.entries) }
+{
+    two(alloc, (k, first), (k, second))
+}
+
+/// Adds pairs to a map.
+pub fn extended(map: &mut NEMap<u32, u32>, more: NEVec<(u32, u32)>) -> Result<(), AllocError>
+    ensures { OnOk result (IsMapOf nat_eq (map.old.entries ++ more) map.new.entries) }
+{
+    map.extend(more)
+}
+
+/// Returns whether they are the same map.
+pub fn same(a: &NEMap<u32, u32>, b: &NEMap<u32, u32>) -> bool
+    ensures { IsTrue result ↔ IsSameMap nat_eq nat_eq a.now b.now }
+{
+    *a == *b
+}
+
+/// Converts a map into std's, and back.
+pub fn there_and_back(m: NEMap<u32, u32>) -> Option<NEMap<u32, u32>>
+    ensures { result ≡ Some m }
+{
+    NEMap::try_from_map(HashMap::from(m))
+}
+
+/// Returns the items of a set, in its order.
+pub fn items_by_value(alloc: Global, set: NESet<u32>) -> Result<NEVec<u32>, AllocError>
+    ensures { IfOk result (λ v. v ≡ set.keys) }
+{
+    set.into_nonempty_iter().collect(alloc)
+}
+
+/// Returns each item that is in one of two sets.
+pub fn all_of_both(alloc: Global, a: &NESet<u32>, b: &NESet<u32>) -> Result<NEVec<u32>, AllocError>
+    ensures { IfOk result (λ v. IsUnion nat_eq a.now b.now v) }
+{
+    a.union(b).copied().collect(alloc)
+}
+
+/// Returns the set of an item that is given twice.
+pub fn one_item(alloc: Global, x: u32) -> Result<NESet<u32>, AllocError>
+    ensures { IfOk result (λ s. IsSetOf nat_eq (x ∷ x ∷ []) s.keys) }
+{
+    two(alloc, x, x)
+}
+
+/// Adds items to a set.
+pub fn extended_set(set: &mut NESet<u32>, more: NEVec<u32>) -> Result<(), AllocError>
+    ensures { OnOk result (IsSetOf nat_eq (set.old.keys ++ more) set.new.keys) }
+{
+    set.extend(more)
+}
+
+/// Returns whether they are the same set.
+pub fn same_set(a: &NESet<u32>, b: &NESet<u32>) -> bool
+    ensures { IsTrue result ↔ IsSameSet nat_eq a.now b.now }
+{
+    *a == *b
+}
+
+/// Converts a set into std's, and back.
+pub fn set_there_and_back(set: NESet<u32>) -> Option<NESet<u32>>
+    ensures { result ≡ Some set }
+{
+    NESet::try_from_set(HashSet::from(set))
+}

@@ -1,0 +1,154 @@
+//! Index maps and sets.
+ghost use Rattle.std.specs.Prelude.{◌≡◌, ◌+◌, ◌/◌, ◌++◌, ◌↔◌, [], ◌∷◌, map, nat_eq, IfOk};
+ghost use Rattle.std.specs.Prelude.{IsTrue, OnOk, Some};
+ghost use Rattle.indexmap.specs.IndexMap.{get, hasher_of};
+ghost use Rattle.indexmap.specs.IndexSet.{union, IsSameSet};
+ghost use Rattle.ne_iter.specs.KeyList.{key_list, IsKeyListMapOf};
+ghost use Rattle.ne_index.specs.SameMap.{IsSameMap};
+
+use super::two;
+use indexmap::{IndexMap, IndexSet};
+use nonempty_collections::{IntoNonEmptyIterator, NEIndexMap, NEIndexSet, NEVec, NonEmptyIterator};
+use std::alloc::{AllocError, Global};
+use std::hash::BuildHasher;
+
+/// Returns the map of two keys, with any hasher, which it keeps.
+pub fn hashed_by<S: BuildHasher + Drop>(
+    alloc: Global,
+    hasher: S,
+) -> Result<NEIndexMap<u32, u32, S>, AllocError>
+    ensures entries { IfOk result (λ m. m.entries ≡ (1, 10) ∷ (2, 20) ∷ []) }
+    ensures hasher { IfOk result (λ m. hasher_of m ≡ hasher) }
+{
+    let mut map = NEIndexMap::with_hasher(alloc, hasher, 1, 10)?;
+    map.insert(2, 20)?;
+    Ok(map)
+}
+
+/// Inserts a key, which is the last one if it is new, and returns whether it is.
+pub fn put_last(map: &mut NEIndexMap<u32, u32>, k: u32, v: u32) -> Result<bool, AllocError>
+    ensures { IfOk result (λ new. IsTrue new
+        → map.new.entries ≡ map.old.entries ++ (k, v) ∷ []) }
+{
+    let old = map.insert(k, v)?;
+    Ok(old.is_none())
+}
+
+/// Returns the value of a key, by its index.
+pub fn at_its_place(map: &NEIndexMap<u32, u32>, k: u32) -> Option<u32>
+    ensures { result ≡ get nat_eq map.now k }
+{
+    match map.get_index_of(&k) {
+        Some(place) => Some(map[place]),
+        None => None,
+    }
+}
+
+/// Returns the sum of each key and its value, in the order of the map.
+pub fn sums(alloc: Global, m: NEIndexMap<u16, u16>) -> Result<NEVec<u32>, AllocError>
+    ensures { IfOk result (λ v. v ≡ map (λ p. p.0 + p.1) m.entries) }
+{
+    m.into_nonempty_iter()
+        .map(|p| u32::from(p.0) + u32::from(p.1))
+        .collect(alloc)
+}
+
+/// Returns a map from each item to its half, in the order in which the items first appear.
+pub fn numbered(alloc: Global, items: NEVec<u32>) -> Result<NEIndexMap<u32, u32>, AllocError>
+    ensures { IfOk result (λ m. IsKeyListMapOf nat_eq (map (λ x. (x, x / 2)) items) m.entries) }
+{
+    items
+        .into_nonempty_iter()
+        .map(|x| (x, x / 2))
+        .collect(alloc)
+}
+
+/// Returns the map of two pairs with the same key.
+pub fn pairs(
+    alloc: Global,
+    k: u32,
+    first: u32,
+    second: u32,
+) -> Result<NEIndexMap<u32, u32>, AllocError>
+    ensures { IfOk result (λ m. IsKeyListMapOf nat_eq ((k, first) ∷ (k, second) ∷ []) m.entries) }
+{
+    two(alloc, (k, first), (k, second))
+}
+
+/// Adds pairs to a map.
+pub fn extended(map: &mut NEIndexMap<u32, u32>, more: NEVec<(u32, u32)>) -> Result<(), AllocError>
+    ensures { OnOk result (IsKeyListMapOf nat_eq (map.old.entries ++ more) map.new.entries) }
+{
+    map.extend(more)
+}
+
+/// Returns whether they are the same map.
+pub fn same(a: &NEIndexMap<u32, u32>, b: &NEIndexMap<u32, u32>) -> bool
+    ensures { IsTrue result ↔ IsSameMap nat_eq nat_eq a.now b.now }
+{
+    *a == *b
+}
+
+/// Converts a map into that of the crate `indexmap`, and back.
+pub fn there_and_back<S: BuildHasher + Drop>(
+    m: NEIndexMap<u32, u32, S>,
+) -> Option<NEIndexMap<u32, u32, S>>
+    ensures { result ≡ Some m }
+{
+    NEIndexMap::try_from_map(IndexMap::from(m))
+}
+
+/// Returns the items of a set, in its order.
+pub fn items_by_value(alloc: Global, set: NEIndexSet<u32>) -> Result<NEVec<u32>, AllocError>
+    ensures { IfOk result (λ v. v ≡ set.keys) }
+{
+    set.into_nonempty_iter().collect(alloc)
+}
+
+/// Returns each item that is in one of two sets: those of the first, and then the others.
+pub fn all_of_both(
+    alloc: Global,
+    a: &NEIndexSet<u32>,
+    b: &NEIndexSet<u32>,
+) -> Result<NEVec<u32>, AllocError>
+    ensures { IfOk result (λ v. v ≡ union nat_eq a.now b.now) }
+{
+    a.union(b).copied().collect(alloc)
+}
+
+/// Returns the halves, each once, in the order in which they first appear.
+pub fn distinct_halves(alloc: Global, items: NEVec<u32>) -> Result<NEIndexSet<u32>, AllocError>
+    ensures { IfOk result (λ s. s.keys ≡ key_list nat_eq (map (λ x. x / 2) items)) }
+{
+    items.into_nonempty_iter().map(|x| x / 2).collect(alloc)
+}
+
+/// Returns the set of an item that is given twice.
+pub fn one_item(alloc: Global, x: u32) -> Result<NEIndexSet<u32>, AllocError>
+    ensures { IfOk result (λ s. s.keys ≡ key_list nat_eq (x ∷ x ∷ [])) }
+{
+    two(alloc, x, x)
+}
+
+/// Adds items to a set.
+pub fn extended_set(set: &mut NEIndexSet<u32>, more: NEVec<u32>) -> Result<(), AllocError>
+    ensures { OnOk result (set.new.keys ≡ key_list nat_eq (set.old.keys ++ more)) }
+{
+    set.extend(more)
+}
+
+/// Returns whether they are the same set.
+pub fn same_set(a: &NEIndexSet<u32>, b: &NEIndexSet<u32>) -> bool
+    ensures { IsTrue result ↔ IsSameSet nat_eq a.now b.now }
+{
+    *a == *b
+}
+
+/// Converts a set into that of the crate `indexmap`, and back.
+pub fn set_there_and_back<S: BuildHasher + Drop>(
+    set: NEIndexSet<u32, S>,
+) -> Option<NEIndexSet<u32, S>>
+    ensures { result ≡ Some set }
+{
+    NEIndexSet::try_from_set(IndexSet::from(set))
+}

@@ -1,0 +1,152 @@
+//! Tree maps and sets.
+ghost use Rattle.std.specs.Prelude.{◌≡◌, ◌+◌, ◌≤◌, ◌≢◌, ◌/◌, ◌++◌, ◌↔◌, [], ◌∷◌, map, nat_eq};
+ghost use Rattle.std.specs.Prelude.{All, Contains, IfOk, IsTrue, OnOk, Some};
+ghost use Rattle.std.specs.BTreeMap.{values};
+ghost use Rattle.std.specs.BTreeSet.{union, IsSameSet};
+ghost use Rattle.std.specs.Ordering.{nat_cmp};
+ghost use Rattle.ne_iter.specs.Collected.{IsMapOf, IsSetOf};
+ghost use Rattle.ne_tree.specs.SameMap.{IsSameMap};
+
+use super::two;
+use nonempty_collections::{IntoNonEmptyIterator, NEBTreeMap, NEBTreeSet, NEVec, NonEmptyIterator};
+use std::alloc::{AllocError, Global};
+use std::collections::{BTreeMap, BTreeSet};
+
+/// Returns the value of a key that was inserted.
+pub fn put_and_look_up(map: &mut NEBTreeMap<u32, u32>, k: u32, v: u32) -> Result<u32, AllocError>
+    ensures { IfOk result (λ found. found ≡ v) }
+{
+    map.insert(k, v)?;
+    match map.get(&k) {
+        Some(found) => Ok(*found),
+        None => unreachable!(),
+    }
+}
+
+/// Returns whether another key keeps its value when one is inserted.
+pub fn put_beside(
+    map: &mut NEBTreeMap<u32, u32>,
+    k: u32,
+    v: u32,
+    other: u32,
+) -> Result<bool, AllocError>
+    requires { k ≢ other }
+    ensures { IfOk result (λ same. IsTrue same) }
+{
+    let before = map.get(&other).copied();
+    map.insert(k, v)?;
+    Ok(map.get(&other).copied() == before)
+}
+
+/// Returns the greatest value.
+pub fn greatest_copy(m: &NEBTreeMap<u32, u32>) -> u32
+    ensures member { Contains (values m.now) result }
+    ensures greatest { All (λ x. x ≤ result) (values m.now) }
+{
+    m.values().copied().max()
+}
+
+/// Returns half of each value, in the order of the keys.
+pub fn halves(alloc: Global, m: &NEBTreeMap<u32, u32>) -> Result<NEVec<u32>, AllocError>
+    ensures { IfOk result (λ v. v ≡ map (λ x. x / 2) (values m.now)) }
+{
+    m.values().map(|x| *x / 2).collect(alloc)
+}
+
+/// Returns the sum of each key and its value, in the order of the keys.
+pub fn sums(alloc: Global, m: NEBTreeMap<u16, u16>) -> Result<NEVec<u32>, AllocError>
+    ensures { IfOk result (λ v. v ≡ map (λ p. p.0 + p.1) m.entries) }
+{
+    m.into_nonempty_iter()
+        .map(|p| u32::from(p.0) + u32::from(p.1))
+        .collect(alloc)
+}
+
+/// Returns a map from each item to its half.
+pub fn numbered(alloc: Global, items: NEVec<u32>) -> Result<NEBTreeMap<u32, u32>, AllocError>
+    ensures { IfOk result (λ m. IsMapOf nat_eq (map (λ x. (x, x / 2)) items) m.entries) }
+{
+    items
+        .into_nonempty_iter()
+        .map(|x| (x, x / 2))
+        .collect(alloc)
+}
+
+/// Returns the map of two pairs with the same key.
+pub fn pairs(
+    alloc: Global,
+    k: u32,
+    first: u32,
+    second: u32,
+) -> Result<NEBTreeMap<u32, u32>, AllocError>
+    ensures { IfOk result (λ m. IsMapOf nat_eq ((k, first) ∷ (k, second) ∷ []) m.entries) }
+{
+    two(alloc, (k, first), (k, second))
+}
+
+/// Adds pairs to a map.
+pub fn extended(map: &mut NEBTreeMap<u32, u32>, more: NEVec<(u32, u32)>) -> Result<(), AllocError>
+    ensures { OnOk result (IsMapOf nat_eq (map.old.entries ++ more) map.new.entries) }
+{
+    map.extend(more)
+}
+
+/// Returns whether they are the same map.
+pub fn same(a: &NEBTreeMap<u32, u32>, b: &NEBTreeMap<u32, u32>) -> bool
+    ensures { IsTrue result ↔ IsSameMap nat_cmp nat_eq a.now b.now }
+{
+    *a == *b
+}
+
+/// Converts a map into std's, and back.
+pub fn there_and_back(m: NEBTreeMap<u32, u32>) -> Option<NEBTreeMap<u32, u32>>
+    ensures { result ≡ Some m }
+{
+    NEBTreeMap::try_from_map(BTreeMap::from(m))
+}
+
+/// Returns the items of a set, ascending.
+pub fn items_by_value(alloc: Global, set: NEBTreeSet<u32>) -> Result<NEVec<u32>, AllocError>
+    ensures { IfOk result (λ v. v ≡ set.keys) }
+{
+    set.into_nonempty_iter().collect(alloc)
+}
+
+/// Returns half of each item that is in one of two sets, ascending.
+pub fn halves_of_both(
+    alloc: Global,
+    a: &NEBTreeSet<u32>,
+    b: &NEBTreeSet<u32>,
+) -> Result<NEVec<u32>, AllocError>
+    ensures { IfOk result (λ v. v ≡ map (λ x. x / 2) (union nat_cmp a.now b.now)) }
+{
+    a.union(b).map(|x| *x / 2).collect(alloc)
+}
+
+/// Returns the set of an item that is given twice.
+pub fn one_item(alloc: Global, x: u32) -> Result<NEBTreeSet<u32>, AllocError>
+    ensures { IfOk result (λ s. IsSetOf nat_eq (x ∷ x ∷ []) s.keys) }
+{
+    two(alloc, x, x)
+}
+
+/// Adds items to a set.
+pub fn extended_set(set: &mut NEBTreeSet<u32>, more: NEVec<u32>) -> Result<(), AllocError>
+    ensures { OnOk result (IsSetOf nat_eq (set.old.keys ++ more) set.new.keys) }
+{
+    set.extend(more)
+}
+
+/// Returns whether they are the same set.
+pub fn same_set(a: &NEBTreeSet<u32>, b: &NEBTreeSet<u32>) -> bool
+    ensures { IsTrue result ↔ IsSameSet nat_cmp a.now b.now }
+{
+    *a == *b
+}
+
+/// Converts a set into std's, and back.
+pub fn set_there_and_back(set: NEBTreeSet<u32>) -> Option<NEBTreeSet<u32>>
+    ensures { result ≡ Some set }
+{
+    NEBTreeSet::try_from_set(BTreeSet::from(set))
+}
