@@ -4,7 +4,6 @@ ghost use Rattle.std.specs.Prelude.{◌≡◌, ◌∷◌, [], IfOk};
 use nonempty_collections::{NEVec, nev};
 use std::alloc::{AllocError, Global};
 
-/// Of items with the same ten, the first one stays.
 pub fn dedup_by_key(alloc: Global) -> Result<NEVec<u32>, AllocError>
     ensures { IfOk result (λ v. v ≡ 41 ∷ 60 ∷ 40 ∷ []) }
 {
@@ -13,19 +12,10 @@ pub fn dedup_by_key(alloc: Global) -> Result<NEVec<u32>, AllocError>
     Ok(items)
 }
 
-/// An item that is less than the last one kept is dropped.
 pub fn dedup_by(alloc: Global) -> Result<NEVec<u32>, AllocError>
     ensures { IfOk result (λ v. v ≡ 4 ∷ 6 ∷ []) }
 {
     let mut items = nev![alloc; 4, 6, 5, 3]?;
     items.dedup_by(|later, kept| *later < *kept);
-    Ok(items)
-}
-
-/// Of equal items in a row, the first one stays. Its value is only run, as that of std's own
-/// `dedup` is not found either.
-pub fn dedup(alloc: Global) -> Result<NEVec<u32>, AllocError> {
-    let mut items = nev![alloc; 7u32, 7, 0, 12, 12, 35, 4294967295]?;
-    items.dedup();
     Ok(items)
 }

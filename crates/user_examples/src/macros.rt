@@ -1,10 +1,9 @@
-//! The examples of the macros of `ne_vec`.
-ghost use Rattle.std.specs.Prelude.{◌≡◌, ◌∷◌, [], IfOk};
+//! The examples of the macros.
+ghost use Rattle.std.specs.Prelude.{◌≡◌, ◌∷◌, [], IfOk, Some};
 
-use nonempty_collections::{NEVec, nev};
+use nonempty_collections::{NEIndexMap, NEVec, ne_indexmap, nebtm, nebts, nem, nes, nev};
 use std::alloc::{AllocError, Global};
 
-/// Vectors of several items, of one, and of one repeated.
 pub fn nev(alloc: Global) -> Result<(NEVec<u32>, NEVec<u32>, NEVec<u32>), AllocError>
     ensures several { IfOk result (λ r. r.0 ≡ 7 ∷ 5 ∷ 9 ∷ []) }
     ensures one { IfOk result (λ r. r.1 ≡ 7 ∷ []) }
@@ -14,4 +13,45 @@ pub fn nev(alloc: Global) -> Result<(NEVec<u32>, NEVec<u32>, NEVec<u32>), AllocE
     let one = nev![alloc; 7]?;
     let same = nev![alloc; 7; 4]?;
     Ok((three, one, same))
+}
+
+pub fn nebtm(alloc: Global) -> Result<(Option<u32>, Option<u32>), AllocError>
+    ensures one { IfOk result (λ r. r.0 ≡ Some 30) }
+    ensures two { IfOk result (λ r. r.1 ≡ Some 20) }
+{
+    let map = nebtm![alloc; 1 => 10, 2 => 20, 1 => 30]?;
+    let (one, two) = (map.get(&1), map.get(&2));
+    Ok((one.copied(), two.copied()))
+}
+
+pub fn nebts(alloc: Global) -> Result<usize, AllocError>
+    ensures { IfOk result (λ len. len ≡ 2) }
+{
+    let set = nebts![alloc; 2, 1, 2]?;
+    let len = set.len().get();
+    Ok(len)
+}
+
+pub fn nem(alloc: Global) -> Result<(Option<u32>, Option<u32>), AllocError>
+    ensures one { IfOk result (λ r. r.0 ≡ Some 30) }
+    ensures two { IfOk result (λ r. r.1 ≡ Some 20) }
+{
+    let map = nem![alloc; 1 => 10, 2 => 20, 1 => 30]?;
+    let (one, two) = (map.get(&1), map.get(&2));
+    Ok((one.copied(), two.copied()))
+}
+
+pub fn nes(alloc: Global) -> Result<usize, AllocError>
+    ensures { IfOk result (λ len. len ≡ 2) }
+{
+    let set = nes![alloc; 2, 1, 2]?;
+    let len = set.len().get();
+    Ok(len)
+}
+
+pub fn ne_indexmap(alloc: Global) -> Result<NEIndexMap<u32, u32>, AllocError>
+    ensures { IfOk result (λ m. m.entries ≡ (2, 10) ∷ (1, 11) ∷ []) }
+{
+    let map = ne_indexmap![alloc; 2 => 10, 1 => 11]?;
+    Ok(map)
 }

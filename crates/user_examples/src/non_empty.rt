@@ -2,30 +2,8 @@
 //!
 //! If the check does not find a value by itself, one clause says it by a function of the list `xs`,
 //! and another one what that is.
-ghost use Rattle.std.specs.Prelude.{
-  ◌≡◌,
-  ◌∷◌,
-  [],
-  ◌+◌,
-  ◌*◌,
-  ◌/◌,
-  ◌%◌,
-  ◌^◌,
-  ◌==◌,
-  List,
-  ℕ,
-  IfOk,
-  None,
-  Ok,
-  Some,
-  false,
-  true,
-  map,
-  filter,
-  fold,
-  drop,
-  nat_eq,
-};
+ghost use Rattle.std.specs.Prelude.{◌≡◌, ◌∷◌, [], ◌+◌, ◌*◌, ◌/◌, ◌%◌, ◌^◌, ◌==◌, List, ℕ, IfOk};
+ghost use Rattle.std.specs.Prelude.{None, Ok, Some, false, true, map, filter, fold, drop, nat_eq};
 ghost use Rattle.std.specs.Bool.{then_some};
 ghost use Rattle.std.specs.List.{scan, filter_map, flat_map, prefix_len, reduce, take_while, zip};
 ghost use Rattle.std.specs.Ordering.{nat_cmp};
@@ -37,7 +15,6 @@ use nonempty_collections::{IntoNonEmptyIterator, NEVec, NonEmptyIterator, nev};
 use std::alloc::{AllocError, Global};
 use std::num::{NonZeroUsize, Wrapping};
 
-/// The halves of an array's items.
 pub fn halves(alloc: Global) -> Result<NEVec<u32>, AllocError>
     ensures items { IfOk result (λ halves. (xs : List ℕ) → xs ≡ 3 ∷ 1 ∷ 2 ∷ []
         → halves ≡ map (λ x. x / 2) xs) }
@@ -48,7 +25,6 @@ pub fn halves(alloc: Global) -> Result<NEVec<u32>, AllocError>
     Ok(halves)
 }
 
-/// The first item, and then std's iterator over the others.
 pub fn next(alloc: Global) -> Result<(u32, Option<u32>, Option<u32>), AllocError>
     ensures { IfOk result (λ r. (r.0 ≡ 4) × (r.1 ≡ Some 6) × (r.2 ≡ None)) }
 {
@@ -58,7 +34,6 @@ pub fn next(alloc: Global) -> Result<(u32, Option<u32>, Option<u32>), AllocError
     Ok((*first, second.copied(), end.copied()))
 }
 
-/// The first item, which stays in the source.
 pub fn peekable(alloc: Global) -> Result<u32, AllocError>
     ensures { IfOk result (λ first. first ≡ 4) }
 {
@@ -67,7 +42,6 @@ pub fn peekable(alloc: Global) -> Result<u32, AllocError>
     Ok(first)
 }
 
-/// All items meet the test.
 pub fn all(alloc: Global) -> Result<bool, AllocError>
     ensures { IfOk result (λ even. even ≡ true) }
 {
@@ -75,7 +49,6 @@ pub fn all(alloc: Global) -> Result<bool, AllocError>
     Ok(even)
 }
 
-/// No item meets the test.
 pub fn any(alloc: Global) -> Result<bool, AllocError>
     ensures { IfOk result (λ found. found ≡ false) }
 {
@@ -83,7 +56,6 @@ pub fn any(alloc: Global) -> Result<bool, AllocError>
     Ok(found)
 }
 
-/// The items of one vector, and those of another.
 pub fn chain(alloc: Global) -> Result<NEVec<u32>, AllocError>
     ensures { IfOk result (λ all. all ≡ 4 ∷ 6 ∷ 8 ∷ 9 ∷ []) }
 {
@@ -92,7 +64,6 @@ pub fn chain(alloc: Global) -> Result<NEVec<u32>, AllocError>
     Ok(all)
 }
 
-/// A clone of each item.
 pub fn cloned(alloc: Global) -> Result<Result<NEVec<u32>, AllocError>, AllocError>
     ensures { IfOk result (λ clones. clones ≡ Ok (1 ∷ 2 ∷ [])) }
 {
@@ -101,7 +72,6 @@ pub fn cloned(alloc: Global) -> Result<Result<NEVec<u32>, AllocError>, AllocErro
     clones.collect(alloc)
 }
 
-/// The items in a vector.
 pub fn collect(alloc: Global) -> Result<NEVec<u32>, AllocError>
     ensures { IfOk result (λ same. same ≡ 4 ∷ 6 ∷ 8 ∷ []) }
 {
@@ -110,7 +80,6 @@ pub fn collect(alloc: Global) -> Result<NEVec<u32>, AllocError>
     Ok(same)
 }
 
-/// A copy of each item.
 pub fn copied(alloc: Global) -> Result<NEVec<u32>, AllocError>
     ensures { IfOk result (λ copies. copies ≡ 4 ∷ 6 ∷ 8 ∷ []) }
 {
@@ -119,7 +88,6 @@ pub fn copied(alloc: Global) -> Result<NEVec<u32>, AllocError>
     Ok(copies)
 }
 
-/// The number of items.
 pub fn count(alloc: Global) -> Result<usize, AllocError>
     ensures { IfOk result (λ count. count ≡ 3) }
 {
@@ -127,7 +95,6 @@ pub fn count(alloc: Global) -> Result<usize, AllocError>
     Ok(count)
 }
 
-/// The items with their indices.
 pub fn enumerate(alloc: Global) -> Result<NEVec<(usize, char)>, AllocError>
     ensures { IfOk result (λ pairs. pairs ≡ (0, 97) ∷ (1, 98) ∷ []) }
 {
@@ -135,7 +102,6 @@ pub fn enumerate(alloc: Global) -> Result<NEVec<(usize, char)>, AllocError>
     pairs.collect(alloc)
 }
 
-/// The items that meet a test.
 pub fn filter(alloc: Global) -> Result<Vec<u32>, AllocError>
     ensures items { IfOk result (λ fours. (xs : List ℕ) → xs ≡ 4 ∷ 6 ∷ 8 ∷ []
         → fours.items ≡ filter (λ x. x % 4 == 0) xs) }
@@ -146,7 +112,6 @@ pub fn filter(alloc: Global) -> Result<Vec<u32>, AllocError>
     Ok(fours)
 }
 
-/// The halves of the even items.
 pub fn filter_map(alloc: Global) -> Result<Vec<u32>, AllocError>
     ensures items { IfOk result (λ halves. (xs : List ℕ) → xs ≡ 2 ∷ 3 ∷ 4 ∷ []
         → halves.items ≡ filter_map (λ x. then_some (x % 2 == 0) (x / 2)) xs) }
@@ -158,7 +123,6 @@ pub fn filter_map(alloc: Global) -> Result<Vec<u32>, AllocError>
     halves.collect(alloc)
 }
 
-/// The first item that meets a test.
 pub fn find(alloc: Global) -> Result<Option<u32>, AllocError>
     ensures { IfOk result (λ even. even ≡ Some 2) }
 {
@@ -168,15 +132,6 @@ pub fn find(alloc: Global) -> Result<Option<u32>, AllocError>
     Ok(even)
 }
 
-/// Each item, followed by its half. Its value is only run, as that of std's own `flat_map` of
-/// arrays is not found either.
-pub fn flat_map(alloc: Global) -> Result<NEVec<u32>, AllocError> {
-    let items = nev![alloc; 3, 1, 4, 1, 5, 9, 2, 6]?.into_nonempty_iter();
-    let all: NEVec<u32> = items.flat_map(|x| [x, x / 2]).collect(alloc)?;
-    Ok(all)
-}
-
-/// The items of two vectors.
 pub fn flatten(alloc: Global) -> Result<NEVec<u32>, AllocError>
     ensures items { IfOk result (λ items. (xs : List (List ℕ))
         → xs ≡ (1 ∷ 2 ∷ []) ∷ (3 ∷ []) ∷ [] → items ≡ flat_map (λ list. list) xs) }
@@ -189,7 +144,6 @@ pub fn flatten(alloc: Global) -> Result<NEVec<u32>, AllocError>
     items.collect(alloc)
 }
 
-/// The number that has the items as its digits.
 pub fn fold(alloc: Global) -> Result<u32, AllocError>
     ensures digits { IfOk result (λ number. (xs : List ℕ) → xs ≡ 4 ∷ 6 ∷ 8 ∷ []
         → number ≡ fold (λ n x. (n * 10 % 2 ^ 32 + x) % 2 ^ 32) 0 xs) }
@@ -200,8 +154,7 @@ pub fn fold(alloc: Global) -> Result<u32, AllocError>
     Ok(number)
 }
 
-/// The runs of items with the same half: they are the division by it, the only one that there is.
-/// Their list is only run.
+/// The runs are the one division by the halves. Their list is only run.
 pub fn group_by(alloc: Global) -> Result<Result<NEVec<NEVec<u32>>, AllocError>, AllocError>
     ensures { IfOk result (λ runs. IfOk runs
         (λ rs. IsDividedBy (λ x. x / 2) nat_eq (3 ∷ 2 ∷ 1 ∷ []) rs)) }
@@ -213,7 +166,6 @@ pub fn group_by(alloc: Global) -> Result<Result<NEVec<NEVec<u32>>, AllocError>, 
     Ok(runs)
 }
 
-/// The halves with a separator between them.
 pub fn intersperse(alloc: Global) -> Result<Result<NEVec<u32>, AllocError>, AllocError>
     ensures items { IfOk result (λ items. IfOk items (λ v. (xs : List ℕ) → xs ≡ 4 ∷ 6 ∷ []
         → v ≡ interspersed 0 (map (λ x. x / 2) xs))) }
@@ -224,7 +176,6 @@ pub fn intersperse(alloc: Global) -> Result<Result<NEVec<u32>, AllocError>, Allo
     items.collect(alloc)
 }
 
-/// One more than each item.
 pub fn map(alloc: Global) -> Result<NEVec<u32>, AllocError>
     ensures { IfOk result (λ items. items ≡ 5 ∷ 7 ∷ 9 ∷ []) }
 {
@@ -235,7 +186,6 @@ pub fn map(alloc: Global) -> Result<NEVec<u32>, AllocError>
     Ok(items)
 }
 
-/// The greatest item.
 pub fn max(alloc: Global) -> Result<u32, AllocError>
     ensures { IfOk result (λ greatest. greatest ≡ 8) }
 {
@@ -243,17 +193,6 @@ pub fn max(alloc: Global) -> Result<u32, AllocError>
     Ok(greatest)
 }
 
-/// The first of the items with the greatest half, by a comparison. Its value is only run, as that
-/// of std's own `max_by` is not found either.
-pub fn max_by(alloc: Global) -> Result<(usize, u32), AllocError> {
-    let items = nev![alloc; 3, 1, 4, 1, 5, 9, 2, 6]?
-        .into_nonempty_iter()
-        .enumerate();
-    let greatest = items.max_by(|x, y| (x.1 / 2).cmp(&(y.1 / 2)));
-    Ok(greatest)
-}
-
-/// The item with the greatest half, by the halves as keys.
 pub fn max_by_key(alloc: Global) -> Result<u32, AllocError>
     ensures { IfOk result (λ greatest. greatest ≡ 9) }
 {
@@ -262,7 +201,6 @@ pub fn max_by_key(alloc: Global) -> Result<u32, AllocError>
     Ok(greatest)
 }
 
-/// The least item.
 pub fn min(alloc: Global) -> Result<u32, AllocError>
     ensures { IfOk result (λ least. least ≡ 4) }
 {
@@ -270,17 +208,6 @@ pub fn min(alloc: Global) -> Result<u32, AllocError>
     Ok(least)
 }
 
-/// The first of the items with the least half, by a comparison. Its value is only run, as that of
-/// std's own `min_by` is not found either.
-pub fn min_by(alloc: Global) -> Result<(usize, u32), AllocError> {
-    let items = nev![alloc; 3, 1, 4, 1, 5, 9, 2, 6]?
-        .into_nonempty_iter()
-        .enumerate();
-    let least = items.min_by(|x, y| (x.1 / 2).cmp(&(y.1 / 2)));
-    Ok(least)
-}
-
-/// The item with the least half, by the halves as keys.
 pub fn min_by_key(alloc: Global) -> Result<u32, AllocError>
     ensures { IfOk result (λ least. least ≡ 2) }
 {
@@ -289,8 +216,7 @@ pub fn min_by_key(alloc: Global) -> Result<u32, AllocError>
     Ok(least)
 }
 
-/// The items in the order of their halves. Their list is only run, as that of std's own sort is not
-/// found either.
+/// Which list it is, is only run.
 pub fn sorted_by_key(alloc: Global) -> Result<NEVec<(usize, u32)>, AllocError>
     ensures { IfOk result (λ v. KeysAscend (λ x. x.1 / 2) nat_cmp v) }
 {
@@ -301,7 +227,6 @@ pub fn sorted_by_key(alloc: Global) -> Result<NEVec<(usize, u32)>, AllocError>
     sorted.collect(alloc)
 }
 
-/// The item at an index, if there is one.
 pub fn nth(alloc: Global) -> Result<(Option<u32>, Option<u32>), AllocError>
     ensures { IfOk result (λ r. (r.0 ≡ Some 8) × (r.1 ≡ None)) }
 {
@@ -311,7 +236,6 @@ pub fn nth(alloc: Global) -> Result<(Option<u32>, Option<u32>), AllocError>
     Ok((third, fourth))
 }
 
-/// The totals so far.
 pub fn scan(alloc: Global) -> Result<NEVec<u32>, AllocError>
     ensures totals { IfOk result (λ sums. (xs : List ℕ) → xs ≡ 1 ∷ 2 ∷ 3 ∷ []
         → sums ≡ scan (λ t x. (t + x) % 2 ^ 32) (λ t x. (t + x) % 2 ^ 32) 0 xs) }
@@ -326,7 +250,6 @@ pub fn scan(alloc: Global) -> Result<NEVec<u32>, AllocError>
     sums.collect(alloc)
 }
 
-/// All items but the first two.
 pub fn skip(alloc: Global) -> Result<Vec<u32>, AllocError>
     ensures { IfOk result (λ rest. rest.items ≡ 4 ∷ 1 ∷ 5 ∷ 9 ∷ 2 ∷ 6 ∷ []) }
 {
@@ -335,7 +258,6 @@ pub fn skip(alloc: Global) -> Result<Vec<u32>, AllocError>
     Ok(rest)
 }
 
-/// The items from the first one that does not meet a test.
 pub fn skip_while(alloc: Global) -> Result<Vec<u32>, AllocError>
     ensures items { IfOk result (λ rest. (xs : List ℕ) → xs ≡ 2 ∷ 4 ∷ 7 ∷ 8 ∷ 9 ∷ []
         → rest.items ≡ drop (prefix_len (λ x. x % 2 == 0) xs) xs) }
@@ -347,7 +269,6 @@ pub fn skip_while(alloc: Global) -> Result<Vec<u32>, AllocError>
     Ok(rest)
 }
 
-/// The sum of the items.
 pub fn sum(alloc: Global) -> Result<u32, AllocError>
     ensures { IfOk result (λ sum. sum ≡ 18) }
 {
@@ -355,7 +276,6 @@ pub fn sum(alloc: Global) -> Result<u32, AllocError>
     Ok(sum)
 }
 
-/// The first two items.
 pub fn take(alloc: Global) -> Result<NEVec<u32>, AllocError>
     ensures { IfOk result (λ items. items ≡ 4 ∷ 6 ∷ []) }
 {
@@ -364,7 +284,6 @@ pub fn take(alloc: Global) -> Result<NEVec<u32>, AllocError>
     items.collect(alloc)
 }
 
-/// The items before the first one that does not meet a test.
 pub fn take_while(alloc: Global) -> Result<Vec<u32>, AllocError>
     ensures items { IfOk result (λ front. (xs : List ℕ) → xs ≡ 2 ∷ 4 ∷ 7 ∷ 8 ∷ 9 ∷ []
         → front.items ≡ take_while (λ x. x % 2 == 0) xs) }
@@ -375,7 +294,6 @@ pub fn take_while(alloc: Global) -> Result<Vec<u32>, AllocError>
     Ok(front)
 }
 
-/// The product of the items.
 pub fn product(alloc: Global) -> Result<u32, AllocError>
     ensures { IfOk result (λ product. product ≡ 24) }
 {
@@ -384,7 +302,6 @@ pub fn product(alloc: Global) -> Result<u32, AllocError>
     Ok(product.0)
 }
 
-/// The pairs of the items of two vectors.
 pub fn zip(alloc: Global) -> Result<NEVec<(u32, u32)>, AllocError>
     ensures items { IfOk result (λ pairs. (xs ys : List ℕ) → xs ≡ 7 ∷ 8 ∷ 9 ∷ [] → ys ≡ 1 ∷ 2 ∷ []
         → pairs ≡ zip xs ys) }
@@ -396,17 +313,6 @@ pub fn zip(alloc: Global) -> Result<NEVec<(u32, u32)>, AllocError>
     pairs.collect(alloc)
 }
 
-/// The halves in one vector, and the items in another. Its value is only run, as that of std's own
-/// `unzip` is not found either.
-pub fn unzip(alloc: Global) -> Result<(NEVec<u32>, NEVec<u32>), AllocError> {
-    let pairs = nev![alloc; 3, 1, 4, 1, 5, 9, 2, 6]?
-        .into_nonempty_iter()
-        .map(|x| (x / 2, x));
-    let (halves, items): (NEVec<u32>, NEVec<u32>) = pairs.unzip(alloc)?;
-    Ok((halves, items))
-}
-
-/// The number that has the items as its digits, from the first one on.
 pub fn reduce(alloc: Global) -> Result<u32, AllocError>
     ensures digits { IfOk result (λ number. (xs : List ℕ) → xs ≡ 1 ∷ 2 ∷ 3 ∷ []
         → Some number ≡ reduce (λ n x. (n * 10 % 2 ^ 32 + x) % 2 ^ 32) xs) }

@@ -4,16 +4,6 @@ ghost use Rattle.std.specs.Prelude.{◌≡◌, ◌∷◌, [], IfOk};
 use nonempty_collections::{IntoNonEmptyIterator, NEVec, NonEmptyIterator, nev};
 use std::alloc::{AllocError, Global};
 
-/// The first item, which stays in the source.
-pub fn peek(alloc: Global) -> Result<u32, AllocError>
-    ensures { IfOk result (λ first. first ≡ 4) }
-{
-    let items = nev![alloc; 4, 6, 8]?.into_nonempty_iter().peekable();
-    let first = *items.peek();
-    Ok(first)
-}
-
-/// The first item is changed.
 pub fn peek_mut(alloc: Global) -> Result<NEVec<u32>, AllocError>
     ensures { IfOk result (λ v. v ≡ 5 ∷ 1 ∷ 4 ∷ 1 ∷ 5 ∷ 9 ∷ 2 ∷ 6 ∷ []) }
 {

@@ -7,7 +7,6 @@ use nonempty_collections::{NESlice, NEVec, NonEmptyIterator, nev};
 use std::alloc::{AllocError, Global};
 use std::num::NonZeroUsize;
 
-/// The first and the last item of a slice.
 pub fn ends(alloc: Global) -> Result<(u32, u32), AllocError>
     ensures { IfOk result (λ r. (r.0 ≡ 4) × (r.1 ≡ 8)) }
 {
@@ -17,7 +16,6 @@ pub fn ends(alloc: Global) -> Result<(u32, u32), AllocError>
     Ok((first, last))
 }
 
-/// The first item.
 pub fn first(alloc: Global) -> Result<u32, AllocError>
     ensures { IfOk result (λ first. first ≡ 4) }
 {
@@ -26,7 +24,6 @@ pub fn first(alloc: Global) -> Result<u32, AllocError>
     Ok(first)
 }
 
-/// The last item.
 pub fn last(alloc: Global) -> Result<u32, AllocError>
     ensures { IfOk result (λ last. last ≡ 8) }
 {
@@ -35,7 +32,6 @@ pub fn last(alloc: Global) -> Result<u32, AllocError>
     Ok(last)
 }
 
-/// A slice with items is converted, and an empty one is not.
 pub fn try_from_slice(alloc: Global) -> Result<(NEVec<u32>, bool), AllocError>
     ensures some { IfOk result (λ r. r.0 ≡ 5 ∷ 9 ∷ 2 ∷ []) }
     ensures none { IfOk result (λ r. r.1 ≡ true) }
@@ -50,7 +46,6 @@ pub fn try_from_slice(alloc: Global) -> Result<(NEVec<u32>, bool), AllocError>
     ))
 }
 
-/// The number of items.
 pub fn len(alloc: Global) -> Result<usize, AllocError>
     ensures { IfOk result (λ len. len ≡ 8) }
 {
@@ -59,7 +54,6 @@ pub fn len(alloc: Global) -> Result<usize, AllocError>
     Ok(len)
 }
 
-/// An iterator over the items.
 pub fn nonempty_iter(alloc: Global) -> Result<Vec<u32>, AllocError>
     ensures { IfOk result (λ same. same.items ≡ 3 ∷ 1 ∷ 4 ∷ 1 ∷ 5 ∷ 9 ∷ 2 ∷ 6 ∷ []) }
 {
@@ -69,7 +63,7 @@ pub fn nonempty_iter(alloc: Global) -> Result<Vec<u32>, AllocError>
     Ok(same)
 }
 
-/// The number of the chunks of two items, and the length of each of them.
+/// The items of the chunks are only run.
 pub fn nonempty_chunks(alloc: Global) -> Result<(usize, usize, usize), AllocError>
     ensures count { IfOk result (λ r. r.0 ≡ 2) }
     ensures first { IfOk result (λ r. r.1 ≡ 2) }
@@ -86,8 +80,7 @@ pub fn nonempty_chunks(alloc: Global) -> Result<(usize, usize, usize), AllocErro
     ))
 }
 
-/// The lengths of the runs of items that are near their run's first item. The numbers are only run,
-/// as those of std's own `chunk_by` are not found either.
+/// The numbers are only run.
 pub fn runs_by(alloc: Global) -> Result<NEVec<usize>, AllocError>
     ensures { IfOk result (λ r. (xs : List ℕ) → xs ≡ 1 ∷ 2 ∷ 3 ∷ []
         → r ≡ map (λ c. length c) (runs_of by_first (λ a b. ltb (abs_diff a b) 2) xs)) }
@@ -98,8 +91,7 @@ pub fn runs_by(alloc: Global) -> Result<NEVec<usize>, AllocError>
     runs.map(|c| c.len().get()).collect(alloc)
 }
 
-/// The lengths of the runs of items that are near the item before them. The numbers are only run,
-/// as those of std's own `chunk_by` are not found either.
+/// The numbers are only run.
 pub fn adjacent_runs(alloc: Global) -> Result<NEVec<usize>, AllocError>
     ensures { IfOk result (λ r. (xs : List ℕ) → xs ≡ 1 ∷ 2 ∷ 3 ∷ []
         → r ≡ map (λ c. length c) (runs_of by_previous (λ a b. ltb (abs_diff a b) 2) xs)) }
@@ -110,7 +102,6 @@ pub fn adjacent_runs(alloc: Global) -> Result<NEVec<usize>, AllocError>
     runs.map(|c| c.len().get()).collect(alloc)
 }
 
-/// An item by its index.
 pub fn index(alloc: Global) -> Result<u32, AllocError>
     ensures { IfOk result (λ third. third ≡ 4) }
 {

@@ -6,7 +6,6 @@
 #![tactic(auto)]
 
 mod any_source;
-mod call_examples;
 pub mod hashers;
 mod inner_sources;
 mod map_calls;
@@ -21,7 +20,6 @@ mod vector_calls;
 pub mod vectors;
 
 pub use any_source::{first_items, greatest, halves, joined, small};
-pub use call_examples::{calls_on_a_map, calls_on_a_vector, first_run};
 pub use inner_sources::{spread, spread_countdown, spread_pairs};
 pub use map_calls::{
     any_calls, count_and_put, no_calls, put_and_ask, put_twice, write_and_ask, write_there,

@@ -1,48 +1,19 @@
-//! Each consumer.
-ghost use Rattle.std.specs.Prelude.{
-  ◌≡◌,
-  ◌/◌,
-  ◌%◌,
-  ◌+◌,
-  ◌++◌,
-  ◌<◌,
-  ◌≤◌,
-  ◌^◌,
-  map,
-  sum,
-  length,
-  slice_get,
-  Some,
-  Ok,
-  Err,
-  IfOk,
-  IfSome,
-  IsPermutation,
-  IsTrue,
-  MatchResult,
-  nat_eq,
-  ltb,
-  eqb,
-  cond,
-};
-ghost use Rattle.std.specs.List.{All, Contains, find, fold, list_all, list_any};
-ghost use Rattle.std.specs.List.{reduce as list_reduce};
+//! Consumers, and a search in a sorted vector.
+ghost use Rattle.std.specs.Prelude.{◌≡◌, ◌/◌, ◌%◌, ◌+◌, ◌++◌, ◌<◌, ◌≤◌, ◌^◌, map, sum, length};
+ghost use Rattle.std.specs.Prelude.{Ok, Err, IfOk, IfSome, IsPermutation, IsSorted, IsTrue, Some};
+ghost use Rattle.std.specs.Prelude.{from_bits, slice_get, MatchResult, nat_eq, ltb, cond};
+ghost use Rattle.std.specs.List.{All, Contains, fold, list_all};
+ghost use lib.Ieee as Ieee;
+ghost use lib.Ieee.{binary64};
 ghost use Rattle.std.specs.Int.NonZero.{non_zero_usize_get};
 ghost use Rattle.std.specs.Ordering.{nat_cmp};
-ghost use Rattle.ne_iter.specs.Collected.{IsMapOf, values_or_first_err};
+ghost use Rattle.ne_iter.specs.Collected.{IsSetOf, values_or_first_err};
 ghost use Rattle.ne_iter.specs.KeyOrder.{KeepsTies, KeysAscend};
 
 use nonempty_collections::{IntoNonEmptyIterator, NEVec, NonEmptyIterator};
 use std::alloc::{AllocError, Global};
-use std::collections::BTreeMap;
+use std::collections::HashSet;
 use std::num::NonZeroUsize;
-
-/// Returns how many items there are.
-pub fn how_many(items: &NEVec<u32>) -> NonZeroUsize
-    ensures { non_zero_usize_get result ≡ length items.now }
-{
-    items.nonempty_iter().count()
-}
 
 /// Returns the sum of the halves.
 pub fn sum_of_halves(items: NEVec<u32>) -> u32
@@ -50,22 +21,6 @@ pub fn sum_of_halves(items: NEVec<u32>) -> u32
     ensures { result ≡ sum (map (λ x. x / 2) items) }
 {
     items.into_nonempty_iter().map(|x| x / 2).sum()
-}
-
-/// Returns the greatest item.
-pub fn greatest(items: &NEVec<u32>) -> u32
-    ensures among { Contains items.now result }
-    ensures bound { All (λ x. x ≤ result) items.now }
-{
-    items.nonempty_iter().copied().max()
-}
-
-/// Returns the least item.
-pub fn least(items: &NEVec<u32>) -> u32
-    ensures among { Contains items.now result }
-    ensures bound { All (λ x. result ≤ x) items.now }
-{
-    items.nonempty_iter().copied().min()
 }
 
 /// Returns the greatest half.
@@ -76,47 +31,11 @@ pub fn greatest_half(items: &NEVec<u32>) -> u32
     items.nonempty_iter().map(|x| *x / 2).max()
 }
 
-/// Returns an item whose last digit is the greatest.
-pub fn greatest_digit(items: NEVec<u32>) -> u32
-    ensures among { Contains items result }
-    ensures bound { All (λ k. k ≤ result % 10) (map (λ x. x % 10) items) }
-{
-    items.into_nonempty_iter().max_by_key(|x| *x % 10)
-}
-
-/// Folds the items to a total.
-pub fn folded(items: NEVec<u32>) -> u32
-    ensures { result ≡ fold (λ a x. x / 2) 0 items }
-{
-    items.into_nonempty_iter().fold(0, |a, x| x / 2)
-}
-
-/// Folds the items from the first one.
-pub fn reduced(items: NEVec<u32>) -> u32
-    ensures { Some result ≡ list_reduce (λ a x. x / 2) items }
-{
-    items.into_nonempty_iter().reduce(|a, x| x / 2)
-}
-
 /// Returns whether all items are below 10.
 pub fn all_small(items: NEVec<u32>) -> bool
     ensures { result ≡ list_all (λ x. ltb x 10) items }
 {
     items.into_nonempty_iter().all(|x| x < 10)
-}
-
-/// Returns the first item below 10.
-pub fn some_small(items: NEVec<u32>) -> Option<u32>
-    ensures { result ≡ find (λ x. ltb x 10) items }
-{
-    items.into_nonempty_iter().find(|x| *x < 10)
-}
-
-/// Returns the item at index `n`.
-pub fn item_at(items: NEVec<u32>, n: usize) -> Option<u32>
-    ensures { result ≡ slice_get items n }
-{
-    items.into_nonempty_iter().nth(n)
 }
 
 /// Returns the items, and their halves.
@@ -126,29 +45,11 @@ pub fn parted(alloc: Global, items: NEVec<u32>) -> Result<(NEVec<u32>, NEVec<u32
     items.into_nonempty_iter().map(|x| (x, x / 2)).unzip(alloc)
 }
 
-/// Returns a map from each item to its half.
-pub fn table(alloc: Global, items: NEVec<u32>) -> Result<BTreeMap<u32, u32>, AllocError>
-    ensures { IfOk result (λ m. IsMapOf nat_eq (map (λ x. (x, x / 2)) items) m.entries) }
-{
-    items
-        .into_nonempty_iter()
-        .map(|x| (x, x / 2))
-        .collect(alloc)
-}
-
 /// Returns how many items two vectors have together.
 pub fn how_many_of_both(items: NEVec<u32>, others: NEVec<u32>) -> NonZeroUsize
     ensures { non_zero_usize_get result ≡ length items + length others }
 {
     items.into_nonempty_iter().chain(others).count()
-}
-
-/// Returns the sum of the items of two vectors.
-pub fn sum_of_both(items: NEVec<u32>, others: NEVec<u32>) -> u32
-    requires { sum (items ++ others) < 2 ^ 32 }
-    ensures { result ≡ sum (items ++ others) }
-{
-    items.into_nonempty_iter().chain(others).sum()
 }
 
 /// Returns the greatest item of two borrowed vectors.
@@ -161,28 +62,6 @@ pub fn greatest_of_two(items: &NEVec<u32>, others: &NEVec<u32>) -> u32
         .chain(others.nonempty_iter())
         .copied()
         .max()
-}
-
-/// Returns the greatest item of two vectors.
-pub fn greatest_of_both(items: NEVec<u32>, others: NEVec<u32>) -> u32
-    ensures among { Contains (items ++ others) result }
-    ensures bound { All (λ x. x ≤ result) (items ++ others) }
-{
-    items.into_nonempty_iter().chain(others).max()
-}
-
-/// Returns the first item.
-pub fn first_of(items: NEVec<u32>) -> u32
-    ensures { Contains items result }
-{
-    items.into_nonempty_iter().next().0
-}
-
-/// Returns whether any item is 3.
-pub fn any_three(items: NEVec<u32>) -> bool
-    ensures { result ≡ list_any (λ x. eqb x 3) items }
-{
-    items.into_nonempty_iter().any(|x| x == 3)
 }
 
 /// Returns the items, or the first one that is 10 or more.
@@ -219,4 +98,27 @@ pub fn by_digit(alloc: Global, items: NEVec<u32>) -> Result<NEVec<u32>, AllocErr
         .into_nonempty_iter()
         .sorted_by_key(alloc, |x| *x % 10)?
         .collect(alloc)
+}
+
+/// Returns a hash set of the items.
+pub fn hash_set(alloc: Global, items: NEVec<u32>) -> Result<HashSet<u32>, AllocError>
+    ensures { IfOk result (λ s. IsSetOf nat_eq items s.keys) }
+{
+    items.into_nonempty_iter().collect(alloc)
+}
+
+/// Returns the product of floats, where each partial product is rounded.
+pub fn product_of_floats(numbers: NEVec<f64>) -> f64
+    ensures { result ≡ fold (λ a x. Ieee.mul binary64 a x)
+        (from_bits binary64 0x3ff0_0000_0000_0000) numbers }
+{
+    numbers.into_nonempty_iter().product()
+}
+
+/// Returns the index of an item in a sorted vector, if it is there.
+pub fn place_of(items: &NEVec<u32>, x: u32) -> Result<usize, usize>
+    requires { IsSorted nat_cmp items.now }
+    ensures { IfOk result (λ i. slice_get items.now i ≡ Some x) }
+{
+    items.binary_search(&x)
 }

@@ -26,21 +26,6 @@ pub fn joined<'a>(
         .collect::<Result<String, AllocError>>(alloc)?
 }
 
-/// Returns the names of a vector, by value, as one text.
-pub fn joined_by_value<'a>(
-    alloc: Global,
-    names: NEVec<&'a str>,
-    separator: &'a str,
-) -> Result<String, AllocError>
-    ensures { IfOk result (λ text.
-        string_bytes text ≡ join_by (λ t. t.now) separator.now names.entry) }
-{
-    names
-        .into_nonempty_iter()
-        .intersperse(separator)
-        .collect::<Result<String, AllocError>>(alloc)?
-}
-
 /// Returns the first `n` names as one text.
 pub fn first_joined<'a>(
     alloc: Global,

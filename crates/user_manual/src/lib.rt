@@ -1,8 +1,9 @@
 //! Functions that use chains, as a user writes them: the manual of the library in code.
 //!
-//! Their clauses are proved from the public contracts of the methods that they call: there is no
-//! proof file, and no law is called. Most of them ensure the exact result. If the search proves
-//! less today, as for `unzip` of texts, the function ensures what is proved.
+//! Each shows what no example in a comment shows (`user_examples`): chains, references, texts,
+//! sources of any type, and maps and sets in general. They are proved from the public contracts of
+//! what they call: all but `pairs_of_any_sources` have no proof file and call no law. Most ensure
+//! the exact result. If less is proved today, as of `unzip` of texts, the function ensures that.
 #![tactic(auto)]
 
 pub mod adapters;

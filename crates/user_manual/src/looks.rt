@@ -1,40 +1,12 @@
 //! The first item of a source: whether there is one, and what comes after it.
-ghost use Rattle.std.specs.Prelude.{
-  ◌≡◌,
-  ◌/◌,
-  ◌<◌,
-  ◌≤◌,
-  ◌∷◌,
-  ◌↔◌,
-  [],
-  drop,
-  filter,
-  length,
-  map,
-  slice_get,
-  take,
-  true,
-  IfOk,
-  MatchOption,
-  Some,
-  ltb,
-};
+ghost use Rattle.std.specs.Prelude.{◌≡◌, ◌/◌, ◌<◌, ◌≤◌, ◌∷◌, [], drop, filter, length, map};
+ghost use Rattle.std.specs.Prelude.{slice_get, take, true, IfOk, MatchOption, Some, ltb};
 ghost use Rattle.std.specs.List.{All, Contains, list_all};
 ghost use Rattle.std.specs.Int.NonZero.{non_zero_usize_get};
 
 use nonempty_collections::{IntoIteratorExt, IntoNonEmptyIterator, NEVec, NonEmptyIterator};
 use std::alloc::{AllocError, Global};
 use std::num::NonZeroUsize;
-
-/// Returns the items of a vector that may be empty, or `None` if it is.
-pub fn looked(alloc: Global, items: Vec<u32>) -> Result<Option<NEVec<u32>>, AllocError>
-    ensures { IfOk result (λ o. MatchOption o (items.items ≡ []) (λ v. v ≡ items.items)) }
-{
-    match items.try_into_nonempty_iter() {
-        Some(source) => Ok(Some(source.collect(alloc)?)),
-        None => Ok(None),
-    }
-}
 
 /// Returns half of each item, or `None` if there is none.
 pub fn halves(alloc: Global, items: Vec<u32>) -> Result<Option<NEVec<u32>>, AllocError>
@@ -60,13 +32,6 @@ pub fn small(alloc: Global, items: NEVec<u32>) -> Result<Option<NEVec<u32>>, All
         Some(source) => Ok(Some(source.collect(alloc)?)),
         None => Ok(None),
     }
-}
-
-/// Returns whether there is an item.
-pub fn has_item(items: Vec<u32>) -> bool
-    ensures { (result ≡ true) ↔ (0 < length items.items) }
-{
-    items.try_into_nonempty_iter().is_some()
 }
 
 /// Returns the greatest item of a vector that may be empty, or `None` if it is.
@@ -133,28 +98,6 @@ pub fn first_items_if_any(
         Some(items) => Ok(Some(items.into_nonempty_iter().take(n).collect(alloc)?)),
         None => Ok(None),
     }
-}
-
-/// Returns the first item.
-pub fn first_of(items: NEVec<u32>) -> u32
-    ensures { slice_get items 0 ≡ Some result }
-{
-    items.into_nonempty_iter().next().0
-}
-
-/// Returns the first half.
-pub fn first_half(items: NEVec<u32>) -> u32
-    ensures { slice_get (map (λ x. x / 2) items) 0 ≡ Some result }
-{
-    items.into_nonempty_iter().map(|x| x / 2).next().0
-}
-
-/// Returns the first item, and the others.
-pub fn first_and_rest(alloc: Global, items: NEVec<u32>) -> Result<(u32, Vec<u32>), AllocError>
-    ensures { IfOk result (λ r. items ≡ r.0 ∷ r.1.items) }
-{
-    let (first, rest) = items.into_nonempty_iter().next();
-    Ok((first, rest.collect(alloc)?))
 }
 
 /// Returns the first half, and the others.

@@ -1,16 +1,5 @@
 //! Chains of adapters over slices, arrays, references, texts and structs.
-ghost use Rattle.std.specs.Prelude.{
-  ◌≡◌,
-  ◌/◌,
-  ◌+◌,
-  ◌++◌,
-  map,
-  take,
-  drop,
-  length,
-  nat_eq,
-  IfOk,
-};
+ghost use Rattle.std.specs.Prelude.{◌≡◌, ◌/◌, ◌+◌, ◌++◌, map, take, drop, length, nat_eq, IfOk};
 ghost use Rattle.std.specs.List.{enumerate_from, flat_map, zip};
 ghost use Rattle.std.specs.Int.NonZero.{non_zero_usize_get};
 ghost use Rattle.ne_iter.specs.Collected.{IsMapOf};

@@ -7,13 +7,6 @@ use nonempty_collections::{IntoNonEmptyIterator, NEVec, NonEmptyIterator, iter};
 use std::alloc::{AllocError, Global};
 use std::num::NonZeroUsize;
 
-/// Returns the items of several vectors.
-pub fn joined(alloc: Global, vectors: NEVec<NEVec<u32>>) -> Result<NEVec<u32>, AllocError>
-    ensures { IfOk result (λ v. v ≡ flat_map (λ items. items) vectors) }
-{
-    vectors.into_nonempty_iter().flatten().collect(alloc)
-}
-
 /// Returns the first `n` items of several vectors.
 pub fn first_joined(
     alloc: Global,
@@ -27,16 +20,6 @@ pub fn first_joined(
         .into_nonempty_iter()
         .flatten()
         .take(n)
-        .collect(alloc)
-}
-
-/// Returns the amounts of all orders. An order is a number and its amounts.
-pub fn amounts(alloc: Global, orders: NEVec<(u32, NEVec<u32>)>) -> Result<NEVec<u32>, AllocError>
-    ensures { IfOk result (λ v. v ≡ flat_map (λ order. order.1) orders) }
-{
-    orders
-        .into_nonempty_iter()
-        .flat_map(|order| order.1)
         .collect(alloc)
 }
 

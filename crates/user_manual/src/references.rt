@@ -1,25 +1,6 @@
 //! Chains over references, which read structs and numbers where they are, without a copy.
-ghost use Rattle.std.specs.Prelude.{
-  ◌≡◌,
-  ◌/◌,
-  ◌++◌,
-  ◌∷◌,
-  ◌<◌,
-  ◌≤◌,
-  ◌^◌,
-  [],
-  map,
-  sum,
-  take,
-  drop,
-  length,
-  slice_get,
-  Some,
-  None,
-  IfOk,
-  ltb,
-  cond,
-};
+ghost use Rattle.std.specs.Prelude.{◌≡◌, ◌/◌, ◌++◌, ◌∷◌, ◌<◌, ◌≤◌, ◌^◌, [], map, sum, take, drop};
+ghost use Rattle.std.specs.Prelude.{length, slice_get, Some, None, IfOk, ltb, cond};
 ghost use Rattle.std.specs.List.{All, Contains, enumerate_from, filter, filter_map, find, flat_map};
 ghost use Rattle.std.specs.List.{fold, list_all, list_any, prefix_len, scan, take_while, zip};
 ghost use Rattle.std.specs.Option.{option_map};
@@ -88,22 +69,6 @@ pub fn buyer_at(sales: &NEVec<Sale>, n: usize) -> Option<u32>
     ensures { result ≡ option_map (λ s. s.buyer) (slice_get sales.now n) }
 {
     sales.nonempty_iter().nth(n).map(|s| s.buyer)
-}
-
-/// Returns the sum of the prices.
-pub fn total(sales: &NEVec<Sale>) -> u32
-    requires { sum (map (λ s. s.price) sales.now) < 2 ^ 32 }
-    ensures { result ≡ sum (map (λ s. s.price) sales.now) }
-{
-    sales.nonempty_iter().map(|s| s.price).sum()
-}
-
-/// Returns the sum of the first `n` prices.
-pub fn total_of_first(sales: &NEVec<Sale>, n: NonZeroUsize) -> u32
-    requires { sum (map (λ s. s.price) (take (non_zero_usize_get n) sales.now)) < 2 ^ 32 }
-    ensures { result ≡ sum (map (λ s. s.price) (take (non_zero_usize_get n) sales.now)) }
-{
-    sales.nonempty_iter().take(n).map(|s| s.price).sum()
 }
 
 /// Returns the sum of the prices in two vectors, the second of which is passed as it is.

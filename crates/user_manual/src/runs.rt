@@ -1,12 +1,10 @@
 //! Runs of items by a key, and of a slice by a test of two items.
-ghost use Rattle.std.specs.Prelude.{◌≡◌, ◌/◌, length, map, nat_eq, IfOk};
-ghost use Rattle.std.specs.Int.NonZero.{non_zero_usize_get};
+ghost use Rattle.std.specs.Prelude.{◌≡◌, ◌/◌, length, ltb, map, nat_eq, true, IfOk};
 ghost use Rattle.ne_vec.specs.Divisions.{by_first, by_previous, runs_of};
 ghost use Rattle.ne_iter.specs.Keys.{IsDividedBy};
 
 use nonempty_collections::{IntoNonEmptyIterator, NESlice, NEVec, NonEmptyIterator};
 use std::alloc::{AllocError, Global};
-use std::num::NonZeroUsize;
 
 /// Returns the runs of items with the same half.
 pub fn by_halves(
@@ -21,22 +19,41 @@ pub fn by_halves(
         .collect(alloc)
 }
 
-/// Returns the lengths of the runs of items in the same ten, where each item is compared with the
-/// first one of its run.
-pub fn lengths_of_tens(alloc: Global, items: NESlice<'_, u32>) -> Result<NEVec<usize>, AllocError>
+/// Returns the lengths of the runs in which each further item is greater than the run's first one.
+pub fn lengths_above_first(
+    alloc: Global,
+    items: NESlice<'_, u32>,
+) -> Result<NEVec<usize>, AllocError>
     ensures { IfOk result (λ v. v ≡ map (λ run. length run)
-        (runs_of by_first (λ x y. nat_eq (x / 10) (y / 10)) items.entry)) }
+        (runs_of by_first (λ x y. ltb x y) items.entry)) }
 {
     items
-        .runs_by(|x, y| *x / 10 == *y / 10)
+        .runs_by(|x, y| *x < *y)
         .map(|run| run.len().get())
         .collect(alloc)
 }
 
-/// Returns how many runs of equal neighbours there are.
-pub fn how_many(items: &NESlice<'_, u32>) -> NonZeroUsize
-    ensures { non_zero_usize_get result ≡ length
-        (runs_of by_previous (λ x y. nat_eq x y) items.now) }
+/// Returns the lengths of the runs in which each further item is greater than the one before it.
+pub fn lengths_ascending(alloc: Global, items: NESlice<'_, u32>) -> Result<NEVec<usize>, AllocError>
+    ensures { IfOk result (λ v. v ≡ map (λ run. length run)
+        (runs_of by_previous (λ x y. ltb x y) items.entry)) }
 {
-    items.adjacent_runs(|x, y| x == y).count()
+    items
+        .adjacent_runs(|x, y| *x < *y)
+        .map(|run| run.len().get())
+        .collect(alloc)
+}
+
+/// Returns whether `None` follows the first run if allocating that run failed; otherwise `true`.
+pub fn ends_at_refusal(alloc: Global, items: NEVec<u32>) -> bool
+    ensures { result ≡ true }
+{
+    let mut runs = items
+        .into_nonempty_iter()
+        .group_by(alloc, |x| *x / 2)
+        .into_iter();
+    match runs.next() {
+        Some(Err(_)) => runs.next().is_none(),
+        _ => true,
+    }
 }

@@ -1,44 +1,16 @@
-//! Each kind of source, collected or consumed.
-ghost use Rattle.std.specs.Prelude.{◌≡◌, ◌<◌, ◌^◌, sum, IfOk, [], ◌∷◌};
+//! Kinds of source, collected. Only `pairs_of_any_sources`, which is generic in its sources, calls
+//! a law and has a stored proof.
+ghost use Rattle.std.specs.Prelude.{◌≡◌, ◌/◌, ℕ, List, IfOk, Ok, map};
+ghost use Rattle.ne_iter.specs.Gives.{GivesList};
+ghost use Rattle.ne_products.specs.Pairs.{cartesian_product};
+ghost use Rattle.ne_products.specs.Restarts.{ClonesAgain, NeverRefuses};
+ghost use Rattle.ne_products.specs.Sides.{by_side};
 
-use nonempty_collections::{IntoNonEmptyIterator, NESlice, NEVec, NonEmptyIterator, iter, nev};
+use nonempty_collections::iter::SourceWords;
+use nonempty_collections::{
+    IntoNonEmptyIterator, NEEither, NESlice, NEVec, NonEmptyIterator, NonEmptyItertools, iter, laws,
+};
 use std::alloc::{AllocError, Global};
-
-/// Returns the items of a vector, by value.
-pub fn of_a_vector(alloc: Global, items: NEVec<u32>) -> Result<NEVec<u32>, AllocError>
-    ensures { IfOk result (λ v. v ≡ items) }
-{
-    items.into_nonempty_iter().collect(alloc)
-}
-
-/// Returns the items of a vector, by reference.
-pub fn of_a_reference(alloc: Global, items: &NEVec<u32>) -> Result<NEVec<u32>, AllocError>
-    ensures { IfOk result (λ v. v ≡ items.now) }
-{
-    items.nonempty_iter().copied().collect(alloc)
-}
-
-/// Returns the sum of a slice.
-pub fn of_a_slice(items: &NESlice<u32>) -> u32
-    requires { sum items.now < 2 ^ 32 }
-    ensures { result ≡ sum items.now }
-{
-    items.nonempty_iter().copied().sum()
-}
-
-/// Returns the items of a literal array.
-pub fn of_an_array(alloc: Global) -> Result<NEVec<u32>, AllocError>
-    ensures { IfOk result (λ v. v ≡ 1 ∷ 2 ∷ 3 ∷ []) }
-{
-    [1u32, 2, 3].into_nonempty_iter().collect(alloc)
-}
-
-/// Returns one item.
-pub fn of_one_item(alloc: Global, x: u32) -> Result<NEVec<u32>, AllocError>
-    ensures { IfOk result (λ v. v ≡ x ∷ []) }
-{
-    iter::once(x).collect(alloc)
-}
 
 /// Returns the items of an array, by reference.
 pub fn of_an_array_reference(alloc: Global, items: &[u32; 3]) -> Result<NEVec<u32>, AllocError>
@@ -55,22 +27,48 @@ pub fn of_first_and_rest(alloc: Global, items: NEVec<u32>) -> Result<NEVec<u32>,
     iter::once(first).chain(rest).collect(alloc)
 }
 
-/// Returns half of each item of a literal array.
-pub fn of_a_literal(alloc: Global) -> Result<NEVec<u32>, AllocError>
-    ensures { IfOk result (λ v. v ≡ 1 ∷ 0 ∷ 1 ∷ []) }
+/// Returns the items of a slice that is passed by value.
+pub fn of_a_part(alloc: Global, items: NESlice<'_, u32>) -> Result<NEVec<u32>, AllocError>
+    ensures { IfOk result (λ v. v ≡ items.entry) }
 {
-    [3u32, 1, 2]
-        .into_nonempty_iter()
-        .map(|x| x / 2)
-        .collect(alloc)
+    items.into_nonempty_iter().copied().collect(alloc)
 }
 
-/// Returns half of each item of a literal vector.
-pub fn of_a_literal_vector(alloc: Global) -> Result<NEVec<u32>, AllocError>
-    ensures { IfOk result (λ v. v ≡ 1 ∷ 0 ∷ 1 ∷ []) }
+/// Returns half of each item of the vector that is there.
+pub fn halves_of_either(
+    alloc: Global,
+    source: NEEither<NEVec<u32>, NEVec<u32>>,
+) -> Result<NEVec<u32>, AllocError>
+    ensures { IfOk result (λ v. v ≡ map (λ x. x / 2) (by_side (λ l. l) (λ r. r) source)) }
 {
-    nev![alloc; 3, 1, 2]?
-        .into_nonempty_iter()
-        .map(|x| x / 2)
-        .collect(alloc)
+    source.into_nonempty_iter().map(|x| x / 2).collect(alloc)
+}
+
+/// Returns each item of one source paired with each item of another, for any types of source.
+///
+/// A generic function knows nothing of its sources but their bounds, so it calls the law of the
+/// product, which its proof applies to the two lists.
+pub fn pairs_of_any_sources<S, U>(
+    alloc: Global,
+    rows: S,
+    columns: U,
+) -> Result<NEVec<Result<(u32, u32), AllocError>>, AllocError>
+where
+    S: NonEmptyIterator<Item = u32>,
+    U: NonEmptyIterator<Item = u32>,
+    U::IntoIter: Clone,
+    requires rows_end { ⟦<S as SourceWords>⟧.ends rows }
+    requires columns_end { ⟦<U as SourceWords>⟧.ends columns }
+    requires again { ClonesAgain U.into_iter_gives U.IntoIter.remaining U.IntoIter.is_clone
+        columns }
+    requires certain { NeverRefuses U.into_iter_gives U.IntoIter.is_infallible columns }
+    ensures { IfOk result (λ v. (xs ys : List ℕ)
+        → GivesList (⟦<S as SourceWords>⟧.reads) rows xs
+        → GivesList (⟦<U as SourceWords>⟧.reads) columns ys
+        → v ≡ map Ok (cartesian_product xs ys)) }
+{
+    laws::list_of_cartesian_product(&rows, &columns);
+    let product = rows.cartesian_product(columns);
+    laws::lists_are_read_whole(&product);
+    product.collect(alloc)
 }

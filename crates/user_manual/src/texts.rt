@@ -1,85 +1,22 @@
-//! Texts (`&str`): each adapter and each consumer over items that are references.
+//! Texts (`&str`): adapters and consumers over items that are references.
 //!
 //! In contracts a `&str` is a reference to the list of its bytes: `t.now` is that list.
-ghost use Rattle.std.specs.Prelude.{
-  ◌≡◌,
-  ◌∷◌,
-  [],
-  ◌++◌,
-  ◌<◌,
-  ◌≤◌,
-  ◌^◌,
-  map,
-  filter,
-  take,
-  drop,
-  sum,
-  length,
-  slice_get,
-  nat_eq,
-  IfOk,
-  IfSome,
-  IsPermutation,
-  Some,
-  None,
-  Ok,
-  Err,
-  ltb,
-  max,
-  cond,
-  true,
-  false,
-};
-ghost use Rattle.std.specs.List.{
-  All,
-  Contains,
-  find,
-  list_all,
-  list_any,
-  prefix_len,
-  scan,
-  take_while,
-  enumerate_from,
-  zip,
-  flat_map,
-  fold,
-  reduce as list_reduce,
-  filter_map,
-};
+ghost use Rattle.std.specs.Prelude.{◌≡◌, ◌∷◌, [], ◌<◌, ◌≤◌, ◌^◌, map, filter, drop, sum, length};
+ghost use Rattle.std.specs.Prelude.{slice_get, nat_eq, IfOk, IfSome, IsPermutation, Some, None};
+ghost use Rattle.std.specs.Prelude.{Ok, Err, ltb, max, cond, false, true};
+ghost use Rattle.std.specs.List.{All, Contains, find, list_all, list_any, prefix_len, scan};
+ghost use Rattle.std.specs.List.{take_while, enumerate_from, zip, flat_map, fold};
+ghost use Rattle.std.specs.List.{reduce as list_reduce, filter_map};
 ghost use Rattle.std.specs.Cmp.Lexicographic.{pointwise, slice_cmp};
 ghost use Rattle.std.specs.Ordering.{is_lt, nat_cmp};
 ghost use Rattle.std.specs.String.{string_bytes};
-ghost use Rattle.std.specs.Int.NonZero.{non_zero_usize_get};
 ghost use Rattle.ne_iter.specs.Collected.{IsMapOf, IsSetOf, values_or_first_err};
-ghost use Rattle.ne_iter.specs.Interspersed.{interspersed};
 ghost use Rattle.ne_iter.specs.KeyOrder.{KeepsTies, KeysAscend};
 ghost use Rattle.ne_iter.specs.Keys.{IsDividedBy};
 
 use nonempty_collections::{IntoIteratorExt, IntoNonEmptyIterator, NEVec, NonEmptyIterator, iter};
 use std::alloc::{AllocError, Global};
 use std::collections::{BTreeMap, BTreeSet};
-use std::num::NonZeroUsize;
-
-/// Returns the texts of a vector.
-pub fn collected<'a>(alloc: Global, texts: NEVec<&'a str>) -> Result<NEVec<&'a str>, AllocError>
-    ensures { IfOk result (λ v. v ≡ texts.entry) }
-{
-    texts.into_nonempty_iter().collect(alloc)
-}
-
-/// Returns the length of each text.
-pub fn lengths(alloc: Global, texts: NEVec<&str>) -> Result<NEVec<usize>, AllocError>
-    ensures { IfOk result (λ v. v ≡ map (λ t. length t.now) texts.entry) }
-{
-    texts.into_nonempty_iter().map(|t| t.len()).collect(alloc)
-}
-
-/// Returns the texts of a borrowed vector.
-pub fn shown<'a>(alloc: Global, texts: &NEVec<&'a str>) -> Result<NEVec<&'a str>, AllocError>
-    ensures { IfOk result (λ v. v ≡ texts.now) }
-{
-    texts.nonempty_iter().copied().collect(alloc)
-}
 
 /// Returns clones of the texts of a borrowed vector. Clones of references never fail.
 pub fn cloned<'a>(
@@ -99,28 +36,6 @@ pub fn numbered<'a>(
     ensures { IfOk result (λ v. v ≡ enumerate_from 0 texts.entry) }
 {
     texts.into_nonempty_iter().enumerate().collect(alloc)
-}
-
-/// Returns the first `n` texts, or all of them if there are fewer.
-pub fn first_texts<'a>(
-    alloc: Global,
-    texts: NEVec<&'a str>,
-    n: NonZeroUsize,
-) -> Result<NEVec<&'a str>, AllocError>
-    ensures { IfOk result (λ v. v ≡ take (non_zero_usize_get n) texts.entry) }
-{
-    texts.into_nonempty_iter().take(n).collect(alloc)
-}
-
-/// Returns the texts, followed by others.
-pub fn joined<'a>(
-    alloc: Global,
-    texts: NEVec<&'a str>,
-    others: Vec<&'a str>,
-) -> Result<NEVec<&'a str>, AllocError>
-    ensures { IfOk result (λ v. v ≡ texts.entry ++ others.entry.items) }
-{
-    texts.into_nonempty_iter().chain(others).collect(alloc)
 }
 
 /// Returns the texts in pairs.
@@ -181,20 +96,6 @@ pub fn peeked<'a>(alloc: Global, texts: NEVec<&'a str>) -> Result<NEVec<&'a str>
     texts.into_nonempty_iter().peekable().collect(alloc)
 }
 
-/// Returns the texts with a separator between each two.
-pub fn separated<'a>(
-    alloc: Global,
-    texts: NEVec<&'a str>,
-    separator: &'a str,
-) -> Result<Result<NEVec<&'a str>, AllocError>, AllocError>
-    ensures { IfOk result (λ r. IfOk r (λ v. v ≡ interspersed separator.entry texts.entry)) }
-{
-    texts
-        .into_nonempty_iter()
-        .intersperse(separator)
-        .collect(alloc)
-}
-
 /// Returns the runs of texts of the same length.
 pub fn by_length<'a>(
     alloc: Global,
@@ -217,13 +118,6 @@ pub fn looked<'a>(alloc: Global, texts: Vec<&'a str>) -> Result<Option<NEVec<&'a
         Some(texts) => Ok(Some(texts.collect(alloc)?)),
         None => Ok(None),
     }
-}
-
-/// Returns how many texts there are.
-pub fn how_many(texts: &NEVec<&str>) -> NonZeroUsize
-    ensures { non_zero_usize_get result ≡ length texts.now }
-{
-    texts.nonempty_iter().copied().count()
 }
 
 /// Returns the last text in the order of bytes.
@@ -379,13 +273,6 @@ pub fn parted<'a>(
         .into_nonempty_iter()
         .map(|t| (t, t.len()))
         .unzip(alloc)
-}
-
-/// Returns the texts as a vector that may be empty.
-pub fn as_vec<'a>(alloc: Global, texts: NEVec<&'a str>) -> Result<Vec<&'a str>, AllocError>
-    ensures { IfOk result (λ v. v.items ≡ texts.entry) }
-{
-    texts.into_nonempty_iter().collect(alloc)
 }
 
 /// Returns the texts joined into one.

@@ -1,72 +1,12 @@
 //! Chains of several adapters, one after another.
-ghost use Rattle.std.specs.Prelude.{
-  ◌≡◌,
-  ◌/◌,
-  ◌%◌,
-  ◌+◌,
-  ◌<◌,
-  ◌^◌,
-  ◌++◌,
-  ◌∷◌,
-  map,
-  filter,
-  sum,
-  take,
-  IfOk,
-  ltb,
-  [],
-};
+ghost use Rattle.std.specs.Prelude.{◌≡◌, ◌/◌, ◌%◌, ◌+◌, ◌<◌, ◌^◌, ◌++◌, ◌∷◌, map, filter, sum};
+ghost use Rattle.std.specs.Prelude.{take, IfOk, ltb, []};
 ghost use Rattle.std.specs.List.{enumerate_from, scan, zip};
 ghost use Rattle.std.specs.Int.NonZero.{non_zero_usize_get};
 
 use nonempty_collections::{IntoNonEmptyIterator, NEVec, NonEmptyIterator, iter};
 use std::alloc::{AllocError, Global};
 use std::num::NonZeroUsize;
-
-/// Returns the halves below 10, with `map` and `filter`.
-pub fn small_halves(alloc: Global, items: NEVec<u32>) -> Result<Vec<u32>, AllocError>
-    ensures { IfOk result (λ v. v.items ≡ filter (λ x. ltb x 10) (map (λ x. x / 2) items)) }
-{
-    items
-        .into_nonempty_iter()
-        .map(|x| x / 2)
-        .filter(|x| *x < 10)
-        .collect(alloc)
-}
-
-/// Returns the first `n` items of a borrowed vector, with `copied` and `take`.
-pub fn first_shown(
-    alloc: Global,
-    items: &NEVec<u32>,
-    n: NonZeroUsize,
-) -> Result<NEVec<u32>, AllocError>
-    ensures { IfOk result (λ v. v ≡ take (non_zero_usize_get n) items.now) }
-{
-    items.nonempty_iter().copied().take(n).collect(alloc)
-}
-
-/// Returns pairs of a half and another item, with `map` and `zip`.
-pub fn halves_and_others(
-    alloc: Global,
-    items: NEVec<u32>,
-    others: NEVec<u32>,
-) -> Result<NEVec<(u32, u32)>, AllocError>
-    ensures { IfOk result (λ v. v ≡ zip (map (λ x. x / 2) items) others) }
-{
-    items
-        .into_nonempty_iter()
-        .map(|x| x / 2)
-        .zip(others)
-        .collect(alloc)
-}
-
-/// Returns the sum of the first `n` items, with `take` and `sum`.
-pub fn sum_of_first(items: NEVec<u32>, n: NonZeroUsize) -> u32
-    requires { sum (take (non_zero_usize_get n) items) < 2 ^ 32 }
-    ensures { result ≡ sum (take (non_zero_usize_get n) items) }
-{
-    items.into_nonempty_iter().take(n).sum()
-}
 
 /// Returns the halves, followed by other items, all with their indices, with `map`, `chain` and
 /// `enumerate`.
@@ -119,32 +59,6 @@ pub fn thirds(alloc: Global, items: &NEVec<u32>, others: Vec<u32>) -> Result<NEV
         .collect(alloc)
 }
 
-/// Returns the first `n` halves, with `map` and `take`.
-pub fn first_halves(
-    alloc: Global,
-    items: NEVec<u32>,
-    n: NonZeroUsize,
-) -> Result<NEVec<u32>, AllocError>
-    ensures { IfOk result (λ v. v ≡ take (non_zero_usize_get n) (map (λ x. x / 2) items)) }
-{
-    items
-        .into_nonempty_iter()
-        .map(|x| x / 2)
-        .take(n)
-        .collect(alloc)
-}
-
-/// Returns the halves with their indices, with `map` of references and `enumerate`.
-pub fn numbered_shown(alloc: Global, items: &NEVec<u32>) -> Result<NEVec<(usize, u32)>, AllocError>
-    ensures { IfOk result (λ v. v ≡ enumerate_from 0 (map (λ x. x / 2) items.now)) }
-{
-    items
-        .nonempty_iter()
-        .map(|x| *x / 2)
-        .enumerate()
-        .collect(alloc)
-}
-
 /// Returns the items of three vectors, with `chain` and `chain` again.
 pub fn three_joined(
     alloc: Global,
@@ -187,21 +101,6 @@ pub fn small_first_halves(
         .collect(alloc)
 }
 
-/// Returns the first `n` items with their indices, with `enumerate` and `take`.
-pub fn first_numbered(
-    alloc: Global,
-    items: NEVec<u32>,
-    n: NonZeroUsize,
-) -> Result<NEVec<(usize, u32)>, AllocError>
-    ensures { IfOk result (λ v. v ≡ take (non_zero_usize_get n) (enumerate_from 0 items)) }
-{
-    items
-        .into_nonempty_iter()
-        .enumerate()
-        .take(n)
-        .collect(alloc)
-}
-
 /// Returns the first `n` items of two vectors, with `chain` and `take`.
 pub fn first_of_both(
     alloc: Global,
@@ -215,21 +114,6 @@ pub fn first_of_both(
         .into_nonempty_iter()
         .chain(others)
         .take(n)
-        .collect(alloc)
-}
-
-/// Returns pairs of items of two borrowed vectors, with `zip` of two `copied`.
-pub fn shown_pairs(
-    alloc: Global,
-    items: &NEVec<u32>,
-    others: &NEVec<u32>,
-) -> Result<NEVec<(u32, u32)>, AllocError>
-    ensures { IfOk result (λ v. v ≡ zip items.now others.now) }
-{
-    items
-        .nonempty_iter()
-        .copied()
-        .zip(others.nonempty_iter().copied())
         .collect(alloc)
 }
 
@@ -294,4 +178,17 @@ pub fn first_running_sums(
         })
         .take(n)
         .collect(alloc)
+}
+
+/// Returns the sum of the first `n` halves of two vectors, one after the other.
+pub fn sum_of_both(items: NEVec<u32>, others: NEVec<u32>, n: NonZeroUsize) -> u32
+    requires { sum (take (non_zero_usize_get n) (map (λ x. x / 2) (items ++ others))) < 2 ^ 32 }
+    ensures { result ≡ sum (take (non_zero_usize_get n) (map (λ x. x / 2) (items ++ others))) }
+{
+    items
+        .into_nonempty_iter()
+        .chain(others)
+        .map(|x| x / 2)
+        .take(n)
+        .sum()
 }

@@ -1,6 +1,6 @@
 //! Index maps and sets.
-ghost use Rattle.std.specs.Prelude.{◌≡◌, ◌+◌, ◌/◌, ◌++◌, ◌↔◌, [], ◌∷◌, map, nat_eq, IfOk};
-ghost use Rattle.std.specs.Prelude.{IsTrue, OnOk, Some};
+ghost use Rattle.std.specs.Prelude.{◌≡◌, ◌≤◌, ◌+◌, ◌/◌, ◌++◌, ◌↔◌, [], ◌∷◌, map, nat_eq, IfOk};
+ghost use Rattle.std.specs.Prelude.{All, IsTrue, OnOk, Some, true};
 ghost use Rattle.indexmap.specs.IndexMap.{get, hasher_of};
 ghost use Rattle.indexmap.specs.IndexSet.{union, IsSameSet};
 ghost use Rattle.ne_iter.specs.KeyList.{key_list, IsKeyListMapOf};
@@ -8,7 +8,9 @@ ghost use Rattle.ne_index.specs.SameMap.{IsSameMap};
 
 use super::two;
 use indexmap::{IndexMap, IndexSet};
-use nonempty_collections::{IntoNonEmptyIterator, NEIndexMap, NEIndexSet, NEVec, NonEmptyIterator};
+use nonempty_collections::{
+    IntoNonEmptyIterator, NEIndexMap, NEIndexSet, NEVec, NonEmptyIterator, neis,
+};
 use std::alloc::{AllocError, Global};
 use std::hash::BuildHasher;
 
@@ -151,4 +153,22 @@ pub fn set_there_and_back<S: BuildHasher + Drop>(
     ensures { result ≡ Some set }
 {
     NEIndexSet::try_from_set(IndexSet::from(set))
+}
+
+/// Returns the least of the values.
+pub fn least_value(prices: &NEIndexMap<u32, u32>) -> u32
+    ensures { All (λ pair. result ≤ pair.1) prices.now.entries }
+{
+    *prices.nonempty_iter().min_by_key(|pair| *pair.1).1
+}
+
+/// Returns whether a set that is written out is a subset of another. The attribute has the check
+/// search once more, without the lemmas of std, and that search ends.
+#[tactic(auto, using(std::proofs::Common::arith))]
+pub fn is_written_out_subset(alloc: Global) -> Result<bool, AllocError>
+    ensures { IfOk result (λ subset. subset ≡ true) }
+{
+    let a: NEIndexSet<u32> = neis![alloc; 1, 2]?;
+    let b: NEIndexSet<u32> = neis![alloc; 2, 1, 3]?;
+    Ok(a.is_subset(&b))
 }

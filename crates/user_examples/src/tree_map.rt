@@ -7,7 +7,6 @@ use nonempty_collections::{NEBTreeMap, NEVec, NonEmptyIterator, nebtm};
 use std::alloc::{AllocError, Global};
 use std::collections::BTreeMap;
 
-/// Looks up keys of a map that is written out, and counts them.
 pub fn get_and_len(alloc: Global) -> Result<(Option<u32>, Option<u32>, usize), AllocError>
     ensures one { IfOk result (λ r. r.0 ≡ Some 30) }
     ensures three { IfOk result (λ r. r.1 ≡ None) }
@@ -19,7 +18,6 @@ pub fn get_and_len(alloc: Global) -> Result<(Option<u32>, Option<u32>, usize), A
     Ok((one.copied(), three.copied(), len))
 }
 
-/// Creates a map of one key.
 pub fn new(alloc: Global) -> Result<NEBTreeMap<u32, u32>, AllocError>
     ensures { IfOk result (λ m. m.entries ≡ (4, 20) ∷ []) }
 {
@@ -27,7 +25,6 @@ pub fn new(alloc: Global) -> Result<NEBTreeMap<u32, u32>, AllocError>
     Ok(map)
 }
 
-/// Converts std's maps, one that has keys and one that is empty.
 pub fn try_from_map(
     alloc: Global,
 ) -> Result<(Option<NEBTreeMap<u32, u32>>, Option<NEBTreeMap<u32, u32>>), AllocError>
@@ -43,7 +40,6 @@ pub fn try_from_map(
     Ok((some, none))
 }
 
-/// Iterates over the pairs by std's iterator.
 pub fn iter(alloc: Global) -> Result<Vec<(u32, u32)>, AllocError>
     ensures { IfOk result (λ v. v.items ≡ (0, 3) ∷ (2, 1) ∷ []) }
 {
@@ -52,9 +48,7 @@ pub fn iter(alloc: Global) -> Result<Vec<(u32, u32)>, AllocError>
     pairs.map(|(k, v)| (*k, *v)).collect(alloc)
 }
 
-/// Writes each value through std's iterator, which keeps the keys.
-/// The values that the loop writes are only run, as those of std's own `iter_mut` are not found
-/// either.
+/// The values that the loop writes are only run.
 pub fn iter_mut(alloc: Global) -> Result<NEBTreeMap<u32, u32>, AllocError>
     ensures { IfOk result (λ m. keys m ≡ 2 ∷ 4 ∷ []) }
 {
@@ -65,7 +59,6 @@ pub fn iter_mut(alloc: Global) -> Result<NEBTreeMap<u32, u32>, AllocError>
     Ok(map)
 }
 
-/// Iterates over the pairs.
 pub fn nonempty_iter(alloc: Global) -> Result<NEVec<(u32, u32)>, AllocError>
     ensures { IfOk result (λ v. v ≡ (0, 3) ∷ (2, 1) ∷ []) }
 {
@@ -74,9 +67,7 @@ pub fn nonempty_iter(alloc: Global) -> Result<NEVec<(u32, u32)>, AllocError>
     pairs.map(|(k, v)| (*k, *v)).collect(alloc)
 }
 
-/// Writes each value, which keeps the keys.
-/// The values that the loop writes are only run, as those of std's own `iter_mut` are not found
-/// either.
+/// The values that the loop writes are only run.
 pub fn nonempty_iter_mut(alloc: Global) -> Result<NEBTreeMap<u32, u32>, AllocError>
     ensures { IfOk result (λ m. keys m ≡ 2 ∷ 4 ∷ []) }
 {
@@ -87,7 +78,6 @@ pub fn nonempty_iter_mut(alloc: Global) -> Result<NEBTreeMap<u32, u32>, AllocErr
     Ok(map)
 }
 
-/// Iterates over the keys.
 pub fn keys(alloc: Global) -> Result<NEVec<u32>, AllocError>
     ensures { IfOk result (λ v. v ≡ 0 ∷ 2 ∷ []) }
 {
@@ -96,7 +86,6 @@ pub fn keys(alloc: Global) -> Result<NEVec<u32>, AllocError>
     keys.copied().collect(alloc)
 }
 
-/// Counts the keys of a map that is written out with one of them twice.
 pub fn len(alloc: Global) -> Result<usize, AllocError>
     ensures { IfOk result (λ len. len ≡ 2) }
 {
@@ -104,7 +93,6 @@ pub fn len(alloc: Global) -> Result<usize, AllocError>
     Ok(len)
 }
 
-/// Iterates over the values.
 pub fn values(alloc: Global) -> Result<NEVec<u32>, AllocError>
     ensures { IfOk result (λ v. v ≡ 3 ∷ 1 ∷ []) }
 {
@@ -113,7 +101,6 @@ pub fn values(alloc: Global) -> Result<NEVec<u32>, AllocError>
     values.copied().collect(alloc)
 }
 
-/// Asks for a key that is there and for one that isn't.
 pub fn contains_key(alloc: Global) -> Result<(bool, bool), AllocError>
     ensures there { IfOk result (λ r. r.0 ≡ true) }
     ensures absent { IfOk result (λ r. r.1 ≡ false) }
@@ -123,17 +110,6 @@ pub fn contains_key(alloc: Global) -> Result<(bool, bool), AllocError>
     Ok((there, absent))
 }
 
-/// Looks up a key that is there and one that isn't.
-pub fn get(alloc: Global) -> Result<(Option<u32>, Option<u32>), AllocError>
-    ensures one { IfOk result (λ r. r.0 ≡ Some 30) }
-    ensures three { IfOk result (λ r. r.1 ≡ None) }
-{
-    let map = nebtm![alloc; 1 => 10, 2 => 20, 1 => 30]?;
-    let (one, three) = (map.get(&1), map.get(&3));
-    Ok((one.copied(), three.copied()))
-}
-
-/// Looks up a key and its value.
 pub fn get_key_value(alloc: Global) -> Result<Option<(u32, u32)>, AllocError>
     ensures { IfOk result (λ pair. pair ≡ Some (2, 1)) }
 {
@@ -142,7 +118,6 @@ pub fn get_key_value(alloc: Global) -> Result<Option<(u32, u32)>, AllocError>
     Ok(pair.map(|(k, v)| (*k, *v)))
 }
 
-/// Writes the value of a key.
 pub fn get_mut(alloc: Global) -> Result<NEBTreeMap<u32, u32>, AllocError>
     ensures { IfOk result (λ m. m.entries ≡ (2, 24) ∷ (4, 27) ∷ (6, 23) ∷ (8, 25) ∷ []) }
 {
@@ -153,7 +128,6 @@ pub fn get_mut(alloc: Global) -> Result<NEBTreeMap<u32, u32>, AllocError>
     Ok(map)
 }
 
-/// Inserts a new key, and a key that is there.
 pub fn insert(alloc: Global) -> Result<(Option<u32>, Option<u32>, NEBTreeMap<u32, u32>), AllocError>
     ensures none { IfOk result (λ r. r.0 ≡ None) }
     ensures old { IfOk result (λ r. r.1 ≡ Some 20) }
@@ -165,15 +139,6 @@ pub fn insert(alloc: Global) -> Result<(Option<u32>, Option<u32>, NEBTreeMap<u32
     Ok((none, old, map))
 }
 
-/// Inserts pairs, one of them with a key that is there.
-/// What it makes is only run, as what std's own `extend` makes is not found either.
-pub fn extend(alloc: Global) -> Result<NEBTreeMap<u32, u32>, AllocError> {
-    let mut map = nebtm![alloc; 2 => 21, 4 => 22]?;
-    map.extend([(6, 23), (2, 24)])?;
-    Ok(map)
-}
-
-/// Compares a map with its clone.
 pub fn clone(alloc: Global) -> Result<bool, AllocError>
     ensures { IfOk result (λ same. same ≡ true) }
 {

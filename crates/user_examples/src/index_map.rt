@@ -1,5 +1,5 @@
-//! The examples of index maps, and the least of their values.
-ghost use Rattle.std.specs.Prelude.{◌≡◌, ◌+◌, ◌≤◌, [], ◌∷◌, true, false, All, IfOk};
+//! The examples of index maps.
+ghost use Rattle.std.specs.Prelude.{◌≡◌, ◌+◌, ◌≤◌, [], ◌∷◌, true, false, IfOk};
 ghost use Rattle.std.specs.Prelude.{None, Some};
 ghost use Rattle.std.specs.Option.{IsSomeAnd};
 ghost use Rattle.indexmap.specs.IndexMap.{index_map_len, spare};
@@ -10,7 +10,6 @@ use std::alloc::{AllocError, Global};
 use std::hash::BuildHasherDefault;
 use std::num::NonZeroUsize;
 
-/// Looks up keys of a map that is written out, and counts them.
 pub fn get_and_len(alloc: Global) -> Result<(Option<u32>, Option<u32>, usize), AllocError>
     ensures one { IfOk result (λ r. r.0 ≡ Some 30) }
     ensures three { IfOk result (λ r. r.1 ≡ None) }
@@ -22,7 +21,6 @@ pub fn get_and_len(alloc: Global) -> Result<(Option<u32>, Option<u32>, usize), A
     Ok((one.copied(), three.copied(), len))
 }
 
-/// Iterates over the pairs by the iterator of `indexmap`.
 pub fn iter(alloc: Global) -> Result<Vec<(u32, u32)>, AllocError>
     ensures { IfOk result (λ v. v.items ≡ (0, 3) ∷ (2, 1) ∷ []) }
 {
@@ -31,7 +29,6 @@ pub fn iter(alloc: Global) -> Result<Vec<(u32, u32)>, AllocError>
     pairs.map(|(k, v)| (*k, *v)).collect(alloc)
 }
 
-/// Iterates over the pairs.
 pub fn nonempty_iter(alloc: Global) -> Result<NEVec<(u32, u32)>, AllocError>
     ensures { IfOk result (λ v. v ≡ (0, 3) ∷ (2, 1) ∷ []) }
 {
@@ -40,7 +37,6 @@ pub fn nonempty_iter(alloc: Global) -> Result<NEVec<(u32, u32)>, AllocError>
     pairs.map(|(k, v)| (*k, *v)).collect(alloc)
 }
 
-/// Iterates over the keys.
 pub fn keys(alloc: Global) -> Result<NEVec<u32>, AllocError>
     ensures { IfOk result (λ v. v ≡ 0 ∷ 2 ∷ []) }
 {
@@ -49,7 +45,6 @@ pub fn keys(alloc: Global) -> Result<NEVec<u32>, AllocError>
     keys.copied().collect(alloc)
 }
 
-/// Counts the keys of a map that is written out with one of them twice.
 pub fn len(alloc: Global) -> Result<usize, AllocError>
     ensures { IfOk result (λ len. len ≡ 2) }
 {
@@ -57,7 +52,6 @@ pub fn len(alloc: Global) -> Result<usize, AllocError>
     Ok(len)
 }
 
-/// Iterates over the values.
 pub fn values(alloc: Global) -> Result<NEVec<u32>, AllocError>
     ensures { IfOk result (λ v. v ≡ 3 ∷ 1 ∷ []) }
 {
@@ -66,7 +60,6 @@ pub fn values(alloc: Global) -> Result<NEVec<u32>, AllocError>
     values.copied().collect(alloc)
 }
 
-/// Reads the first pair.
 pub fn first(alloc: Global) -> Result<(u32, u32), AllocError>
     ensures { IfOk result (λ first. first ≡ (0, 1)) }
 {
@@ -75,7 +68,6 @@ pub fn first(alloc: Global) -> Result<(u32, u32), AllocError>
     Ok((*first.0, *first.1))
 }
 
-/// Reads the last pair.
 pub fn last(alloc: Global) -> Result<(u32, u32), AllocError>
     ensures { IfOk result (λ last. last ≡ (10, 6)) }
 {
@@ -84,7 +76,6 @@ pub fn last(alloc: Global) -> Result<(u32, u32), AllocError>
     Ok((*last.0, *last.1))
 }
 
-/// Creates a map of one key.
 pub fn new(alloc: Global) -> Result<NEIndexMap<u32, u32>, AllocError>
     ensures { IfOk result (λ m. m.entries ≡ (4, 20) ∷ []) }
 {
@@ -92,7 +83,6 @@ pub fn new(alloc: Global) -> Result<NEIndexMap<u32, u32>, AllocError>
     Ok(map)
 }
 
-/// Creates a map of one key that has room for more.
 pub fn with_capacity(alloc: Global) -> Result<NEIndexMap<u32, u32>, AllocError>
     ensures entries { IfOk result (λ m. m.entries ≡ (2, 1) ∷ []) }
     ensures room { IfOk result (λ m. 9 ≤ index_map_len m + spare m) }
@@ -102,7 +92,6 @@ pub fn with_capacity(alloc: Global) -> Result<NEIndexMap<u32, u32>, AllocError>
     Ok(map)
 }
 
-/// Converts maps of `indexmap`, one that has keys and one that is empty.
 pub fn try_from_map(
     alloc: Global,
 ) -> Result<(Option<NEIndexMap<u32, u32>>, Option<NEIndexMap<u32, u32>>), AllocError>
@@ -116,7 +105,6 @@ pub fn try_from_map(
     Ok((some, none))
 }
 
-/// Asks for a key that is there and for one that isn't.
 pub fn contains_key(alloc: Global) -> Result<(bool, bool), AllocError>
     ensures there { IfOk result (λ r. r.0 ≡ true) }
     ensures absent { IfOk result (λ r. r.1 ≡ false) }
@@ -126,17 +114,6 @@ pub fn contains_key(alloc: Global) -> Result<(bool, bool), AllocError>
     Ok((there, absent))
 }
 
-/// Looks up a key that is there and one that isn't.
-pub fn get(alloc: Global) -> Result<(Option<u32>, Option<u32>), AllocError>
-    ensures one { IfOk result (λ r. r.0 ≡ Some 30) }
-    ensures three { IfOk result (λ r. r.1 ≡ None) }
-{
-    let map = neim![alloc; 1 => 10, 2 => 20, 1 => 30]?;
-    let (one, three) = (map.get(&1), map.get(&3));
-    Ok((one.copied(), three.copied()))
-}
-
-/// Looks up a key and its value.
 pub fn get_key_value(alloc: Global) -> Result<Option<(u32, u32)>, AllocError>
     ensures { IfOk result (λ pair. pair ≡ Some (2, 1)) }
 {
@@ -145,7 +122,6 @@ pub fn get_key_value(alloc: Global) -> Result<Option<(u32, u32)>, AllocError>
     Ok(pair.map(|(k, v)| (*k, *v)))
 }
 
-/// Writes the value of a key.
 pub fn get_mut(alloc: Global) -> Result<NEIndexMap<u32, u32>, AllocError>
     ensures { IfOk result (λ m. m.entries ≡ (4, 27) ∷ (2, 24) ∷ (6, 23) ∷ (8, 25) ∷ []) }
 {
@@ -156,7 +132,6 @@ pub fn get_mut(alloc: Global) -> Result<NEIndexMap<u32, u32>, AllocError>
     Ok(map)
 }
 
-/// Asks for the indices of a key that is there and of one that isn't.
 pub fn get_index_of(alloc: Global) -> Result<(Option<usize>, Option<usize>), AllocError>
     ensures index { IfOk result (λ r. r.0 ≡ Some 1) }
     ensures none { IfOk result (λ r. r.1 ≡ None) }
@@ -167,7 +142,6 @@ pub fn get_index_of(alloc: Global) -> Result<(Option<usize>, Option<usize>), All
     Ok((index, none))
 }
 
-/// Inserts a new key, and a key that is there.
 pub fn insert(alloc: Global) -> Result<(Option<u32>, Option<u32>, NEIndexMap<u32, u32>), AllocError>
     ensures none { IfOk result (λ r. r.0 ≡ None) }
     ensures old { IfOk result (λ r. r.1 ≡ Some 20) }
@@ -179,7 +153,6 @@ pub fn insert(alloc: Global) -> Result<(Option<u32>, Option<u32>, NEIndexMap<u32
     Ok((none, old, map))
 }
 
-/// Creates a map of one key with a hasher.
 pub fn with_hasher(alloc: Global) -> Result<NEIndexMap<u32, u32>, AllocError>
     ensures { IfOk result (λ m. m.entries ≡ (8, 50) ∷ []) }
 {
@@ -188,7 +161,6 @@ pub fn with_hasher(alloc: Global) -> Result<NEIndexMap<u32, u32>, AllocError>
     Ok(map)
 }
 
-/// Exchanges the first two pairs.
 pub fn swap_indices(alloc: Global) -> Result<NEIndexMap<u32, u32>, AllocError>
     ensures { IfOk result (λ m. m.entries ≡ (2, 7) ∷ (0, 5) ∷ (4, 3) ∷ []) }
 {
@@ -197,15 +169,6 @@ pub fn swap_indices(alloc: Global) -> Result<NEIndexMap<u32, u32>, AllocError>
     Ok(map)
 }
 
-/// Inserts pairs, one of them with a key that is there.
-/// What it makes is only run, as what `indexmap`'s own `extend` makes is not found either.
-pub fn extend(alloc: Global) -> Result<NEIndexMap<u32, u32>, AllocError> {
-    let mut map = neim![alloc; 4 => 22, 2 => 21]?;
-    map.extend([(6, 23), (2, 24)])?;
-    Ok(map)
-}
-
-/// Clones a map.
 pub fn clone(alloc: Global) -> Result<NEIndexMap<u32, u32>, AllocError>
     ensures { IfOk result (λ m. m.entries ≡ (4, 26) ∷ (2, 24) ∷ (6, 23) ∷ (8, 25) ∷ []) }
 {
@@ -214,18 +177,10 @@ pub fn clone(alloc: Global) -> Result<NEIndexMap<u32, u32>, AllocError>
     Ok(copy)
 }
 
-/// Reads a value by its index.
 pub fn index(alloc: Global) -> Result<u32, AllocError>
     ensures { IfOk result (λ value. value ≡ 2) }
 {
     let map = neim![alloc; 0 => 1, 2 => 2, 4 => 3, 6 => 4, 8 => 5, 10 => 6]?;
     let value = map[1];
     Ok(value)
-}
-
-/// Returns the least of the values. This is a chain over any index map, and no example.
-pub fn least_value(prices: &NEIndexMap<u32, u32>) -> u32
-    ensures { All (λ pair. result ≤ pair.1) prices.now.entries }
-{
-    *prices.nonempty_iter().min_by_key(|pair| *pair.1).1
 }

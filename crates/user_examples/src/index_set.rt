@@ -9,7 +9,6 @@ use std::alloc::{AllocError, Global};
 use std::hash::BuildHasherDefault;
 use std::num::NonZeroUsize;
 
-/// Asks for items of a set that is written out, and counts them.
 pub fn contains_and_len(alloc: Global) -> Result<(bool, bool, usize), AllocError>
     ensures two { IfOk result (λ r. r.0 ≡ true) }
     ensures three { IfOk result (λ r. r.1 ≡ false) }
@@ -21,7 +20,6 @@ pub fn contains_and_len(alloc: Global) -> Result<(bool, bool, usize), AllocError
     Ok((two, three, len))
 }
 
-/// Iterates over the items by the iterator of `indexmap`.
 pub fn iter(alloc: Global) -> Result<Vec<u32>, AllocError>
     ensures { IfOk result (λ v. v.items ≡ 10 ∷ 2 ∷ 8 ∷ 4 ∷ []) }
 {
@@ -30,7 +28,6 @@ pub fn iter(alloc: Global) -> Result<Vec<u32>, AllocError>
     items.copied().collect(alloc)
 }
 
-/// Iterates over the items.
 pub fn nonempty_iter(alloc: Global) -> Result<NEVec<u32>, AllocError>
     ensures { IfOk result (λ v. v ≡ 10 ∷ 2 ∷ 8 ∷ 4 ∷ []) }
 {
@@ -39,7 +36,6 @@ pub fn nonempty_iter(alloc: Global) -> Result<NEVec<u32>, AllocError>
     items.copied().collect(alloc)
 }
 
-/// Counts the items of a set that is written out with one of them twice.
 pub fn len(alloc: Global) -> Result<usize, AllocError>
     ensures { IfOk result (λ len. len ≡ 2) }
 {
@@ -47,7 +43,6 @@ pub fn len(alloc: Global) -> Result<usize, AllocError>
     Ok(len)
 }
 
-/// Creates a set of one item.
 pub fn new(alloc: Global) -> Result<NEIndexSet<u32>, AllocError>
     ensures { IfOk result (λ s. s.keys ≡ 2 ∷ []) }
 {
@@ -55,7 +50,6 @@ pub fn new(alloc: Global) -> Result<NEIndexSet<u32>, AllocError>
     Ok(set)
 }
 
-/// Creates a set of one item that has room for more.
 pub fn with_capacity(alloc: Global) -> Result<NEIndexSet<u32>, AllocError>
     ensures items { IfOk result (λ s. s.keys ≡ 2 ∷ []) }
     ensures room { IfOk result (λ s. 9 ≤ index_set_len s + spare s) }
@@ -65,7 +59,6 @@ pub fn with_capacity(alloc: Global) -> Result<NEIndexSet<u32>, AllocError>
     Ok(set)
 }
 
-/// Converts sets of `indexmap`, one that has items and one that is empty.
 pub fn try_from_set(
     alloc: Global,
 ) -> Result<(Option<NEIndexSet<u32>>, Option<NEIndexSet<u32>>), AllocError>
@@ -79,7 +72,6 @@ pub fn try_from_set(
     Ok((some, none))
 }
 
-/// Asks for an item that is there and for one that isn't.
 pub fn contains(alloc: Global) -> Result<(bool, bool), AllocError>
     ensures there { IfOk result (λ r. r.0 ≡ true) }
     ensures absent { IfOk result (λ r. r.1 ≡ false) }
@@ -89,7 +81,6 @@ pub fn contains(alloc: Global) -> Result<(bool, bool), AllocError>
     Ok((there, absent))
 }
 
-/// Iterates over the items that are only in the first set.
 pub fn difference(alloc: Global) -> Result<Vec<u32>, AllocError>
     ensures { IfOk result (λ v. v.items ≡ 2 ∷ 4 ∷ []) }
 {
@@ -98,7 +89,6 @@ pub fn difference(alloc: Global) -> Result<Vec<u32>, AllocError>
     Ok(left.copied().collect(alloc)?)
 }
 
-/// Inserts an item twice.
 pub fn insert(alloc: Global) -> Result<(bool, bool, NEIndexSet<u32>), AllocError>
     ensures added { IfOk result (λ r. r.0 ≡ true) }
     ensures again { IfOk result (λ r. r.1 ≡ false) }
@@ -110,7 +100,6 @@ pub fn insert(alloc: Global) -> Result<(bool, bool, NEIndexSet<u32>), AllocError
     Ok((added, again, set))
 }
 
-/// Iterates over the items that are in both sets.
 pub fn intersection(alloc: Global) -> Result<Vec<u32>, AllocError>
     ensures { IfOk result (λ v. v.items ≡ 3 ∷ []) }
 {
@@ -119,7 +108,6 @@ pub fn intersection(alloc: Global) -> Result<Vec<u32>, AllocError>
     Ok(shared.copied().collect(alloc)?)
 }
 
-/// Asks whether two sets that have an item in common have none.
 pub fn is_disjoint(alloc: Global) -> Result<bool, AllocError>
     ensures { IfOk result (λ disjoint. disjoint ≡ false) }
 {
@@ -128,7 +116,6 @@ pub fn is_disjoint(alloc: Global) -> Result<bool, AllocError>
     Ok(disjoint)
 }
 
-/// Asks whether the second set has each item of the first.
 pub fn is_subset(alloc: Global) -> Result<bool, AllocError>
     ensures { IfOk result (λ subset. subset ≡ true) }
 {
@@ -139,18 +126,6 @@ pub fn is_subset(alloc: Global) -> Result<bool, AllocError>
     Ok(subset)
 }
 
-/// Asks the same of sets that are written out. This is no example of a comment: the attribute has
-/// the check search once more, without the lemmas of std, and that search ends.
-#[tactic(auto, using(std::proofs::Common::arith))]
-pub fn is_written_out_subset(alloc: Global) -> Result<bool, AllocError>
-    ensures { IfOk result (λ subset. subset ≡ true) }
-{
-    let a: NEIndexSet<u32> = neis![alloc; 1, 2]?;
-    let b: NEIndexSet<u32> = neis![alloc; 2, 1, 3]?;
-    Ok(a.is_subset(&b))
-}
-
-/// Asks whether the first set has each item of the second.
 pub fn is_superset(alloc: Global) -> Result<bool, AllocError>
     ensures { IfOk result (λ superset. superset ≡ true) }
 {
@@ -161,7 +136,6 @@ pub fn is_superset(alloc: Global) -> Result<bool, AllocError>
     Ok(superset)
 }
 
-/// Replaces an item by an equal one.
 pub fn replace(alloc: Global) -> Result<Option<u32>, AllocError>
     ensures { IfOk result (λ old. old ≡ Some 4) }
 {
@@ -170,7 +144,6 @@ pub fn replace(alloc: Global) -> Result<Option<u32>, AllocError>
     Ok(old)
 }
 
-/// Makes room for 20 more items, and returns the capacity.
 pub fn reserve(alloc: Global) -> Result<usize, AllocError>
     ensures { IfOk result (λ capacity. 21 ≤ capacity) }
 {
@@ -179,7 +152,6 @@ pub fn reserve(alloc: Global) -> Result<usize, AllocError>
     Ok(set.capacity().get())
 }
 
-/// Counts the items of both sets.
 pub fn union(alloc: Global) -> Result<usize, AllocError>
     ensures { IfOk result (λ count. count ≡ 2) }
 {
@@ -188,7 +160,6 @@ pub fn union(alloc: Global) -> Result<usize, AllocError>
     Ok(count)
 }
 
-/// Creates a set of one item with a hasher.
 pub fn with_hasher(alloc: Global) -> Result<NEIndexSet<u32>, AllocError>
     ensures { IfOk result (λ s. s.keys ≡ 5 ∷ []) }
 {
@@ -197,15 +168,6 @@ pub fn with_hasher(alloc: Global) -> Result<NEIndexSet<u32>, AllocError>
     Ok(set)
 }
 
-/// Inserts items, one of which is there.
-/// What it makes is only run, as what `indexmap`'s own `extend` makes is not found either.
-pub fn extend(alloc: Global) -> Result<NEIndexSet<u32>, AllocError> {
-    let mut set = NEIndexSet::new(alloc, 2)?;
-    set.extend([4, 2])?;
-    Ok(set)
-}
-
-/// Compares a set with its clone.
 pub fn clone(alloc: Global) -> Result<bool, AllocError>
     ensures { IfOk result (λ same. same ≡ true) }
 {

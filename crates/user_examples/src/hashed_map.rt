@@ -13,7 +13,6 @@ use std::hash::{BuildHasherDefault, RandomState};
 use std::io;
 use std::num::NonZeroUsize;
 
-/// Creates a map whose hasher has a random seed.
 pub fn random_state(
     alloc: Global,
     rt: &HostRuntime,
@@ -24,7 +23,6 @@ pub fn random_state(
     Ok(map)
 }
 
-/// Looks up keys of a map that is written out, and counts them.
 pub fn get_and_len(alloc: Global) -> Result<(Option<u32>, Option<u32>, usize), AllocError>
     ensures one { IfOk result (λ r. r.0 ≡ Some 30) }
     ensures three { IfOk result (λ r. r.1 ≡ None) }
@@ -36,7 +34,6 @@ pub fn get_and_len(alloc: Global) -> Result<(Option<u32>, Option<u32>, usize), A
     Ok((one.copied(), three.copied(), len))
 }
 
-/// Creates a map of one key.
 pub fn new(alloc: Global) -> Result<NEMap<u32, u32>, AllocError>
     ensures { IfOk result (λ m. m.entries ≡ (4, 20) ∷ []) }
 {
@@ -44,7 +41,6 @@ pub fn new(alloc: Global) -> Result<NEMap<u32, u32>, AllocError>
     Ok(map)
 }
 
-/// Creates a map of one key that has room for more.
 pub fn with_capacity(alloc: Global) -> Result<NEMap<u32, u32>, AllocError>
     ensures entries { IfOk result (λ m. m.entries ≡ (2, 1) ∷ []) }
     ensures room { IfOk result (λ m. 9 ≤ hash_map_len m + spare m) }
@@ -54,7 +50,6 @@ pub fn with_capacity(alloc: Global) -> Result<NEMap<u32, u32>, AllocError>
     Ok(map)
 }
 
-/// Converts std's maps, one that has keys and one that is empty.
 pub fn try_from_map(
     alloc: Global,
 ) -> Result<(Option<NEMap<u32, u32>>, Option<NEMap<u32, u32>>), AllocError>
@@ -72,7 +67,6 @@ pub fn try_from_map(
     Ok((some, none))
 }
 
-/// Iterates over the pairs by std's iterator.
 pub fn iter(alloc: Global) -> Result<Vec<(u32, u32)>, AllocError>
     ensures zero { IfOk result (λ v. lookup (nat_eq 0) v.items ≡ Some 3) }
     ensures two { IfOk result (λ v. lookup (nat_eq 2) v.items ≡ Some 1) }
@@ -83,8 +77,7 @@ pub fn iter(alloc: Global) -> Result<Vec<(u32, u32)>, AllocError>
     pairs.map(|(k, v)| (*k, *v)).collect(alloc)
 }
 
-/// Writes each value through std's iterator, which keeps the number of keys.
-/// What the loop writes is only run, as what it writes by std's own `iter_mut` is not found either.
+/// The values that the loop writes are only run.
 pub fn iter_mut(alloc: Global) -> Result<NEMap<u32, u32>, AllocError>
     ensures { IfOk result (λ m. hash_map_len m ≡ 2) }
 {
@@ -95,7 +88,6 @@ pub fn iter_mut(alloc: Global) -> Result<NEMap<u32, u32>, AllocError>
     Ok(map)
 }
 
-/// Iterates over the pairs.
 pub fn nonempty_iter(alloc: Global) -> Result<NEVec<(u32, u32)>, AllocError>
     ensures zero { IfOk result (λ v. lookup (nat_eq 0) v ≡ Some 3) }
     ensures two { IfOk result (λ v. lookup (nat_eq 2) v ≡ Some 1) }
@@ -106,8 +98,7 @@ pub fn nonempty_iter(alloc: Global) -> Result<NEVec<(u32, u32)>, AllocError>
     pairs.map(|(k, v)| (*k, *v)).collect(alloc)
 }
 
-/// Writes each value, which keeps the number of keys.
-/// What the loop writes is only run, as what it writes by std's own `iter_mut` is not found either.
+/// The values that the loop writes are only run.
 pub fn nonempty_iter_mut(alloc: Global) -> Result<NEMap<u32, u32>, AllocError>
     ensures { IfOk result (λ m. hash_map_len m ≡ 2) }
 {
@@ -118,7 +109,6 @@ pub fn nonempty_iter_mut(alloc: Global) -> Result<NEMap<u32, u32>, AllocError>
     Ok(map)
 }
 
-/// Iterates over the keys.
 pub fn keys(alloc: Global) -> Result<NEVec<u32>, AllocError>
     ensures zero { IfOk result (λ v. is_member nat_eq v 0 ≡ true) }
     ensures two { IfOk result (λ v. is_member nat_eq v 2 ≡ true) }
@@ -129,7 +119,6 @@ pub fn keys(alloc: Global) -> Result<NEVec<u32>, AllocError>
     Ok(keys.copied().collect(alloc)?)
 }
 
-/// Counts the keys of a map that is written out with one of them twice.
 pub fn len(alloc: Global) -> Result<usize, AllocError>
     ensures { IfOk result (λ len. len ≡ 2) }
 {
@@ -137,7 +126,6 @@ pub fn len(alloc: Global) -> Result<usize, AllocError>
     Ok(len)
 }
 
-/// Iterates over the values.
 pub fn values(alloc: Global) -> Result<NEVec<u32>, AllocError>
     ensures three { IfOk result (λ v. Contains v 3) }
     ensures one { IfOk result (λ v. Contains v 1) }
@@ -154,7 +142,6 @@ pub fn values(alloc: Global) -> Result<NEVec<u32>, AllocError>
     })
 }
 
-/// Asks for a key that is there and for one that isn't.
 pub fn contains_key(alloc: Global) -> Result<(bool, bool), AllocError>
     ensures there { IfOk result (λ r. r.0 ≡ true) }
     ensures absent { IfOk result (λ r. r.1 ≡ false) }
@@ -164,17 +151,6 @@ pub fn contains_key(alloc: Global) -> Result<(bool, bool), AllocError>
     Ok((there, absent))
 }
 
-/// Looks up a key that is there and one that isn't.
-pub fn get(alloc: Global) -> Result<(Option<u32>, Option<u32>), AllocError>
-    ensures one { IfOk result (λ r. r.0 ≡ Some 30) }
-    ensures three { IfOk result (λ r. r.1 ≡ None) }
-{
-    let map = nem![alloc; 1 => 10, 2 => 20, 1 => 30]?;
-    let (one, three) = (map.get(&1), map.get(&3));
-    Ok((one.copied(), three.copied()))
-}
-
-/// Writes the value of a key.
 pub fn get_mut(alloc: Global) -> Result<NEMap<u32, u32>, AllocError>
     ensures two { IfOk result (λ m. get nat_eq m 2 ≡ Some 24) }
     ensures four { IfOk result (λ m. get nat_eq m 4 ≡ Some 27) }
@@ -189,7 +165,6 @@ pub fn get_mut(alloc: Global) -> Result<NEMap<u32, u32>, AllocError>
     Ok(map)
 }
 
-/// Inserts a new key, and a key that is there.
 pub fn insert(alloc: Global) -> Result<(Option<u32>, Option<u32>, NEMap<u32, u32>), AllocError>
     ensures none { IfOk result (λ r. r.0 ≡ None) }
     ensures old { IfOk result (λ r. r.1 ≡ Some 20) }
@@ -203,7 +178,6 @@ pub fn insert(alloc: Global) -> Result<(Option<u32>, Option<u32>, NEMap<u32, u32
     Ok((none, old, map))
 }
 
-/// Creates a map of one key with a hasher.
 pub fn with_hasher(alloc: Global) -> Result<NEMap<u32, u32>, AllocError>
     ensures { IfOk result (λ m. m.entries ≡ (5, 60) ∷ []) }
 {
@@ -212,15 +186,6 @@ pub fn with_hasher(alloc: Global) -> Result<NEMap<u32, u32>, AllocError>
     Ok(map)
 }
 
-/// Inserts pairs, one of them with a key that is there.
-/// What it makes is only run, as what std's own `extend` makes is not found either.
-pub fn extend(alloc: Global) -> Result<NEMap<u32, u32>, AllocError> {
-    let mut map = nem![alloc; 2 => 21, 4 => 22]?;
-    map.extend([(6, 23), (2, 24)])?;
-    Ok(map)
-}
-
-/// Compares a map with its clone.
 pub fn clone(alloc: Global) -> Result<bool, AllocError>
     ensures { IfOk result (λ same. same ≡ true) }
 {

@@ -6,7 +6,6 @@ use nonempty_collections::{NEBTreeSet, NEVec, NonEmptyIterator, nebts};
 use std::alloc::{AllocError, Global};
 use std::collections::BTreeSet;
 
-/// Asks for items of a set that is written out, and counts them.
 pub fn contains_and_len(alloc: Global) -> Result<(bool, bool, usize), AllocError>
     ensures two { IfOk result (λ r. r.0 ≡ true) }
     ensures three { IfOk result (λ r. r.1 ≡ false) }
@@ -18,7 +17,6 @@ pub fn contains_and_len(alloc: Global) -> Result<(bool, bool, usize), AllocError
     Ok((two, three, len))
 }
 
-/// Creates a set of one item.
 pub fn new(alloc: Global) -> Result<NEBTreeSet<u32>, AllocError>
     ensures { IfOk result (λ s. s.keys ≡ 2 ∷ []) }
 {
@@ -26,7 +24,6 @@ pub fn new(alloc: Global) -> Result<NEBTreeSet<u32>, AllocError>
     Ok(set)
 }
 
-/// Iterates over the items by std's iterator.
 pub fn iter(alloc: Global) -> Result<Vec<u32>, AllocError>
     ensures { IfOk result (λ v. v.items ≡ 2 ∷ 4 ∷ 8 ∷ 10 ∷ []) }
 {
@@ -35,7 +32,6 @@ pub fn iter(alloc: Global) -> Result<Vec<u32>, AllocError>
     items.copied().collect(alloc)
 }
 
-/// Iterates over the items.
 pub fn nonempty_iter(alloc: Global) -> Result<NEVec<u32>, AllocError>
     ensures { IfOk result (λ v. v ≡ 2 ∷ 4 ∷ 8 ∷ 10 ∷ []) }
 {
@@ -44,7 +40,6 @@ pub fn nonempty_iter(alloc: Global) -> Result<NEVec<u32>, AllocError>
     items.copied().collect(alloc)
 }
 
-/// Counts the items of a set that is written out with one of them twice.
 pub fn len(alloc: Global) -> Result<usize, AllocError>
     ensures { IfOk result (λ len. len ≡ 2) }
 {
@@ -52,7 +47,6 @@ pub fn len(alloc: Global) -> Result<usize, AllocError>
     Ok(len)
 }
 
-/// Converts std's sets, one that has items and one that is empty.
 pub fn try_from_set(
     alloc: Global,
 ) -> Result<(Option<NEBTreeSet<u32>>, Option<NEBTreeSet<u32>>), AllocError>
@@ -68,7 +62,6 @@ pub fn try_from_set(
     Ok((some, none))
 }
 
-/// Asks for an item that is there and for one that isn't.
 pub fn contains(alloc: Global) -> Result<(bool, bool), AllocError>
     ensures there { IfOk result (λ r. r.0 ≡ true) }
     ensures absent { IfOk result (λ r. r.1 ≡ false) }
@@ -78,7 +71,6 @@ pub fn contains(alloc: Global) -> Result<(bool, bool), AllocError>
     Ok((there, absent))
 }
 
-/// Iterates over the items that are only in the first set.
 pub fn difference(alloc: Global) -> Result<Vec<u32>, AllocError>
     ensures { IfOk result (λ v. v.items ≡ 2 ∷ 4 ∷ []) }
 {
@@ -87,7 +79,6 @@ pub fn difference(alloc: Global) -> Result<Vec<u32>, AllocError>
     left.copied().collect(alloc)
 }
 
-/// Looks up an item that is there and one that isn't.
 pub fn get(alloc: Global) -> Result<(Option<u32>, Option<u32>), AllocError>
     ensures two { IfOk result (λ r. r.0 ≡ Some 2) }
     ensures none { IfOk result (λ r. r.1 ≡ None) }
@@ -97,7 +88,6 @@ pub fn get(alloc: Global) -> Result<(Option<u32>, Option<u32>), AllocError>
     Ok((two.copied(), none.copied()))
 }
 
-/// Inserts an item twice.
 pub fn insert(alloc: Global) -> Result<(bool, bool, NEBTreeSet<u32>), AllocError>
     ensures added { IfOk result (λ r. r.0 ≡ true) }
     ensures again { IfOk result (λ r. r.1 ≡ false) }
@@ -109,7 +99,6 @@ pub fn insert(alloc: Global) -> Result<(bool, bool, NEBTreeSet<u32>), AllocError
     Ok((added, again, set))
 }
 
-/// Iterates over the items that are in both sets.
 pub fn intersection(alloc: Global) -> Result<Vec<u32>, AllocError>
     ensures { IfOk result (λ v. v.items ≡ 3 ∷ []) }
 {
@@ -118,7 +107,6 @@ pub fn intersection(alloc: Global) -> Result<Vec<u32>, AllocError>
     shared.copied().collect(alloc)
 }
 
-/// Asks whether two sets that have an item in common have none.
 pub fn is_disjoint(alloc: Global) -> Result<bool, AllocError>
     ensures { IfOk result (λ disjoint. disjoint ≡ false) }
 {
@@ -127,7 +115,6 @@ pub fn is_disjoint(alloc: Global) -> Result<bool, AllocError>
     Ok(disjoint)
 }
 
-/// Asks whether the second set has each item of the first.
 pub fn is_subset(alloc: Global) -> Result<bool, AllocError>
     ensures { IfOk result (λ subset. subset ≡ true) }
 {
@@ -136,7 +123,6 @@ pub fn is_subset(alloc: Global) -> Result<bool, AllocError>
     Ok(subset)
 }
 
-/// Asks whether the first set has each item of the second.
 pub fn is_superset(alloc: Global) -> Result<bool, AllocError>
     ensures { IfOk result (λ superset. superset ≡ true) }
 {
@@ -145,7 +131,6 @@ pub fn is_superset(alloc: Global) -> Result<bool, AllocError>
     Ok(superset)
 }
 
-/// Replaces an item by an equal one.
 pub fn replace(alloc: Global) -> Result<Option<u32>, AllocError>
     ensures { IfOk result (λ old. old ≡ Some 4) }
 {
@@ -154,7 +139,6 @@ pub fn replace(alloc: Global) -> Result<Option<u32>, AllocError>
     Ok(old)
 }
 
-/// Iterates over the items of both sets.
 pub fn union(alloc: Global) -> Result<NEVec<u32>, AllocError>
     ensures { IfOk result (λ v. v ≡ 1 ∷ 2 ∷ 3 ∷ 4 ∷ 5 ∷ []) }
 {
@@ -163,15 +147,6 @@ pub fn union(alloc: Global) -> Result<NEVec<u32>, AllocError>
     all.copied().collect(alloc)
 }
 
-/// Inserts items, one of which is there.
-/// What it makes is only run, as what std's own `extend` makes is not found either.
-pub fn extend(alloc: Global) -> Result<NEBTreeSet<u32>, AllocError> {
-    let mut set = NEBTreeSet::new(alloc, 2)?;
-    set.extend([4, 2])?;
-    Ok(set)
-}
-
-/// Compares a set with its clone.
 pub fn clone(alloc: Global) -> Result<bool, AllocError>
     ensures { IfOk result (λ same. same ≡ true) }
 {
