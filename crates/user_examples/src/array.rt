@@ -4,6 +4,7 @@ ghost use Rattle.std.specs.Prelude.{◌≡◌, ◌∷◌, [], IfOk};
 use nonempty_collections::{NEVec, NonEmptyArrayExt, NonEmptyIterator};
 use std::alloc::{AllocError, Global};
 
+/// The items of an array as a slice.
 pub fn as_nonempty_slice(alloc: Global) -> Result<NEVec<u32>, AllocError>
     ensures { IfOk result (λ v. v ≡ 1 ∷ 4 ∷ 1 ∷ []) }
 {
@@ -12,6 +13,7 @@ pub fn as_nonempty_slice(alloc: Global) -> Result<NEVec<u32>, AllocError>
     slice.nonempty_iter().copied().collect(alloc)
 }
 
+/// The number of items.
 pub fn nonzero_len(_alloc: Global) -> Result<usize, AllocError>
     ensures { IfOk result (λ len. len ≡ 2) }
 {
@@ -19,6 +21,7 @@ pub fn nonzero_len(_alloc: Global) -> Result<usize, AllocError>
     Ok(len)
 }
 
+/// The items of an array as a vector.
 pub fn into_nonempty_vec(alloc: Global) -> Result<NEVec<u32>, AllocError>
     ensures { IfOk result (λ v. v ≡ 4 ∷ 6 ∷ []) }
 {

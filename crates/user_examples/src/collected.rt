@@ -4,6 +4,7 @@ ghost use Rattle.std.specs.Prelude.{◌≡◌, ◌∷◌, [], IfOk, codes, strin
 use nonempty_collections::{IntoNonEmptyIterator, NonEmptyIterator};
 use std::alloc::{AllocError, Global};
 
+/// A list of the items, and a text of texts.
 pub fn from_nonempty_iter(alloc: Global) -> Result<(Vec<u32>, String), AllocError>
     ensures list { IfOk result (λ r. r.0.items ≡ 1 ∷ 1 ∷ 2 ∷ []) }
     ensures text { IfOk result (λ r. string_bytes r.1 ≡ codes "abc") }

@@ -4,6 +4,7 @@ ghost use Rattle.std.specs.Prelude.{◌≡◌, ◌∷◌, [], IfOk};
 use nonempty_collections::{NEVec, nev};
 use std::alloc::{AllocError, Global};
 
+/// Of items with the same ten, the first one stays.
 pub fn dedup_by_key(alloc: Global) -> Result<NEVec<u32>, AllocError>
     ensures { IfOk result (λ v. v ≡ 41 ∷ 60 ∷ 40 ∷ []) }
 {
@@ -12,6 +13,7 @@ pub fn dedup_by_key(alloc: Global) -> Result<NEVec<u32>, AllocError>
     Ok(items)
 }
 
+/// An item that is less than the last one kept is dropped.
 pub fn dedup_by(alloc: Global) -> Result<NEVec<u32>, AllocError>
     ensures { IfOk result (λ v. v ≡ 4 ∷ 6 ∷ []) }
 {

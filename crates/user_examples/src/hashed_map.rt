@@ -13,6 +13,7 @@ use std::hash::{BuildHasherDefault, RandomState};
 use std::io;
 use std::num::NonZeroUsize;
 
+/// Creates a map whose hasher has a random seed.
 pub fn random_state(
     alloc: Global,
     rt: &HostRuntime,
@@ -23,6 +24,7 @@ pub fn random_state(
     Ok(map)
 }
 
+/// Looks up keys of a map that is written out, and counts them.
 pub fn get_and_len(alloc: Global) -> Result<(Option<u32>, Option<u32>, usize), AllocError>
     ensures one { IfOk result (λ r. r.0 ≡ Some 30) }
     ensures three { IfOk result (λ r. r.1 ≡ None) }
@@ -34,6 +36,7 @@ pub fn get_and_len(alloc: Global) -> Result<(Option<u32>, Option<u32>, usize), A
     Ok((one.copied(), three.copied(), len))
 }
 
+/// Creates a map of one key.
 pub fn new(alloc: Global) -> Result<NEMap<u32, u32>, AllocError>
     ensures { IfOk result (λ m. m.entries ≡ (4, 20) ∷ []) }
 {
@@ -41,6 +44,7 @@ pub fn new(alloc: Global) -> Result<NEMap<u32, u32>, AllocError>
     Ok(map)
 }
 
+/// Creates a map of one key that has room for more.
 pub fn with_capacity(alloc: Global) -> Result<NEMap<u32, u32>, AllocError>
     ensures entries { IfOk result (λ m. m.entries ≡ (2, 1) ∷ []) }
     ensures room { IfOk result (λ m. 9 ≤ hash_map_len m + spare m) }
@@ -50,6 +54,7 @@ pub fn with_capacity(alloc: Global) -> Result<NEMap<u32, u32>, AllocError>
     Ok(map)
 }
 
+/// Converts std's maps, one that has keys and one that is empty.
 pub fn try_from_map(
     alloc: Global,
 ) -> Result<(Option<NEMap<u32, u32>>, Option<NEMap<u32, u32>>), AllocError>
@@ -67,6 +72,7 @@ pub fn try_from_map(
     Ok((some, none))
 }
 
+/// Iterates over the pairs by std's iterator.
 pub fn iter(alloc: Global) -> Result<Vec<(u32, u32)>, AllocError>
     ensures zero { IfOk result (λ v. lookup (nat_eq 0) v.items ≡ Some 3) }
     ensures two { IfOk result (λ v. lookup (nat_eq 2) v.items ≡ Some 1) }
@@ -88,6 +94,7 @@ pub fn iter_mut(alloc: Global) -> Result<NEMap<u32, u32>, AllocError>
     Ok(map)
 }
 
+/// Iterates over the pairs.
 pub fn nonempty_iter(alloc: Global) -> Result<NEVec<(u32, u32)>, AllocError>
     ensures zero { IfOk result (λ v. lookup (nat_eq 0) v ≡ Some 3) }
     ensures two { IfOk result (λ v. lookup (nat_eq 2) v ≡ Some 1) }
@@ -109,6 +116,7 @@ pub fn nonempty_iter_mut(alloc: Global) -> Result<NEMap<u32, u32>, AllocError>
     Ok(map)
 }
 
+/// Iterates over the keys.
 pub fn keys(alloc: Global) -> Result<NEVec<u32>, AllocError>
     ensures zero { IfOk result (λ v. is_member nat_eq v 0 ≡ true) }
     ensures two { IfOk result (λ v. is_member nat_eq v 2 ≡ true) }
@@ -119,6 +127,7 @@ pub fn keys(alloc: Global) -> Result<NEVec<u32>, AllocError>
     Ok(keys.copied().collect(alloc)?)
 }
 
+/// Counts the keys of a map that is written out with one of them twice.
 pub fn len(alloc: Global) -> Result<usize, AllocError>
     ensures { IfOk result (λ len. len ≡ 2) }
 {
@@ -126,6 +135,7 @@ pub fn len(alloc: Global) -> Result<usize, AllocError>
     Ok(len)
 }
 
+/// Iterates over the values.
 pub fn values(alloc: Global) -> Result<NEVec<u32>, AllocError>
     ensures three { IfOk result (λ v. Contains v 3) }
     ensures one { IfOk result (λ v. Contains v 1) }
@@ -142,6 +152,7 @@ pub fn values(alloc: Global) -> Result<NEVec<u32>, AllocError>
     })
 }
 
+/// Asks for a key that is there and for one that isn't.
 pub fn contains_key(alloc: Global) -> Result<(bool, bool), AllocError>
     ensures there { IfOk result (λ r. r.0 ≡ true) }
     ensures absent { IfOk result (λ r. r.1 ≡ false) }
@@ -151,6 +162,7 @@ pub fn contains_key(alloc: Global) -> Result<(bool, bool), AllocError>
     Ok((there, absent))
 }
 
+/// Writes the value of a key.
 pub fn get_mut(alloc: Global) -> Result<NEMap<u32, u32>, AllocError>
     ensures two { IfOk result (λ m. get nat_eq m 2 ≡ Some 24) }
     ensures four { IfOk result (λ m. get nat_eq m 4 ≡ Some 27) }
@@ -165,6 +177,7 @@ pub fn get_mut(alloc: Global) -> Result<NEMap<u32, u32>, AllocError>
     Ok(map)
 }
 
+/// Inserts a new key, and a key that is there.
 pub fn insert(alloc: Global) -> Result<(Option<u32>, Option<u32>, NEMap<u32, u32>), AllocError>
     ensures none { IfOk result (λ r. r.0 ≡ None) }
     ensures old { IfOk result (λ r. r.1 ≡ Some 20) }
@@ -178,6 +191,7 @@ pub fn insert(alloc: Global) -> Result<(Option<u32>, Option<u32>, NEMap<u32, u32
     Ok((none, old, map))
 }
 
+/// Creates a map of one key with a hasher.
 pub fn with_hasher(alloc: Global) -> Result<NEMap<u32, u32>, AllocError>
     ensures { IfOk result (λ m. m.entries ≡ (5, 60) ∷ []) }
 {
@@ -186,6 +200,7 @@ pub fn with_hasher(alloc: Global) -> Result<NEMap<u32, u32>, AllocError>
     Ok(map)
 }
 
+/// Compares a map with its clone.
 pub fn clone(alloc: Global) -> Result<bool, AllocError>
     ensures { IfOk result (λ same. same ≡ true) }
 {

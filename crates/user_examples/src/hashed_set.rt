@@ -13,6 +13,7 @@ use std::hash::{BuildHasherDefault, RandomState};
 use std::io;
 use std::num::NonZeroUsize;
 
+/// Creates a set whose hasher has a random seed.
 pub fn random_state(alloc: Global, rt: &HostRuntime) -> Result<NESet<u32, RandomState>, io::Error>
     ensures { IfOk result (λ s. s.keys ≡ 1 ∷ []) }
 {
@@ -20,6 +21,7 @@ pub fn random_state(alloc: Global, rt: &HostRuntime) -> Result<NESet<u32, Random
     Ok(set)
 }
 
+/// Asks for items of a set that is written out, and counts them.
 pub fn contains_and_len(alloc: Global) -> Result<(bool, bool, usize), AllocError>
     ensures two { IfOk result (λ r. r.0 ≡ true) }
     ensures three { IfOk result (λ r. r.1 ≡ false) }
@@ -31,6 +33,7 @@ pub fn contains_and_len(alloc: Global) -> Result<(bool, bool, usize), AllocError
     Ok((two, three, len))
 }
 
+/// Iterates over the items by std's iterator.
 pub fn iter(alloc: Global) -> Result<Vec<u32>, AllocError>
     ensures two { IfOk result (λ v. is_member nat_eq v.items 2 ≡ true) }
     ensures four { IfOk result (λ v. is_member nat_eq v.items 4 ≡ true) }
@@ -43,6 +46,7 @@ pub fn iter(alloc: Global) -> Result<Vec<u32>, AllocError>
     items.copied().collect(alloc)
 }
 
+/// Iterates over the items.
 pub fn nonempty_iter(alloc: Global) -> Result<NEVec<u32>, AllocError>
     ensures two { IfOk result (λ v. is_member nat_eq v 2 ≡ true) }
     ensures four { IfOk result (λ v. is_member nat_eq v 4 ≡ true) }
@@ -55,6 +59,7 @@ pub fn nonempty_iter(alloc: Global) -> Result<NEVec<u32>, AllocError>
     items.copied().collect(alloc)
 }
 
+/// Counts the items of a set that is written out with one of them twice.
 pub fn len(alloc: Global) -> Result<usize, AllocError>
     ensures { IfOk result (λ len. len ≡ 2) }
 {
@@ -62,6 +67,7 @@ pub fn len(alloc: Global) -> Result<usize, AllocError>
     Ok(len)
 }
 
+/// Creates a set of one item.
 pub fn new(alloc: Global) -> Result<NESet<u32>, AllocError>
     ensures { IfOk result (λ s. s.keys ≡ 2 ∷ []) }
 {
@@ -69,6 +75,7 @@ pub fn new(alloc: Global) -> Result<NESet<u32>, AllocError>
     Ok(set)
 }
 
+/// Creates a set of one item that has room for more.
 pub fn with_capacity(alloc: Global) -> Result<NESet<u32>, AllocError>
     ensures items { IfOk result (λ s. s.keys ≡ 2 ∷ []) }
     ensures room { IfOk result (λ s. 9 ≤ hash_set_len s + spare s) }
@@ -78,6 +85,7 @@ pub fn with_capacity(alloc: Global) -> Result<NESet<u32>, AllocError>
     Ok(set)
 }
 
+/// Converts std's sets, one that has items and one that is empty.
 pub fn try_from_set(alloc: Global) -> Result<(Option<NESet<u32>>, Option<NESet<u32>>), AllocError>
     ensures two { IfOk result (λ r. IsSomeAnd r.0 (λ s. contains nat_eq s 2 ≡ true)) }
     ensures four { IfOk result (λ r. IsSomeAnd r.0 (λ s. contains nat_eq s 4 ≡ true)) }
@@ -93,6 +101,7 @@ pub fn try_from_set(alloc: Global) -> Result<(Option<NESet<u32>>, Option<NESet<u
     Ok((some, none))
 }
 
+/// Asks for an item that is there and for one that isn't.
 pub fn contains(alloc: Global) -> Result<(bool, bool), AllocError>
     ensures there { IfOk result (λ r. r.0 ≡ true) }
     ensures absent { IfOk result (λ r. r.1 ≡ false) }
@@ -102,6 +111,7 @@ pub fn contains(alloc: Global) -> Result<(bool, bool), AllocError>
     Ok((there, absent))
 }
 
+/// Iterates over the items that are only in the first set.
 pub fn difference(alloc: Global) -> Result<Vec<u32>, AllocError>
     ensures { IfOk result (λ v. IsSetOf nat_eq (2 ∷ []) v.items) }
 {
@@ -110,6 +120,7 @@ pub fn difference(alloc: Global) -> Result<Vec<u32>, AllocError>
     Ok(left)
 }
 
+/// Looks up an item that is there and one that isn't.
 pub fn get(alloc: Global) -> Result<(Option<u32>, Option<u32>), AllocError>
     ensures eight { IfOk result (λ r. r.0 ≡ Some 8) }
     ensures none { IfOk result (λ r. r.1 ≡ None) }
@@ -119,6 +130,7 @@ pub fn get(alloc: Global) -> Result<(Option<u32>, Option<u32>), AllocError>
     Ok((eight.copied(), none.copied()))
 }
 
+/// Inserts an item twice.
 pub fn insert(alloc: Global) -> Result<(bool, bool, NESet<u32>), AllocError>
     ensures added { IfOk result (λ r. r.0 ≡ true) }
     ensures again { IfOk result (λ r. r.1 ≡ false) }
@@ -133,6 +145,7 @@ pub fn insert(alloc: Global) -> Result<(bool, bool, NESet<u32>), AllocError>
     Ok((added, again, set))
 }
 
+/// Iterates over the items that are in both sets.
 pub fn intersection(alloc: Global) -> Result<Vec<u32>, AllocError>
     ensures { IfOk result (λ v. IsSetOf nat_eq (3 ∷ []) v.items) }
 {
@@ -141,6 +154,7 @@ pub fn intersection(alloc: Global) -> Result<Vec<u32>, AllocError>
     shared.copied().collect(alloc)
 }
 
+/// Asks whether two sets that have an item in common have none.
 pub fn is_disjoint(alloc: Global) -> Result<bool, AllocError>
     ensures { IfOk result (λ disjoint. disjoint ≡ false) }
 {
@@ -149,6 +163,7 @@ pub fn is_disjoint(alloc: Global) -> Result<bool, AllocError>
     Ok(disjoint)
 }
 
+/// Asks whether the second set has each item of the first.
 pub fn is_subset(alloc: Global) -> Result<bool, AllocError>
     ensures { IfOk result (λ subset. subset ≡ true) }
 {
@@ -157,6 +172,7 @@ pub fn is_subset(alloc: Global) -> Result<bool, AllocError>
     Ok(subset)
 }
 
+/// Asks whether the first set has each item of the second.
 pub fn is_superset(alloc: Global) -> Result<bool, AllocError>
     ensures { IfOk result (λ superset. superset ≡ true) }
 {
@@ -165,6 +181,7 @@ pub fn is_superset(alloc: Global) -> Result<bool, AllocError>
     Ok(superset)
 }
 
+/// Replaces an item by an equal one, and adds one that equals none.
 pub fn replace(alloc: Global) -> Result<(Option<u32>, Option<u32>), AllocError>
     ensures old { IfOk result (λ r. r.0 ≡ Some 8) }
     ensures none { IfOk result (λ r. r.1 ≡ None) }
@@ -175,6 +192,7 @@ pub fn replace(alloc: Global) -> Result<(Option<u32>, Option<u32>), AllocError>
     Ok((old, none))
 }
 
+/// Makes room for 20 more items, and returns the capacity.
 pub fn reserve(alloc: Global) -> Result<usize, AllocError>
     ensures { IfOk result (λ capacity. 21 ≤ capacity) }
 {
@@ -183,6 +201,7 @@ pub fn reserve(alloc: Global) -> Result<usize, AllocError>
     Ok(set.capacity().get())
 }
 
+/// Creates a set of one item with a hasher.
 pub fn with_hasher(alloc: Global) -> Result<NESet<u32>, AllocError>
     ensures { IfOk result (λ s. s.keys ≡ 8 ∷ []) }
 {
@@ -191,6 +210,7 @@ pub fn with_hasher(alloc: Global) -> Result<NESet<u32>, AllocError>
     Ok(set)
 }
 
+/// Compares a set with its clone.
 pub fn clone(alloc: Global) -> Result<bool, AllocError>
     ensures { IfOk result (λ same. same ≡ true) }
 {

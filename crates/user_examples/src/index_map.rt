@@ -10,6 +10,7 @@ use std::alloc::{AllocError, Global};
 use std::hash::BuildHasherDefault;
 use std::num::NonZeroUsize;
 
+/// Looks up keys of a map that is written out, and counts them.
 pub fn get_and_len(alloc: Global) -> Result<(Option<u32>, Option<u32>, usize), AllocError>
     ensures one { IfOk result (λ r. r.0 ≡ Some 30) }
     ensures three { IfOk result (λ r. r.1 ≡ None) }
@@ -21,6 +22,7 @@ pub fn get_and_len(alloc: Global) -> Result<(Option<u32>, Option<u32>, usize), A
     Ok((one.copied(), three.copied(), len))
 }
 
+/// Iterates over the pairs by the iterator of `indexmap`.
 pub fn iter(alloc: Global) -> Result<Vec<(u32, u32)>, AllocError>
     ensures { IfOk result (λ v. v.items ≡ (0, 3) ∷ (2, 1) ∷ []) }
 {
@@ -29,6 +31,7 @@ pub fn iter(alloc: Global) -> Result<Vec<(u32, u32)>, AllocError>
     pairs.map(|(k, v)| (*k, *v)).collect(alloc)
 }
 
+/// Iterates over the pairs.
 pub fn nonempty_iter(alloc: Global) -> Result<NEVec<(u32, u32)>, AllocError>
     ensures { IfOk result (λ v. v ≡ (0, 3) ∷ (2, 1) ∷ []) }
 {
@@ -37,6 +40,7 @@ pub fn nonempty_iter(alloc: Global) -> Result<NEVec<(u32, u32)>, AllocError>
     pairs.map(|(k, v)| (*k, *v)).collect(alloc)
 }
 
+/// Iterates over the keys.
 pub fn keys(alloc: Global) -> Result<NEVec<u32>, AllocError>
     ensures { IfOk result (λ v. v ≡ 0 ∷ 2 ∷ []) }
 {
@@ -45,6 +49,7 @@ pub fn keys(alloc: Global) -> Result<NEVec<u32>, AllocError>
     keys.copied().collect(alloc)
 }
 
+/// Counts the keys of a map that is written out with one of them twice.
 pub fn len(alloc: Global) -> Result<usize, AllocError>
     ensures { IfOk result (λ len. len ≡ 2) }
 {
@@ -52,6 +57,7 @@ pub fn len(alloc: Global) -> Result<usize, AllocError>
     Ok(len)
 }
 
+/// Iterates over the values.
 pub fn values(alloc: Global) -> Result<NEVec<u32>, AllocError>
     ensures { IfOk result (λ v. v ≡ 3 ∷ 1 ∷ []) }
 {
@@ -60,6 +66,7 @@ pub fn values(alloc: Global) -> Result<NEVec<u32>, AllocError>
     values.copied().collect(alloc)
 }
 
+/// Reads the first pair.
 pub fn first(alloc: Global) -> Result<(u32, u32), AllocError>
     ensures { IfOk result (λ first. first ≡ (0, 1)) }
 {
@@ -68,6 +75,7 @@ pub fn first(alloc: Global) -> Result<(u32, u32), AllocError>
     Ok((*first.0, *first.1))
 }
 
+/// Reads the last pair.
 pub fn last(alloc: Global) -> Result<(u32, u32), AllocError>
     ensures { IfOk result (λ last. last ≡ (10, 6)) }
 {
@@ -76,6 +84,7 @@ pub fn last(alloc: Global) -> Result<(u32, u32), AllocError>
     Ok((*last.0, *last.1))
 }
 
+/// Creates a map of one key.
 pub fn new(alloc: Global) -> Result<NEIndexMap<u32, u32>, AllocError>
     ensures { IfOk result (λ m. m.entries ≡ (4, 20) ∷ []) }
 {
@@ -83,6 +92,7 @@ pub fn new(alloc: Global) -> Result<NEIndexMap<u32, u32>, AllocError>
     Ok(map)
 }
 
+/// Creates a map of one key that has room for more.
 pub fn with_capacity(alloc: Global) -> Result<NEIndexMap<u32, u32>, AllocError>
     ensures entries { IfOk result (λ m. m.entries ≡ (2, 1) ∷ []) }
     ensures room { IfOk result (λ m. 9 ≤ index_map_len m + spare m) }
@@ -92,6 +102,7 @@ pub fn with_capacity(alloc: Global) -> Result<NEIndexMap<u32, u32>, AllocError>
     Ok(map)
 }
 
+/// Converts maps of `indexmap`, one that has keys and one that is empty.
 pub fn try_from_map(
     alloc: Global,
 ) -> Result<(Option<NEIndexMap<u32, u32>>, Option<NEIndexMap<u32, u32>>), AllocError>
@@ -105,6 +116,7 @@ pub fn try_from_map(
     Ok((some, none))
 }
 
+/// Asks for a key that is there and for one that isn't.
 pub fn contains_key(alloc: Global) -> Result<(bool, bool), AllocError>
     ensures there { IfOk result (λ r. r.0 ≡ true) }
     ensures absent { IfOk result (λ r. r.1 ≡ false) }
@@ -114,6 +126,7 @@ pub fn contains_key(alloc: Global) -> Result<(bool, bool), AllocError>
     Ok((there, absent))
 }
 
+/// Looks up a key and its value.
 pub fn get_key_value(alloc: Global) -> Result<Option<(u32, u32)>, AllocError>
     ensures { IfOk result (λ pair. pair ≡ Some (2, 1)) }
 {
@@ -122,6 +135,7 @@ pub fn get_key_value(alloc: Global) -> Result<Option<(u32, u32)>, AllocError>
     Ok(pair.map(|(k, v)| (*k, *v)))
 }
 
+/// Writes the value of a key.
 pub fn get_mut(alloc: Global) -> Result<NEIndexMap<u32, u32>, AllocError>
     ensures { IfOk result (λ m. m.entries ≡ (4, 27) ∷ (2, 24) ∷ (6, 23) ∷ (8, 25) ∷ []) }
 {
@@ -132,6 +146,7 @@ pub fn get_mut(alloc: Global) -> Result<NEIndexMap<u32, u32>, AllocError>
     Ok(map)
 }
 
+/// Asks for the indices of a key that is there and of one that isn't.
 pub fn get_index_of(alloc: Global) -> Result<(Option<usize>, Option<usize>), AllocError>
     ensures index { IfOk result (λ r. r.0 ≡ Some 1) }
     ensures none { IfOk result (λ r. r.1 ≡ None) }
@@ -142,6 +157,7 @@ pub fn get_index_of(alloc: Global) -> Result<(Option<usize>, Option<usize>), All
     Ok((index, none))
 }
 
+/// Inserts a new key, and a key that is there.
 pub fn insert(alloc: Global) -> Result<(Option<u32>, Option<u32>, NEIndexMap<u32, u32>), AllocError>
     ensures none { IfOk result (λ r. r.0 ≡ None) }
     ensures old { IfOk result (λ r. r.1 ≡ Some 20) }
@@ -153,6 +169,7 @@ pub fn insert(alloc: Global) -> Result<(Option<u32>, Option<u32>, NEIndexMap<u32
     Ok((none, old, map))
 }
 
+/// Creates a map of one key with a hasher.
 pub fn with_hasher(alloc: Global) -> Result<NEIndexMap<u32, u32>, AllocError>
     ensures { IfOk result (λ m. m.entries ≡ (8, 50) ∷ []) }
 {
@@ -161,6 +178,7 @@ pub fn with_hasher(alloc: Global) -> Result<NEIndexMap<u32, u32>, AllocError>
     Ok(map)
 }
 
+/// Exchanges the first two pairs.
 pub fn swap_indices(alloc: Global) -> Result<NEIndexMap<u32, u32>, AllocError>
     ensures { IfOk result (λ m. m.entries ≡ (2, 7) ∷ (0, 5) ∷ (4, 3) ∷ []) }
 {
@@ -169,6 +187,7 @@ pub fn swap_indices(alloc: Global) -> Result<NEIndexMap<u32, u32>, AllocError>
     Ok(map)
 }
 
+/// Clones a map.
 pub fn clone(alloc: Global) -> Result<NEIndexMap<u32, u32>, AllocError>
     ensures { IfOk result (λ m. m.entries ≡ (4, 26) ∷ (2, 24) ∷ (6, 23) ∷ (8, 25) ∷ []) }
 {
@@ -177,6 +196,7 @@ pub fn clone(alloc: Global) -> Result<NEIndexMap<u32, u32>, AllocError>
     Ok(copy)
 }
 
+/// Reads a value by its index.
 pub fn index(alloc: Global) -> Result<u32, AllocError>
     ensures { IfOk result (λ value. value ≡ 2) }
 {

@@ -9,6 +9,7 @@ use std::alloc::{AllocError, Global};
 use std::hash::BuildHasherDefault;
 use std::num::NonZeroUsize;
 
+/// Asks for items of a set that is written out, and counts them.
 pub fn contains_and_len(alloc: Global) -> Result<(bool, bool, usize), AllocError>
     ensures two { IfOk result (λ r. r.0 ≡ true) }
     ensures three { IfOk result (λ r. r.1 ≡ false) }
@@ -20,6 +21,7 @@ pub fn contains_and_len(alloc: Global) -> Result<(bool, bool, usize), AllocError
     Ok((two, three, len))
 }
 
+/// Iterates over the items by the iterator of `indexmap`.
 pub fn iter(alloc: Global) -> Result<Vec<u32>, AllocError>
     ensures { IfOk result (λ v. v.items ≡ 10 ∷ 2 ∷ 8 ∷ 4 ∷ []) }
 {
@@ -28,6 +30,7 @@ pub fn iter(alloc: Global) -> Result<Vec<u32>, AllocError>
     items.copied().collect(alloc)
 }
 
+/// Iterates over the items.
 pub fn nonempty_iter(alloc: Global) -> Result<NEVec<u32>, AllocError>
     ensures { IfOk result (λ v. v ≡ 10 ∷ 2 ∷ 8 ∷ 4 ∷ []) }
 {
@@ -36,6 +39,7 @@ pub fn nonempty_iter(alloc: Global) -> Result<NEVec<u32>, AllocError>
     items.copied().collect(alloc)
 }
 
+/// Counts the items of a set that is written out with one of them twice.
 pub fn len(alloc: Global) -> Result<usize, AllocError>
     ensures { IfOk result (λ len. len ≡ 2) }
 {
@@ -43,6 +47,7 @@ pub fn len(alloc: Global) -> Result<usize, AllocError>
     Ok(len)
 }
 
+/// Creates a set of one item.
 pub fn new(alloc: Global) -> Result<NEIndexSet<u32>, AllocError>
     ensures { IfOk result (λ s. s.keys ≡ 2 ∷ []) }
 {
@@ -50,6 +55,7 @@ pub fn new(alloc: Global) -> Result<NEIndexSet<u32>, AllocError>
     Ok(set)
 }
 
+/// Creates a set of one item that has room for more.
 pub fn with_capacity(alloc: Global) -> Result<NEIndexSet<u32>, AllocError>
     ensures items { IfOk result (λ s. s.keys ≡ 2 ∷ []) }
     ensures room { IfOk result (λ s. 9 ≤ index_set_len s + spare s) }
@@ -59,6 +65,7 @@ pub fn with_capacity(alloc: Global) -> Result<NEIndexSet<u32>, AllocError>
     Ok(set)
 }
 
+/// Converts sets of `indexmap`, one that has items and one that is empty.
 pub fn try_from_set(
     alloc: Global,
 ) -> Result<(Option<NEIndexSet<u32>>, Option<NEIndexSet<u32>>), AllocError>
@@ -72,6 +79,7 @@ pub fn try_from_set(
     Ok((some, none))
 }
 
+/// Asks for an item that is there and for one that isn't.
 pub fn contains(alloc: Global) -> Result<(bool, bool), AllocError>
     ensures there { IfOk result (λ r. r.0 ≡ true) }
     ensures absent { IfOk result (λ r. r.1 ≡ false) }
@@ -81,6 +89,7 @@ pub fn contains(alloc: Global) -> Result<(bool, bool), AllocError>
     Ok((there, absent))
 }
 
+/// Iterates over the items that are only in the first set.
 pub fn difference(alloc: Global) -> Result<Vec<u32>, AllocError>
     ensures { IfOk result (λ v. v.items ≡ 2 ∷ 4 ∷ []) }
 {
@@ -89,6 +98,7 @@ pub fn difference(alloc: Global) -> Result<Vec<u32>, AllocError>
     Ok(left.copied().collect(alloc)?)
 }
 
+/// Inserts an item twice.
 pub fn insert(alloc: Global) -> Result<(bool, bool, NEIndexSet<u32>), AllocError>
     ensures added { IfOk result (λ r. r.0 ≡ true) }
     ensures again { IfOk result (λ r. r.1 ≡ false) }
@@ -100,6 +110,7 @@ pub fn insert(alloc: Global) -> Result<(bool, bool, NEIndexSet<u32>), AllocError
     Ok((added, again, set))
 }
 
+/// Iterates over the items that are in both sets.
 pub fn intersection(alloc: Global) -> Result<Vec<u32>, AllocError>
     ensures { IfOk result (λ v. v.items ≡ 3 ∷ []) }
 {
@@ -108,6 +119,7 @@ pub fn intersection(alloc: Global) -> Result<Vec<u32>, AllocError>
     Ok(shared.copied().collect(alloc)?)
 }
 
+/// Asks whether two sets that have an item in common have none.
 pub fn is_disjoint(alloc: Global) -> Result<bool, AllocError>
     ensures { IfOk result (λ disjoint. disjoint ≡ false) }
 {
@@ -116,6 +128,7 @@ pub fn is_disjoint(alloc: Global) -> Result<bool, AllocError>
     Ok(disjoint)
 }
 
+/// Asks whether the second set has each item of the first.
 pub fn is_subset(alloc: Global) -> Result<bool, AllocError>
     ensures { IfOk result (λ subset. subset ≡ true) }
 {
@@ -126,6 +139,7 @@ pub fn is_subset(alloc: Global) -> Result<bool, AllocError>
     Ok(subset)
 }
 
+/// Asks whether the first set has each item of the second.
 pub fn is_superset(alloc: Global) -> Result<bool, AllocError>
     ensures { IfOk result (λ superset. superset ≡ true) }
 {
@@ -136,6 +150,7 @@ pub fn is_superset(alloc: Global) -> Result<bool, AllocError>
     Ok(superset)
 }
 
+/// Replaces an item by an equal one.
 pub fn replace(alloc: Global) -> Result<Option<u32>, AllocError>
     ensures { IfOk result (λ old. old ≡ Some 4) }
 {
@@ -144,6 +159,7 @@ pub fn replace(alloc: Global) -> Result<Option<u32>, AllocError>
     Ok(old)
 }
 
+/// Makes room for 20 more items, and returns the capacity.
 pub fn reserve(alloc: Global) -> Result<usize, AllocError>
     ensures { IfOk result (λ capacity. 21 ≤ capacity) }
 {
@@ -152,6 +168,7 @@ pub fn reserve(alloc: Global) -> Result<usize, AllocError>
     Ok(set.capacity().get())
 }
 
+/// Counts the items of both sets.
 pub fn union(alloc: Global) -> Result<usize, AllocError>
     ensures { IfOk result (λ count. count ≡ 2) }
 {
@@ -160,6 +177,7 @@ pub fn union(alloc: Global) -> Result<usize, AllocError>
     Ok(count)
 }
 
+/// Creates a set of one item with a hasher.
 pub fn with_hasher(alloc: Global) -> Result<NEIndexSet<u32>, AllocError>
     ensures { IfOk result (λ s. s.keys ≡ 5 ∷ []) }
 {
@@ -168,6 +186,7 @@ pub fn with_hasher(alloc: Global) -> Result<NEIndexSet<u32>, AllocError>
     Ok(set)
 }
 
+/// Compares a set with its clone.
 pub fn clone(alloc: Global) -> Result<bool, AllocError>
     ensures { IfOk result (λ same. same ≡ true) }
 {

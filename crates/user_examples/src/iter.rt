@@ -5,6 +5,7 @@ use nonempty_collections::iter::once;
 use nonempty_collections::{NEVec, NonEmptyIterator};
 use std::alloc::{AllocError, Global};
 
+/// A source of one item, collected.
 pub fn once_five(alloc: Global) -> Result<NEVec<u32>, AllocError>
     ensures { IfOk result (λ v. v ≡ 5 ∷ []) }
 {

@@ -6,6 +6,7 @@ use nonempty_collections::{IntoNonEmptyIterator, NonEmptyIterator, nev};
 use std::alloc::{AllocError, Global};
 use std::collections::{BTreeMap, BTreeSet, HashMap};
 
+/// A hash map has the last of the values that come with a key.
 pub fn hash_map(alloc: Global) -> Result<Option<u32>, AllocError>
     ensures pairs { IfOk result (λ last. (xs : List ℕ) → xs ≡ 3 ∷ 4 ∷ 2 ∷ []
         → last ≡ last_value nat_eq (map (λ x. (x / 2, x)) xs) 1) }

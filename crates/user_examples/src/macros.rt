@@ -4,6 +4,7 @@ ghost use Rattle.std.specs.Prelude.{◌≡◌, ◌∷◌, [], IfOk, Some};
 use nonempty_collections::{NEIndexMap, NEVec, ne_indexmap, nebtm, nebts, nem, nes, nev};
 use std::alloc::{AllocError, Global};
 
+/// Vectors of several items, of one, and of one repeated.
 pub fn nev(alloc: Global) -> Result<(NEVec<u32>, NEVec<u32>, NEVec<u32>), AllocError>
     ensures several { IfOk result (λ r. r.0 ≡ 7 ∷ 5 ∷ 9 ∷ []) }
     ensures one { IfOk result (λ r. r.1 ≡ 7 ∷ []) }
@@ -15,6 +16,7 @@ pub fn nev(alloc: Global) -> Result<(NEVec<u32>, NEVec<u32>, NEVec<u32>), AllocE
     Ok((three, one, same))
 }
 
+/// Writes out a tree map with a key twice.
 pub fn nebtm(alloc: Global) -> Result<(Option<u32>, Option<u32>), AllocError>
     ensures one { IfOk result (λ r. r.0 ≡ Some 30) }
     ensures two { IfOk result (λ r. r.1 ≡ Some 20) }
@@ -24,6 +26,7 @@ pub fn nebtm(alloc: Global) -> Result<(Option<u32>, Option<u32>), AllocError>
     Ok((one.copied(), two.copied()))
 }
 
+/// Writes out a tree set with an item twice.
 pub fn nebts(alloc: Global) -> Result<usize, AllocError>
     ensures { IfOk result (λ len. len ≡ 2) }
 {
@@ -32,6 +35,7 @@ pub fn nebts(alloc: Global) -> Result<usize, AllocError>
     Ok(len)
 }
 
+/// Writes out a hashed map with a key twice.
 pub fn nem(alloc: Global) -> Result<(Option<u32>, Option<u32>), AllocError>
     ensures one { IfOk result (λ r. r.0 ≡ Some 30) }
     ensures two { IfOk result (λ r. r.1 ≡ Some 20) }
@@ -41,6 +45,7 @@ pub fn nem(alloc: Global) -> Result<(Option<u32>, Option<u32>), AllocError>
     Ok((one.copied(), two.copied()))
 }
 
+/// Writes out a hashed set with an item twice.
 pub fn nes(alloc: Global) -> Result<usize, AllocError>
     ensures { IfOk result (λ len. len ≡ 2) }
 {
@@ -49,6 +54,7 @@ pub fn nes(alloc: Global) -> Result<usize, AllocError>
     Ok(len)
 }
 
+/// Writes out an index map by the other macro.
 pub fn ne_indexmap(alloc: Global) -> Result<NEIndexMap<u32, u32>, AllocError>
     ensures { IfOk result (λ m. m.entries ≡ (2, 10) ∷ (1, 11) ∷ []) }
 {

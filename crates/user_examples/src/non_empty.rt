@@ -15,6 +15,7 @@ use nonempty_collections::{IntoNonEmptyIterator, NEVec, NonEmptyIterator, nev};
 use std::alloc::{AllocError, Global};
 use std::num::{NonZeroUsize, Wrapping};
 
+/// The halves of an array's items.
 pub fn halves(alloc: Global) -> Result<NEVec<u32>, AllocError>
     ensures items { IfOk result (λ halves. (xs : List ℕ) → xs ≡ 3 ∷ 1 ∷ 2 ∷ []
         → halves ≡ map (λ x. x / 2) xs) }
@@ -25,6 +26,7 @@ pub fn halves(alloc: Global) -> Result<NEVec<u32>, AllocError>
     Ok(halves)
 }
 
+/// The first item, and then std's iterator over the others.
 pub fn next(alloc: Global) -> Result<(u32, Option<u32>, Option<u32>), AllocError>
     ensures { IfOk result (λ r. (r.0 ≡ 4) × (r.1 ≡ Some 6) × (r.2 ≡ None)) }
 {
@@ -34,6 +36,7 @@ pub fn next(alloc: Global) -> Result<(u32, Option<u32>, Option<u32>), AllocError
     Ok((*first, second.copied(), end.copied()))
 }
 
+/// The first item, which stays in the source.
 pub fn peekable(alloc: Global) -> Result<u32, AllocError>
     ensures { IfOk result (λ first. first ≡ 4) }
 {
@@ -42,6 +45,7 @@ pub fn peekable(alloc: Global) -> Result<u32, AllocError>
     Ok(first)
 }
 
+/// All items meet the test.
 pub fn all(alloc: Global) -> Result<bool, AllocError>
     ensures { IfOk result (λ even. even ≡ true) }
 {
@@ -49,6 +53,7 @@ pub fn all(alloc: Global) -> Result<bool, AllocError>
     Ok(even)
 }
 
+/// No item meets the test.
 pub fn any(alloc: Global) -> Result<bool, AllocError>
     ensures { IfOk result (λ found. found ≡ false) }
 {
@@ -56,6 +61,7 @@ pub fn any(alloc: Global) -> Result<bool, AllocError>
     Ok(found)
 }
 
+/// The items of one vector, and those of another.
 pub fn chain(alloc: Global) -> Result<NEVec<u32>, AllocError>
     ensures { IfOk result (λ all. all ≡ 4 ∷ 6 ∷ 8 ∷ 9 ∷ []) }
 {
@@ -64,6 +70,7 @@ pub fn chain(alloc: Global) -> Result<NEVec<u32>, AllocError>
     Ok(all)
 }
 
+/// A clone of each item.
 pub fn cloned(alloc: Global) -> Result<Result<NEVec<u32>, AllocError>, AllocError>
     ensures { IfOk result (λ clones. clones ≡ Ok (1 ∷ 2 ∷ [])) }
 {
@@ -72,6 +79,7 @@ pub fn cloned(alloc: Global) -> Result<Result<NEVec<u32>, AllocError>, AllocErro
     clones.collect(alloc)
 }
 
+/// The items in a vector.
 pub fn collect(alloc: Global) -> Result<NEVec<u32>, AllocError>
     ensures { IfOk result (λ same. same ≡ 4 ∷ 6 ∷ 8 ∷ []) }
 {
@@ -80,6 +88,7 @@ pub fn collect(alloc: Global) -> Result<NEVec<u32>, AllocError>
     Ok(same)
 }
 
+/// A copy of each item.
 pub fn copied(alloc: Global) -> Result<NEVec<u32>, AllocError>
     ensures { IfOk result (λ copies. copies ≡ 4 ∷ 6 ∷ 8 ∷ []) }
 {
@@ -88,6 +97,7 @@ pub fn copied(alloc: Global) -> Result<NEVec<u32>, AllocError>
     Ok(copies)
 }
 
+/// The number of items.
 pub fn count(alloc: Global) -> Result<usize, AllocError>
     ensures { IfOk result (λ count. count ≡ 3) }
 {
@@ -95,6 +105,7 @@ pub fn count(alloc: Global) -> Result<usize, AllocError>
     Ok(count)
 }
 
+/// The items with their indices.
 pub fn enumerate(alloc: Global) -> Result<NEVec<(usize, char)>, AllocError>
     ensures { IfOk result (λ pairs. pairs ≡ (0, 97) ∷ (1, 98) ∷ []) }
 {
@@ -102,6 +113,7 @@ pub fn enumerate(alloc: Global) -> Result<NEVec<(usize, char)>, AllocError>
     pairs.collect(alloc)
 }
 
+/// The items that meet a test.
 pub fn filter(alloc: Global) -> Result<Vec<u32>, AllocError>
     ensures items { IfOk result (λ fours. (xs : List ℕ) → xs ≡ 4 ∷ 6 ∷ 8 ∷ []
         → fours.items ≡ filter (λ x. x % 4 == 0) xs) }
@@ -112,6 +124,7 @@ pub fn filter(alloc: Global) -> Result<Vec<u32>, AllocError>
     Ok(fours)
 }
 
+/// The halves of the even items.
 pub fn filter_map(alloc: Global) -> Result<Vec<u32>, AllocError>
     ensures items { IfOk result (λ halves. (xs : List ℕ) → xs ≡ 2 ∷ 3 ∷ 4 ∷ []
         → halves.items ≡ filter_map (λ x. then_some (x % 2 == 0) (x / 2)) xs) }
@@ -123,6 +136,7 @@ pub fn filter_map(alloc: Global) -> Result<Vec<u32>, AllocError>
     halves.collect(alloc)
 }
 
+/// The first item that meets a test.
 pub fn find(alloc: Global) -> Result<Option<u32>, AllocError>
     ensures { IfOk result (λ even. even ≡ Some 2) }
 {
@@ -132,6 +146,7 @@ pub fn find(alloc: Global) -> Result<Option<u32>, AllocError>
     Ok(even)
 }
 
+/// The items of two vectors.
 pub fn flatten(alloc: Global) -> Result<NEVec<u32>, AllocError>
     ensures items { IfOk result (λ items. (xs : List (List ℕ))
         → xs ≡ (1 ∷ 2 ∷ []) ∷ (3 ∷ []) ∷ [] → items ≡ flat_map (λ list. list) xs) }
@@ -144,6 +159,7 @@ pub fn flatten(alloc: Global) -> Result<NEVec<u32>, AllocError>
     items.collect(alloc)
 }
 
+/// The number that has the items as its digits.
 pub fn fold(alloc: Global) -> Result<u32, AllocError>
     ensures digits { IfOk result (λ number. (xs : List ℕ) → xs ≡ 4 ∷ 6 ∷ 8 ∷ []
         → number ≡ fold (λ n x. (n * 10 % 2 ^ 32 + x) % 2 ^ 32) 0 xs) }
@@ -166,6 +182,7 @@ pub fn group_by(alloc: Global) -> Result<Result<NEVec<NEVec<u32>>, AllocError>, 
     Ok(runs)
 }
 
+/// The halves with a separator between them.
 pub fn intersperse(alloc: Global) -> Result<Result<NEVec<u32>, AllocError>, AllocError>
     ensures items { IfOk result (λ items. IfOk items (λ v. (xs : List ℕ) → xs ≡ 4 ∷ 6 ∷ []
         → v ≡ interspersed 0 (map (λ x. x / 2) xs))) }
@@ -176,6 +193,7 @@ pub fn intersperse(alloc: Global) -> Result<Result<NEVec<u32>, AllocError>, Allo
     items.collect(alloc)
 }
 
+/// One more than each item.
 pub fn map(alloc: Global) -> Result<NEVec<u32>, AllocError>
     ensures { IfOk result (λ items. items ≡ 5 ∷ 7 ∷ 9 ∷ []) }
 {
@@ -186,6 +204,7 @@ pub fn map(alloc: Global) -> Result<NEVec<u32>, AllocError>
     Ok(items)
 }
 
+/// The greatest item.
 pub fn max(alloc: Global) -> Result<u32, AllocError>
     ensures { IfOk result (λ greatest. greatest ≡ 8) }
 {
@@ -193,6 +212,7 @@ pub fn max(alloc: Global) -> Result<u32, AllocError>
     Ok(greatest)
 }
 
+/// The item with the greatest half, by the halves as keys.
 pub fn max_by_key(alloc: Global) -> Result<u32, AllocError>
     ensures { IfOk result (λ greatest. greatest ≡ 9) }
 {
@@ -201,6 +221,7 @@ pub fn max_by_key(alloc: Global) -> Result<u32, AllocError>
     Ok(greatest)
 }
 
+/// The least item.
 pub fn min(alloc: Global) -> Result<u32, AllocError>
     ensures { IfOk result (λ least. least ≡ 4) }
 {
@@ -208,6 +229,7 @@ pub fn min(alloc: Global) -> Result<u32, AllocError>
     Ok(least)
 }
 
+/// The item with the least half, by the halves as keys.
 pub fn min_by_key(alloc: Global) -> Result<u32, AllocError>
     ensures { IfOk result (λ least. least ≡ 2) }
 {
@@ -227,6 +249,7 @@ pub fn sorted_by_key(alloc: Global) -> Result<NEVec<(usize, u32)>, AllocError>
     sorted.collect(alloc)
 }
 
+/// The item at an index, if there is one.
 pub fn nth(alloc: Global) -> Result<(Option<u32>, Option<u32>), AllocError>
     ensures { IfOk result (λ r. (r.0 ≡ Some 8) × (r.1 ≡ None)) }
 {
@@ -236,6 +259,7 @@ pub fn nth(alloc: Global) -> Result<(Option<u32>, Option<u32>), AllocError>
     Ok((third, fourth))
 }
 
+/// The totals so far.
 pub fn scan(alloc: Global) -> Result<NEVec<u32>, AllocError>
     ensures totals { IfOk result (λ sums. (xs : List ℕ) → xs ≡ 1 ∷ 2 ∷ 3 ∷ []
         → sums ≡ scan (λ t x. (t + x) % 2 ^ 32) (λ t x. (t + x) % 2 ^ 32) 0 xs) }
@@ -250,6 +274,7 @@ pub fn scan(alloc: Global) -> Result<NEVec<u32>, AllocError>
     sums.collect(alloc)
 }
 
+/// All items but the first two.
 pub fn skip(alloc: Global) -> Result<Vec<u32>, AllocError>
     ensures { IfOk result (λ rest. rest.items ≡ 4 ∷ 1 ∷ 5 ∷ 9 ∷ 2 ∷ 6 ∷ []) }
 {
@@ -258,6 +283,7 @@ pub fn skip(alloc: Global) -> Result<Vec<u32>, AllocError>
     Ok(rest)
 }
 
+/// The items from the first one that does not meet a test.
 pub fn skip_while(alloc: Global) -> Result<Vec<u32>, AllocError>
     ensures items { IfOk result (λ rest. (xs : List ℕ) → xs ≡ 2 ∷ 4 ∷ 7 ∷ 8 ∷ 9 ∷ []
         → rest.items ≡ drop (prefix_len (λ x. x % 2 == 0) xs) xs) }
@@ -269,6 +295,7 @@ pub fn skip_while(alloc: Global) -> Result<Vec<u32>, AllocError>
     Ok(rest)
 }
 
+/// The sum of the items.
 pub fn sum(alloc: Global) -> Result<u32, AllocError>
     ensures { IfOk result (λ sum. sum ≡ 18) }
 {
@@ -276,6 +303,7 @@ pub fn sum(alloc: Global) -> Result<u32, AllocError>
     Ok(sum)
 }
 
+/// The first two items.
 pub fn take(alloc: Global) -> Result<NEVec<u32>, AllocError>
     ensures { IfOk result (λ items. items ≡ 4 ∷ 6 ∷ []) }
 {
@@ -284,6 +312,7 @@ pub fn take(alloc: Global) -> Result<NEVec<u32>, AllocError>
     items.collect(alloc)
 }
 
+/// The items before the first one that does not meet a test.
 pub fn take_while(alloc: Global) -> Result<Vec<u32>, AllocError>
     ensures items { IfOk result (λ front. (xs : List ℕ) → xs ≡ 2 ∷ 4 ∷ 7 ∷ 8 ∷ 9 ∷ []
         → front.items ≡ take_while (λ x. x % 2 == 0) xs) }
@@ -294,6 +323,7 @@ pub fn take_while(alloc: Global) -> Result<Vec<u32>, AllocError>
     Ok(front)
 }
 
+/// The product of the items.
 pub fn product(alloc: Global) -> Result<u32, AllocError>
     ensures { IfOk result (λ product. product ≡ 24) }
 {
@@ -302,6 +332,7 @@ pub fn product(alloc: Global) -> Result<u32, AllocError>
     Ok(product.0)
 }
 
+/// The pairs of the items of two vectors.
 pub fn zip(alloc: Global) -> Result<NEVec<(u32, u32)>, AllocError>
     ensures items { IfOk result (λ pairs. (xs ys : List ℕ) → xs ≡ 7 ∷ 8 ∷ 9 ∷ [] → ys ≡ 1 ∷ 2 ∷ []
         → pairs ≡ zip xs ys) }
@@ -313,6 +344,7 @@ pub fn zip(alloc: Global) -> Result<NEVec<(u32, u32)>, AllocError>
     pairs.collect(alloc)
 }
 
+/// The number that has the items as its digits, from the first one on.
 pub fn reduce(alloc: Global) -> Result<u32, AllocError>
     ensures digits { IfOk result (λ number. (xs : List ℕ) → xs ≡ 1 ∷ 2 ∷ 3 ∷ []
         → Some number ≡ reduce (λ n x. (n * 10 % 2 ^ 32 + x) % 2 ^ 32) xs) }

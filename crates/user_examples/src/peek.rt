@@ -4,6 +4,7 @@ ghost use Rattle.std.specs.Prelude.{◌≡◌, ◌∷◌, [], IfOk};
 use nonempty_collections::{IntoNonEmptyIterator, NEVec, NonEmptyIterator, nev};
 use std::alloc::{AllocError, Global};
 
+/// The first item is changed.
 pub fn peek_mut(alloc: Global) -> Result<NEVec<u32>, AllocError>
     ensures { IfOk result (λ v. v ≡ 5 ∷ 1 ∷ 4 ∷ 1 ∷ 5 ∷ 9 ∷ 2 ∷ 6 ∷ []) }
 {

@@ -4,6 +4,7 @@ ghost use Rattle.std.specs.Prelude.{◌≡◌, ◌∷◌, [], IfOk, Ok, false, t
 use nonempty_collections::{IntoNonEmptyIterator, NEVec, NonEmptyIterator, NonEmptyItertools, nev};
 use std::alloc::{AllocError, Global};
 
+/// The pairs of each row and each column.
 pub fn cartesian_product(alloc: Global) -> Result<Result<NEVec<(u32, u32)>, AllocError>, AllocError>
     ensures { IfOk result (λ r. r ≡ Ok ((0, 7) ∷ (0, 8) ∷ (1, 7) ∷ (1, 8) ∷ [])) }
 {
@@ -13,6 +14,7 @@ pub fn cartesian_product(alloc: Global) -> Result<Result<NEVec<(u32, u32)>, Allo
     pairs.collect(alloc)
 }
 
+/// Whether no two items are equal.
 pub fn all_unique(alloc: Global) -> Result<(bool, bool), AllocError>
     ensures { IfOk result (λ r. (r.0 ≡ true) × (r.1 ≡ false)) }
 {

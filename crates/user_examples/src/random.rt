@@ -6,6 +6,7 @@ use rand::rngs::SmallRng;
 use rand_core::SeedableRng;
 use std::alloc::{AllocError, Global};
 
+/// The only item is chosen.
 pub fn choose(alloc: Global) -> Result<Option<u32>, AllocError>
     ensures { IfOk result (λ only. only ≡ Some 7) }
 {

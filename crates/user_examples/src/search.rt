@@ -6,6 +6,7 @@ ghost use Rattle.std.specs.List.Sorted.{IsSearchInRange};
 use nonempty_collections::nev;
 use std::alloc::{AllocError, Global};
 
+/// The index of an item that is there, and the place of one that is not.
 pub fn binary_search(
     alloc: Global,
 ) -> Result<(Result<usize, usize>, Result<usize, usize>), AllocError>
@@ -17,6 +18,7 @@ pub fn binary_search(
     Ok((found, place))
 }
 
+/// The index of the item at which a comparison returns `Equal`.
 pub fn binary_search_by(alloc: Global) -> Result<Result<usize, usize>, AllocError>
     ensures { IfOk result (λ place. IsSearchInRange place 3) }
 {
@@ -25,6 +27,7 @@ pub fn binary_search_by(alloc: Global) -> Result<Result<usize, usize>, AllocErro
     Ok(place)
 }
 
+/// The index of the item that has a key.
 pub fn binary_search_by_key(alloc: Global) -> Result<Result<usize, usize>, AllocError>
     ensures { IfOk result (λ place. IsSearchInRange place 3) }
 {
@@ -33,6 +36,7 @@ pub fn binary_search_by_key(alloc: Global) -> Result<Result<usize, usize>, Alloc
     Ok(place)
 }
 
+/// The number of items in front that meet a test: at most 8 is proved.
 pub fn partition_point(alloc: Global) -> Result<usize, AllocError>
     ensures { IfOk result (λ count. count ≤ 8) }
 {

@@ -7,6 +7,7 @@ use nonempty_collections::{NESlice, NEVec, NonEmptyIterator, nev};
 use std::alloc::{AllocError, Global};
 use std::num::NonZeroUsize;
 
+/// The first and the last item of a slice.
 pub fn ends(alloc: Global) -> Result<(u32, u32), AllocError>
     ensures { IfOk result (λ r. (r.0 ≡ 4) × (r.1 ≡ 8)) }
 {
@@ -16,6 +17,7 @@ pub fn ends(alloc: Global) -> Result<(u32, u32), AllocError>
     Ok((first, last))
 }
 
+/// The first item.
 pub fn first(alloc: Global) -> Result<u32, AllocError>
     ensures { IfOk result (λ first. first ≡ 4) }
 {
@@ -24,6 +26,7 @@ pub fn first(alloc: Global) -> Result<u32, AllocError>
     Ok(first)
 }
 
+/// The last item.
 pub fn last(alloc: Global) -> Result<u32, AllocError>
     ensures { IfOk result (λ last. last ≡ 8) }
 {
@@ -32,6 +35,7 @@ pub fn last(alloc: Global) -> Result<u32, AllocError>
     Ok(last)
 }
 
+/// A slice with items is converted, and an empty one is not.
 pub fn try_from_slice(alloc: Global) -> Result<(NEVec<u32>, bool), AllocError>
     ensures some { IfOk result (λ r. r.0 ≡ 5 ∷ 9 ∷ 2 ∷ []) }
     ensures none { IfOk result (λ r. r.1 ≡ true) }
@@ -46,6 +50,7 @@ pub fn try_from_slice(alloc: Global) -> Result<(NEVec<u32>, bool), AllocError>
     ))
 }
 
+/// The number of items.
 pub fn len(alloc: Global) -> Result<usize, AllocError>
     ensures { IfOk result (λ len. len ≡ 8) }
 {
@@ -54,6 +59,7 @@ pub fn len(alloc: Global) -> Result<usize, AllocError>
     Ok(len)
 }
 
+/// An iterator over the items.
 pub fn nonempty_iter(alloc: Global) -> Result<Vec<u32>, AllocError>
     ensures { IfOk result (λ same. same.items ≡ 3 ∷ 1 ∷ 4 ∷ 1 ∷ 5 ∷ 9 ∷ 2 ∷ 6 ∷ []) }
 {
@@ -102,6 +108,7 @@ pub fn adjacent_runs(alloc: Global) -> Result<NEVec<usize>, AllocError>
     runs.map(|c| c.len().get()).collect(alloc)
 }
 
+/// An item by its index.
 pub fn index(alloc: Global) -> Result<u32, AllocError>
     ensures { IfOk result (λ third. third ≡ 4) }
 {

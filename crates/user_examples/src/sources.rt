@@ -4,6 +4,7 @@ ghost use Rattle.std.specs.Prelude.{◌≡◌, ◌∷◌, [], IfOk};
 use nonempty_collections::{IntoNonEmptyIterator, NEVec, NonEmptyIterator};
 use std::alloc::{AllocError, Global};
 
+/// An array becomes a source.
 pub fn into_nonempty_iter(alloc: Global) -> Result<NEVec<u32>, AllocError>
     ensures { IfOk result (λ v. v ≡ 1 ∷ 2 ∷ 3 ∷ []) }
 {

@@ -5,6 +5,7 @@ use ne_vec::Error;
 use nonempty_collections::{NEVec, nev};
 use std::alloc::{AllocError, Global};
 
+/// The items as std's vector.
 pub fn into_vec(alloc: Global) -> Result<Vec<u32>, AllocError>
     ensures { IfOk result (λ vec. vec.items ≡ 4 ∷ 6 ∷ 8 ∷ []) }
 {
@@ -12,6 +13,7 @@ pub fn into_vec(alloc: Global) -> Result<Vec<u32>, AllocError>
     Ok(vec)
 }
 
+/// Items by their indices.
 pub fn index(alloc: Global) -> Result<(u32, u32), AllocError>
     ensures { IfOk result (λ r. (r.0 ≡ 4) × (r.1 ≡ 9)) }
 {
@@ -20,6 +22,7 @@ pub fn index(alloc: Global) -> Result<(u32, u32), AllocError>
     Ok((first, last))
 }
 
+/// An item is changed by its index.
 pub fn index_mut(alloc: Global) -> Result<NEVec<u32>, AllocError>
     ensures { IfOk result (λ v. v ≡ 11 ∷ 21 ∷ 31 ∷ []) }
 {
@@ -28,6 +31,7 @@ pub fn index_mut(alloc: Global) -> Result<NEVec<u32>, AllocError>
     Ok(items)
 }
 
+/// A conversion of std's vector with items.
 pub fn try_from(alloc: Global) -> Result<Result<NEVec<u32>, Error>, AllocError>
     ensures { IfOk result (λ some. some ≡ Ok (1 ∷ 2 ∷ [])) }
 {

@@ -7,6 +7,7 @@ use nonempty_collections::{NEBTreeMap, NEVec, NonEmptyIterator, nebtm};
 use std::alloc::{AllocError, Global};
 use std::collections::BTreeMap;
 
+/// Looks up keys of a map that is written out, and counts them.
 pub fn get_and_len(alloc: Global) -> Result<(Option<u32>, Option<u32>, usize), AllocError>
     ensures one { IfOk result (λ r. r.0 ≡ Some 30) }
     ensures three { IfOk result (λ r. r.1 ≡ None) }
@@ -18,6 +19,7 @@ pub fn get_and_len(alloc: Global) -> Result<(Option<u32>, Option<u32>, usize), A
     Ok((one.copied(), three.copied(), len))
 }
 
+/// Creates a map of one key.
 pub fn new(alloc: Global) -> Result<NEBTreeMap<u32, u32>, AllocError>
     ensures { IfOk result (λ m. m.entries ≡ (4, 20) ∷ []) }
 {
@@ -25,6 +27,7 @@ pub fn new(alloc: Global) -> Result<NEBTreeMap<u32, u32>, AllocError>
     Ok(map)
 }
 
+/// Converts std's maps, one that has keys and one that is empty.
 pub fn try_from_map(
     alloc: Global,
 ) -> Result<(Option<NEBTreeMap<u32, u32>>, Option<NEBTreeMap<u32, u32>>), AllocError>
@@ -40,6 +43,7 @@ pub fn try_from_map(
     Ok((some, none))
 }
 
+/// Iterates over the pairs by std's iterator.
 pub fn iter(alloc: Global) -> Result<Vec<(u32, u32)>, AllocError>
     ensures { IfOk result (λ v. v.items ≡ (0, 3) ∷ (2, 1) ∷ []) }
 {
@@ -59,6 +63,7 @@ pub fn iter_mut(alloc: Global) -> Result<NEBTreeMap<u32, u32>, AllocError>
     Ok(map)
 }
 
+/// Iterates over the pairs.
 pub fn nonempty_iter(alloc: Global) -> Result<NEVec<(u32, u32)>, AllocError>
     ensures { IfOk result (λ v. v ≡ (0, 3) ∷ (2, 1) ∷ []) }
 {
@@ -78,6 +83,7 @@ pub fn nonempty_iter_mut(alloc: Global) -> Result<NEBTreeMap<u32, u32>, AllocErr
     Ok(map)
 }
 
+/// Iterates over the keys.
 pub fn keys(alloc: Global) -> Result<NEVec<u32>, AllocError>
     ensures { IfOk result (λ v. v ≡ 0 ∷ 2 ∷ []) }
 {
@@ -86,6 +92,7 @@ pub fn keys(alloc: Global) -> Result<NEVec<u32>, AllocError>
     keys.copied().collect(alloc)
 }
 
+/// Counts the keys of a map that is written out with one of them twice.
 pub fn len(alloc: Global) -> Result<usize, AllocError>
     ensures { IfOk result (λ len. len ≡ 2) }
 {
@@ -93,6 +100,7 @@ pub fn len(alloc: Global) -> Result<usize, AllocError>
     Ok(len)
 }
 
+/// Iterates over the values.
 pub fn values(alloc: Global) -> Result<NEVec<u32>, AllocError>
     ensures { IfOk result (λ v. v ≡ 3 ∷ 1 ∷ []) }
 {
@@ -101,6 +109,7 @@ pub fn values(alloc: Global) -> Result<NEVec<u32>, AllocError>
     values.copied().collect(alloc)
 }
 
+/// Asks for a key that is there and for one that isn't.
 pub fn contains_key(alloc: Global) -> Result<(bool, bool), AllocError>
     ensures there { IfOk result (λ r. r.0 ≡ true) }
     ensures absent { IfOk result (λ r. r.1 ≡ false) }
@@ -110,6 +119,7 @@ pub fn contains_key(alloc: Global) -> Result<(bool, bool), AllocError>
     Ok((there, absent))
 }
 
+/// Looks up a key and its value.
 pub fn get_key_value(alloc: Global) -> Result<Option<(u32, u32)>, AllocError>
     ensures { IfOk result (λ pair. pair ≡ Some (2, 1)) }
 {
@@ -118,6 +128,7 @@ pub fn get_key_value(alloc: Global) -> Result<Option<(u32, u32)>, AllocError>
     Ok(pair.map(|(k, v)| (*k, *v)))
 }
 
+/// Writes the value of a key.
 pub fn get_mut(alloc: Global) -> Result<NEBTreeMap<u32, u32>, AllocError>
     ensures { IfOk result (λ m. m.entries ≡ (2, 24) ∷ (4, 27) ∷ (6, 23) ∷ (8, 25) ∷ []) }
 {
@@ -128,6 +139,7 @@ pub fn get_mut(alloc: Global) -> Result<NEBTreeMap<u32, u32>, AllocError>
     Ok(map)
 }
 
+/// Inserts a new key, and a key that is there.
 pub fn insert(alloc: Global) -> Result<(Option<u32>, Option<u32>, NEBTreeMap<u32, u32>), AllocError>
     ensures none { IfOk result (λ r. r.0 ≡ None) }
     ensures old { IfOk result (λ r. r.1 ≡ Some 20) }
@@ -139,6 +151,7 @@ pub fn insert(alloc: Global) -> Result<(Option<u32>, Option<u32>, NEBTreeMap<u32
     Ok((none, old, map))
 }
 
+/// Compares a map with its clone.
 pub fn clone(alloc: Global) -> Result<bool, AllocError>
     ensures { IfOk result (λ same. same ≡ true) }
 {

@@ -6,6 +6,7 @@ use nonempty_collections::{NEBTreeSet, NEVec, NonEmptyIterator, nebts};
 use std::alloc::{AllocError, Global};
 use std::collections::BTreeSet;
 
+/// Asks for items of a set that is written out, and counts them.
 pub fn contains_and_len(alloc: Global) -> Result<(bool, bool, usize), AllocError>
     ensures two { IfOk result (λ r. r.0 ≡ true) }
     ensures three { IfOk result (λ r. r.1 ≡ false) }
@@ -17,6 +18,7 @@ pub fn contains_and_len(alloc: Global) -> Result<(bool, bool, usize), AllocError
     Ok((two, three, len))
 }
 
+/// Creates a set of one item.
 pub fn new(alloc: Global) -> Result<NEBTreeSet<u32>, AllocError>
     ensures { IfOk result (λ s. s.keys ≡ 2 ∷ []) }
 {
@@ -24,6 +26,7 @@ pub fn new(alloc: Global) -> Result<NEBTreeSet<u32>, AllocError>
     Ok(set)
 }
 
+/// Iterates over the items by std's iterator.
 pub fn iter(alloc: Global) -> Result<Vec<u32>, AllocError>
     ensures { IfOk result (λ v. v.items ≡ 2 ∷ 4 ∷ 8 ∷ 10 ∷ []) }
 {
@@ -32,6 +35,7 @@ pub fn iter(alloc: Global) -> Result<Vec<u32>, AllocError>
     items.copied().collect(alloc)
 }
 
+/// Iterates over the items.
 pub fn nonempty_iter(alloc: Global) -> Result<NEVec<u32>, AllocError>
     ensures { IfOk result (λ v. v ≡ 2 ∷ 4 ∷ 8 ∷ 10 ∷ []) }
 {
@@ -40,6 +44,7 @@ pub fn nonempty_iter(alloc: Global) -> Result<NEVec<u32>, AllocError>
     items.copied().collect(alloc)
 }
 
+/// Counts the items of a set that is written out with one of them twice.
 pub fn len(alloc: Global) -> Result<usize, AllocError>
     ensures { IfOk result (λ len. len ≡ 2) }
 {
@@ -47,6 +52,7 @@ pub fn len(alloc: Global) -> Result<usize, AllocError>
     Ok(len)
 }
 
+/// Converts std's sets, one that has items and one that is empty.
 pub fn try_from_set(
     alloc: Global,
 ) -> Result<(Option<NEBTreeSet<u32>>, Option<NEBTreeSet<u32>>), AllocError>
@@ -62,6 +68,7 @@ pub fn try_from_set(
     Ok((some, none))
 }
 
+/// Asks for an item that is there and for one that isn't.
 pub fn contains(alloc: Global) -> Result<(bool, bool), AllocError>
     ensures there { IfOk result (λ r. r.0 ≡ true) }
     ensures absent { IfOk result (λ r. r.1 ≡ false) }
@@ -71,6 +78,7 @@ pub fn contains(alloc: Global) -> Result<(bool, bool), AllocError>
     Ok((there, absent))
 }
 
+/// Iterates over the items that are only in the first set.
 pub fn difference(alloc: Global) -> Result<Vec<u32>, AllocError>
     ensures { IfOk result (λ v. v.items ≡ 2 ∷ 4 ∷ []) }
 {
@@ -79,6 +87,7 @@ pub fn difference(alloc: Global) -> Result<Vec<u32>, AllocError>
     left.copied().collect(alloc)
 }
 
+/// Looks up an item that is there and one that isn't.
 pub fn get(alloc: Global) -> Result<(Option<u32>, Option<u32>), AllocError>
     ensures two { IfOk result (λ r. r.0 ≡ Some 2) }
     ensures none { IfOk result (λ r. r.1 ≡ None) }
@@ -88,6 +97,7 @@ pub fn get(alloc: Global) -> Result<(Option<u32>, Option<u32>), AllocError>
     Ok((two.copied(), none.copied()))
 }
 
+/// Inserts an item twice.
 pub fn insert(alloc: Global) -> Result<(bool, bool, NEBTreeSet<u32>), AllocError>
     ensures added { IfOk result (λ r. r.0 ≡ true) }
     ensures again { IfOk result (λ r. r.1 ≡ false) }
@@ -99,6 +109,7 @@ pub fn insert(alloc: Global) -> Result<(bool, bool, NEBTreeSet<u32>), AllocError
     Ok((added, again, set))
 }
 
+/// Iterates over the items that are in both sets.
 pub fn intersection(alloc: Global) -> Result<Vec<u32>, AllocError>
     ensures { IfOk result (λ v. v.items ≡ 3 ∷ []) }
 {
@@ -107,6 +118,7 @@ pub fn intersection(alloc: Global) -> Result<Vec<u32>, AllocError>
     shared.copied().collect(alloc)
 }
 
+/// Asks whether two sets that have an item in common have none.
 pub fn is_disjoint(alloc: Global) -> Result<bool, AllocError>
     ensures { IfOk result (λ disjoint. disjoint ≡ false) }
 {
@@ -115,6 +127,7 @@ pub fn is_disjoint(alloc: Global) -> Result<bool, AllocError>
     Ok(disjoint)
 }
 
+/// Asks whether the second set has each item of the first.
 pub fn is_subset(alloc: Global) -> Result<bool, AllocError>
     ensures { IfOk result (λ subset. subset ≡ true) }
 {
@@ -123,6 +136,7 @@ pub fn is_subset(alloc: Global) -> Result<bool, AllocError>
     Ok(subset)
 }
 
+/// Asks whether the first set has each item of the second.
 pub fn is_superset(alloc: Global) -> Result<bool, AllocError>
     ensures { IfOk result (λ superset. superset ≡ true) }
 {
@@ -131,6 +145,7 @@ pub fn is_superset(alloc: Global) -> Result<bool, AllocError>
     Ok(superset)
 }
 
+/// Replaces an item by an equal one.
 pub fn replace(alloc: Global) -> Result<Option<u32>, AllocError>
     ensures { IfOk result (λ old. old ≡ Some 4) }
 {
@@ -139,6 +154,7 @@ pub fn replace(alloc: Global) -> Result<Option<u32>, AllocError>
     Ok(old)
 }
 
+/// Iterates over the items of both sets.
 pub fn union(alloc: Global) -> Result<NEVec<u32>, AllocError>
     ensures { IfOk result (λ v. v ≡ 1 ∷ 2 ∷ 3 ∷ 4 ∷ 5 ∷ []) }
 {
@@ -147,6 +163,7 @@ pub fn union(alloc: Global) -> Result<NEVec<u32>, AllocError>
     all.copied().collect(alloc)
 }
 
+/// Compares a set with its clone.
 pub fn clone(alloc: Global) -> Result<bool, AllocError>
     ensures { IfOk result (λ same. same ≡ true) }
 {

@@ -6,6 +6,7 @@ use nonempty_collections::{NESlice, NEVec, NonEmptyIterator, nev};
 use std::alloc::{AllocError, Global};
 use std::num::NonZeroUsize;
 
+/// The first and the last item of a vector, after a `push`.
 pub fn ends(alloc: Global) -> Result<(u32, u32), AllocError>
     ensures { IfOk result (λ r. (r.0 ≡ 4) × (r.1 ≡ 9)) }
 {
@@ -15,6 +16,7 @@ pub fn ends(alloc: Global) -> Result<(u32, u32), AllocError>
     Ok((first, last))
 }
 
+/// A vector of one item.
 pub fn new(alloc: Global) -> Result<NEVec<u32>, AllocError>
     ensures { IfOk result (λ v. v ≡ 7 ∷ []) }
 {
@@ -22,6 +24,7 @@ pub fn new(alloc: Global) -> Result<NEVec<u32>, AllocError>
     Ok(items)
 }
 
+/// A vector of a repeated item.
 pub fn from_elem(alloc: Global) -> Result<NEVec<u32>, AllocError>
     ensures { IfOk result (λ v. v ≡ 7 ∷ 7 ∷ []) }
 {
@@ -30,6 +33,7 @@ pub fn from_elem(alloc: Global) -> Result<NEVec<u32>, AllocError>
     Ok(items)
 }
 
+/// A vector of one item, with room for more.
 pub fn with_capacity(alloc: Global) -> Result<NEVec<u32>, AllocError>
     ensures { IfOk result (λ v. v ≡ 1 ∷ []) }
 {
@@ -38,6 +42,7 @@ pub fn with_capacity(alloc: Global) -> Result<NEVec<u32>, AllocError>
     Ok(items)
 }
 
+/// A vector of a first item and others.
 pub fn from_parts(alloc: Global) -> Result<NEVec<u32>, AllocError>
     ensures { IfOk result (λ v. v ≡ 1 ∷ 2 ∷ 3 ∷ 4 ∷ 5 ∷ []) }
 {
@@ -45,6 +50,7 @@ pub fn from_parts(alloc: Global) -> Result<NEVec<u32>, AllocError>
     Ok(items)
 }
 
+/// The first of several texts.
 pub fn first(alloc: Global) -> Result<&'static str, AllocError>
     ensures { IfOk result (λ first. first.now ≡ 195 ∷ 150 ∷ codes "sterreich") }
 {
@@ -53,6 +59,7 @@ pub fn first(alloc: Global) -> Result<&'static str, AllocError>
     Ok(first)
 }
 
+/// The first item is changed.
 pub fn first_mut(alloc: Global) -> Result<NEVec<u32>, AllocError>
     ensures { IfOk result (λ v. v ≡ 40 ∷ 6 ∷ 8 ∷ []) }
 {
@@ -61,6 +68,7 @@ pub fn first_mut(alloc: Global) -> Result<NEVec<u32>, AllocError>
     Ok(items)
 }
 
+/// An item is added at the end.
 pub fn push(alloc: Global) -> Result<NEVec<u32>, AllocError>
     ensures { IfOk result (λ v. v ≡ 7 ∷ 8 ∷ []) }
 {
@@ -69,6 +77,7 @@ pub fn push(alloc: Global) -> Result<NEVec<u32>, AllocError>
     Ok(items)
 }
 
+/// The last item is taken, and the only one is not.
 pub fn pop(alloc: Global) -> Result<(Option<u32>, Option<u32>), AllocError>
     ensures { IfOk result (λ r. (r.0 ≡ Some 6) × (r.1 ≡ None)) }
 {
@@ -78,6 +87,7 @@ pub fn pop(alloc: Global) -> Result<(Option<u32>, Option<u32>), AllocError>
     Ok((popped, none))
 }
 
+/// An item is removed by its index, and the others keep their order.
 pub fn remove(alloc: Global) -> Result<(Option<u32>, NEVec<u32>), AllocError>
     ensures { IfOk result (λ r. (r.0 ≡ Some 4) × (r.1 ≡ 6 ∷ 8 ∷ [])) }
 {
@@ -86,6 +96,7 @@ pub fn remove(alloc: Global) -> Result<(Option<u32>, NEVec<u32>), AllocError>
     Ok((removed, items))
 }
 
+/// An item is removed by its index, and the last one takes its place.
 pub fn swap_remove(alloc: Global) -> Result<(Option<u32>, NEVec<u32>), AllocError>
     ensures { IfOk result (λ r. (r.0 ≡ Some 4) × (r.1 ≡ 9 ∷ 6 ∷ 8 ∷ [])) }
 {
@@ -94,6 +105,7 @@ pub fn swap_remove(alloc: Global) -> Result<(Option<u32>, NEVec<u32>), AllocErro
     Ok((removed, items))
 }
 
+/// The even items stay, or there are none.
 pub fn retain(
     alloc: Global,
 ) -> Result<(Result<NEVec<u32>, Vec<u32>>, Result<NEVec<u32>, Vec<u32>>), AllocError>
@@ -110,6 +122,7 @@ pub fn retain(
     Ok((even, none))
 }
 
+/// The items are halved, and the even halves stay.
 pub fn retain_mut(alloc: Global) -> Result<Result<NEVec<u32>, Vec<u32>>, AllocError>
     ensures { IfOk result (λ r. r ≡ Ok (0 ∷ 2 ∷ 0 ∷ 2 ∷ 4 ∷ [])) }
 {
@@ -121,6 +134,7 @@ pub fn retain_mut(alloc: Global) -> Result<Result<NEVec<u32>, Vec<u32>>, AllocEr
     Ok(even_halves)
 }
 
+/// Items are inserted at the end, in the middle and in front.
 pub fn insert(alloc: Global) -> Result<NEVec<u32>, AllocError>
     ensures { IfOk result (λ v. v ≡ 1 ∷ 4 ∷ 2 ∷ 6 ∷ 3 ∷ []) }
 {
@@ -131,6 +145,7 @@ pub fn insert(alloc: Global) -> Result<NEVec<u32>, AllocError>
     Ok(items)
 }
 
+/// The number of items.
 pub fn len(alloc: Global) -> Result<usize, AllocError>
     ensures { IfOk result (λ len. len ≡ 8) }
 {
@@ -138,6 +153,7 @@ pub fn len(alloc: Global) -> Result<usize, AllocError>
     Ok(len)
 }
 
+/// The last of several texts.
 pub fn last(alloc: Global) -> Result<&'static str, AllocError>
     ensures { IfOk result (λ last. last.now ≡ codes "Italia") }
 {
@@ -146,6 +162,7 @@ pub fn last(alloc: Global) -> Result<&'static str, AllocError>
     Ok(last)
 }
 
+/// The last item is changed.
 pub fn last_mut(alloc: Global) -> Result<NEVec<u32>, AllocError>
     ensures { IfOk result (λ v. v ≡ 11 ∷ 20 ∷ 31 ∷ []) }
 {
@@ -154,6 +171,7 @@ pub fn last_mut(alloc: Global) -> Result<NEVec<u32>, AllocError>
     Ok(items)
 }
 
+/// An item that is there, and one that is not.
 pub fn contains(alloc: Global) -> Result<(bool, bool), AllocError>
     ensures { IfOk result (λ r. (r.0 ≡ true) × (r.1 ≡ false)) }
 {
@@ -162,6 +180,7 @@ pub fn contains(alloc: Global) -> Result<(bool, bool), AllocError>
     Ok((there, absent))
 }
 
+/// The item at an index, if there is one.
 pub fn get(alloc: Global) -> Result<(Option<u32>, Option<u32>), AllocError>
     ensures { IfOk result (λ r. (r.0 ≡ Some 30) × (r.1 ≡ None)) }
 {
@@ -170,6 +189,7 @@ pub fn get(alloc: Global) -> Result<(Option<u32>, Option<u32>), AllocError>
     Ok((last.copied(), none.copied()))
 }
 
+/// The item at an index is changed.
 pub fn get_mut(alloc: Global) -> Result<NEVec<u32>, AllocError>
     ensures { IfOk result (λ v. v ≡ 11 ∷ 22 ∷ 31 ∷ []) }
 {
@@ -180,6 +200,7 @@ pub fn get_mut(alloc: Global) -> Result<NEVec<u32>, AllocError>
     Ok(items)
 }
 
+/// The items are reversed as a slice.
 pub fn as_mut_slice(alloc: Global) -> Result<NEVec<u32>, AllocError>
     ensures { IfOk result (λ v. v ≡ 31 ∷ 22 ∷ 11 ∷ []) }
 {
@@ -188,6 +209,7 @@ pub fn as_mut_slice(alloc: Global) -> Result<NEVec<u32>, AllocError>
     Ok(items)
 }
 
+/// The halves of the items, by std's iterator.
 pub fn iter(alloc: Global) -> Result<Vec<u32>, AllocError>
     ensures { IfOk result (λ halves. halves.items ≡ map (λ x. x / 2) (3 ∷ 4 ∷ 5 ∷ 6 ∷ [])) }
 {
@@ -207,6 +229,7 @@ pub fn iter_mut(alloc: Global) -> Result<NEVec<u32>, AllocError>
     Ok(items)
 }
 
+/// The greatest item.
 pub fn nonempty_iter(alloc: Global) -> Result<u32, AllocError>
     ensures { IfOk result (λ greatest. greatest ≡ 8) }
 {
@@ -226,6 +249,7 @@ pub fn nonempty_iter_mut(alloc: Global) -> Result<NEVec<u32>, AllocError>
     Ok(items)
 }
 
+/// The items are reversed.
 pub fn reverse(alloc: Global) -> Result<NEVec<u32>, AllocError>
     ensures { IfOk result (λ v. v ≡ 8 ∷ 6 ∷ 4 ∷ []) }
 {
@@ -234,6 +258,7 @@ pub fn reverse(alloc: Global) -> Result<NEVec<u32>, AllocError>
     Ok(items)
 }
 
+/// The first two items stay.
 pub fn truncate(alloc: Global) -> Result<NEVec<u32>, AllocError>
     ensures { IfOk result (λ v. v ≡ 1 ∷ 2 ∷ []) }
 {
@@ -242,6 +267,7 @@ pub fn truncate(alloc: Global) -> Result<NEVec<u32>, AllocError>
     Ok(items)
 }
 
+/// The items of a slice, and none of an empty one.
 pub fn try_from_slice(alloc: Global) -> Result<(Option<NEVec<u32>>, Option<NEVec<u32>>), AllocError>
     ensures { IfOk result (λ r. (r.0 ≡ Some (4 ∷ 6 ∷ 8 ∷ [])) × (r.1 ≡ None)) }
 {
@@ -250,6 +276,7 @@ pub fn try_from_slice(alloc: Global) -> Result<(Option<NEVec<u32>>, Option<NEVec
     Ok((some, none))
 }
 
+/// The items of std's vector, and none of an empty one.
 pub fn try_from_vec(alloc: Global) -> Result<(Option<NEVec<u32>>, Option<NEVec<u32>>), AllocError>
     ensures { IfOk result (λ r. (r.0 ≡ Some (4 ∷ 6 ∷ 8 ∷ [])) × (r.1 ≡ None)) }
 {
@@ -258,6 +285,7 @@ pub fn try_from_vec(alloc: Global) -> Result<(Option<NEVec<u32>>, Option<NEVec<u
     Ok((some, none))
 }
 
+/// A clone has the same items.
 pub fn clone(alloc: Global) -> Result<NEVec<u32>, AllocError>
     ensures { IfOk result (λ same. same ≡ 3 ∷ 1 ∷ 4 ∷ 1 ∷ 5 ∷ 9 ∷ 2 ∷ 6 ∷ []) }
 {
@@ -266,6 +294,7 @@ pub fn clone(alloc: Global) -> Result<NEVec<u32>, AllocError>
     Ok(same)
 }
 
+/// The first item, and the others.
 pub fn split_first(alloc: Global) -> Result<(u32, Vec<u32>), AllocError>
     ensures { IfOk result (λ r. (r.0 ≡ 4) × (r.1.items ≡ 6 ∷ 8 ∷ [])) }
 {
@@ -274,6 +303,7 @@ pub fn split_first(alloc: Global) -> Result<(u32, Vec<u32>), AllocError>
     Ok((*first, rest.to_vec(alloc)?))
 }
 
+/// The first item, those in the middle, and the last one.
 pub fn split(alloc: Global) -> Result<(u32, Vec<u32>, u32), AllocError>
     ensures ends { IfOk result (λ r. (r.0 ≡ 4) × (r.2 ≡ 9)) }
     ensures middle { IfOk result (λ r. r.1.items ≡ 6 ∷ 8 ∷ []) }
@@ -283,6 +313,7 @@ pub fn split(alloc: Global) -> Result<(u32, Vec<u32>, u32), AllocError>
     Ok((*first, middle.to_vec(alloc)?, *last))
 }
 
+/// The items of another vector are moved to the end.
 pub fn append(alloc: Global) -> Result<NEVec<u32>, AllocError>
     ensures { IfOk result (λ v. v ≡ 4 ∷ 6 ∷ 8 ∷ []) }
 {
