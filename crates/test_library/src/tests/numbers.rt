@@ -1,5 +1,4 @@
 //! Numbers that count their clones, and clones that fail.
-ghost use Rattle.std.specs.Prelude.{◌≡◌};
 
 use super::{bump, is, same};
 use nonempty_collections::{IntoNonEmptyIterator, NonEmptyIterator};
