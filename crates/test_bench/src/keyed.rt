@@ -8,7 +8,7 @@ use kinds::{Bag, Table};
 use ne_laws::maps::NonEmptyMap;
 use nonempty_collections::{
     FromNonEmptyIterator, IntoNonEmptyIterator, NEBTreeMap, NEBTreeSet, NEIndexMap, NEIndexSet,
-    NEMap, NESet, NonEmptyIterator,
+    NEMap, NESet, NonEmptyIterator, Singleton,
 };
 use std::alloc::{AllocError, Global};
 use std::num::NonZeroUsize;
@@ -34,7 +34,7 @@ fn of<M: Table + Drop, S: Bag + Drop>(
 ) -> Result<Option<u64>, AllocError> {
     let half = n.get() as u64 / 2;
     let checksum = match step {
-        "insert" => inserted(M::of_one(alloc)?, alloc, n)?,
+        "insert" => inserted(M::singleton(alloc, (0, 0))?, alloc, n)?,
         "collect" => length(&pairs::<M>(alloc, n)?),
         "look_up" => look_up(&pairs::<M>(alloc, n)?, n),
         "walk" => pairs::<M>(alloc, n)?.combined(),
@@ -59,13 +59,13 @@ fn length<M: NonEmptyMap<u64, u64>>(map: &M) -> u64 {
 }
 
 // The number of keys of a map into which the pairs are inserted one by one.
-fn inserted<M: NonEmptyMap<u64, u64> + Drop>(
+fn inserted<M: Table + Drop>(
     mut map: M,
     alloc: Global,
     n: NonZeroUsize,
 ) -> Result<u64, AllocError> {
     for (key, value) in paired(alloc, n)? {
-        map.put(key, value)?;
+        map.extend_one((key, value))?;
     }
     Ok(length(&map))
 }

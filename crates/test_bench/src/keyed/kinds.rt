@@ -3,15 +3,14 @@
 use crate::input::mixed;
 use ne_laws::maps::NonEmptyMap;
 use nonempty_collections::{
-    FromNonEmptyIterator, NEBTreeMap, NEBTreeSet, NEIndexMap, NEIndexSet, NEMap, NESet,
+    FromNonEmptyIterator, NEBTreeMap, NEBTreeSet, NEIndexMap, NEIndexSet, NEMap, NESet, Singleton,
 };
-use std::alloc::{AllocError, Global};
 
 /// A map from numbers to numbers.
-pub trait Table: NonEmptyMap<u64, u64> + FromNonEmptyIterator<(u64, u64)> + PartialEq {
-    /// A map of one pair.
-    fn of_one(alloc: Global) -> Result<Self, AllocError>;
-
+pub trait Table: NonEmptyMap<u64, u64>
+    + Singleton<Item = (u64, u64)>
+    + FromNonEmptyIterator<(u64, u64)>
+    + PartialEq {
     /// The value of the key, or 1 if there is none.
     fn found(&self, key: u64) -> u64;
 
@@ -28,10 +27,6 @@ pub trait Bag: FromNonEmptyIterator<u64> + PartialEq {
 }
 
 impl Table for NEBTreeMap<u64, u64> {
-    fn of_one(alloc: Global) -> Result<NEBTreeMap<u64, u64>, AllocError> {
-        NEBTreeMap::new(alloc, 0, 0)
-    }
-
     fn found(&self, key: u64) -> u64 {
         self.get(&key).copied().unwrap_or(1)
     }
@@ -46,10 +41,6 @@ impl Table for NEBTreeMap<u64, u64> {
 }
 
 impl Table for NEMap<u64, u64> {
-    fn of_one(alloc: Global) -> Result<NEMap<u64, u64>, AllocError> {
-        NEMap::new(alloc, 0, 0)
-    }
-
     fn found(&self, key: u64) -> u64 {
         self.get(&key).copied().unwrap_or(1)
     }
@@ -64,10 +55,6 @@ impl Table for NEMap<u64, u64> {
 }
 
 impl Table for NEIndexMap<u64, u64> {
-    fn of_one(alloc: Global) -> Result<NEIndexMap<u64, u64>, AllocError> {
-        NEIndexMap::new(alloc, 0, 0)
-    }
-
     fn found(&self, key: u64) -> u64 {
         self.get(&key).copied().unwrap_or(1)
     }
