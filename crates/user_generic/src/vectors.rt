@@ -1,8 +1,8 @@
 //! Vectors in generic code, behind references, and with closures that not every value may be passed
 //! to. There is no proof file.
 ghost use Rattle.std.specs.Prelude.{◌≡◌, ◌+◌, ◌-◌, ◌/◌, ◌<◌, ◌≤◌, ◌↔◌, [], ◌∷◌, ◌++◌, length, List};
-ghost use Rattle.std.specs.Prelude.{slice_get, All, IfOk, IsSomeAnd, IsTrue, None, Some};
-ghost use Rattle.std.specs.Cmp.Lexicographic.{slice_partial_cmp};
+ghost use Rattle.std.specs.Prelude.{slice_get, slice_set, All, IfOk, IsSomeAnd, IsSorted, IsTrue, None, Some};
+ghost use Rattle.std.specs.Cmp.Lexicographic.{slice_cmp, slice_partial_cmp};
 ghost use Rattle.std.specs.Iterator.{ExtendsWithItems, HoldsAlong, IsFinite, IsFiniteIterable};
 ghost use Rattle.std.specs.List.{AllZip};
 ghost use Rattle.std.specs.List.Sorted.{IsSearchInRange};
@@ -91,6 +91,21 @@ pub fn zero_first(v: &mut NEVec<u8>)
     ensures { slice_get v.new 0 ≡ Some 0 }
 {
     v.as_mut_slice()[0] = 0;
+}
+
+/// Writes an item.
+pub fn set_at<T: Drop>(v: &mut NEVec<T>, i: usize, x: T)
+    requires { i < length v.old }
+    ensures { v.new ≡ slice_set v.old i x }
+{
+    v[i] = x;
+}
+
+/// Sorts items of any type that has an order.
+pub fn ordered<T: Ord>(v: &mut NEVec<T>) -> Result<(), AllocError>
+    ensures { IfOk result (λ _. IsSorted T.cmp v.new) }
+{
+    v.sort()
 }
 
 /// Adds one to each item.
@@ -265,6 +280,20 @@ pub fn place<T, F: FnMut(&T) -> Ordering>(v: &NEVec<T>, f: F) -> Result<usize, u
 {
     always_callable_is_callable_at_items::<T, Ordering, F>();
     v.binary_search_by(f)
+}
+
+/// Compares two vectors.
+pub fn order<T: Ord>(a: &NEVec<T>, b: &NEVec<T>) -> Ordering
+    ensures { result ≡ slice_cmp T.cmp a.now b.now }
+{
+    a.cmp(b)
+}
+
+/// Compares two slices.
+pub fn order_of_parts<'a, T: Ord>(a: &NESlice<'a, T>, b: &NESlice<'a, T>) -> Ordering
+    ensures { result ≡ slice_cmp T.cmp a.now b.now }
+{
+    a.cmp(b)
 }
 
 /// Compares two pairs as vectors. If the first items compare as equal, the second ones decide.
