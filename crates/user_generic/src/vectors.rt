@@ -1,7 +1,8 @@
 //! Vectors in generic code, behind references, and with closures that not every value may be passed
 //! to. There is no proof file.
 ghost use Rattle.std.specs.Prelude.{◌≡◌, ◌+◌, ◌-◌, ◌/◌, ◌<◌, ◌≤◌, ◌↔◌, [], ◌∷◌, ◌++◌, length, List};
-ghost use Rattle.std.specs.Prelude.{slice_get, slice_set, All, IfOk, IsSomeAnd, IsSorted, IsTrue, None, Some};
+ghost use Rattle.std.specs.Prelude.{slice_get, slice_set, All, IfOk, IsSomeAnd, IsSorted};
+ghost use Rattle.std.specs.Prelude.{IsTrue, None, Some};
 ghost use Rattle.std.specs.Cmp.Lexicographic.{slice_cmp, slice_partial_cmp};
 ghost use Rattle.std.specs.Iterator.{ExtendsWithItems, HoldsAlong, IsFinite, IsFiniteIterable};
 ghost use Rattle.std.specs.List.{AllZip};
