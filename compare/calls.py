@@ -219,6 +219,13 @@ CALLS = {
     for name in names.split()
 }
 NAMES = list(CALLS)
+# The calls that allocate for each item, and how many items the sample has for them.
+GROWING = """
+clone into_vec try_from_slice all_unique unzip sorted_by_key cloned intersperse group_by
+collect_nevec collect_vec collect_strings collect_cows collect_path collect_result collect_tree_map
+collect_tree_set collect_hash_map collect_hash_set extend append run_vec
+"""
+MANY = 400
 # The sort that comes before each search.
 SORTS = {
     "binary_search": "sort",
@@ -465,9 +472,21 @@ def counted(script):
     return [(script[0][0], name) for name, _, _ in script[1:]]
 
 
+def over_many():
+    """Returns a script with each call that allocates for each item, over many items."""
+    items = f"{MANY}*1"
+    numbers = {"item": (5,), "pair": (5, 8), "items": (items,), "calls": (0, 7) * MANY}
+    script = [setting([items])]
+    for name in GROWING.split():
+        kinds = [kind for kind in numbers if KINDS[kind] in CALLS[name].kinds]
+        closure = "half" if CALLS[name].closures != NONE else ""
+        script.append((name, closure, tuple(itertools.chain(*map(numbers.get, kinds)))))
+    return script
+
+
 def sample():
-    """Returns the worked rows, and then two turns of each call. In a turn, all calls but those that
-    make a vector are on the same vector."""
+    """Returns the example cases, then two turns of each call, and then some calls over many items.
+    In a turn, all calls but those that make a vector are on the same vector."""
     script = parsed(ROWS)
     for turn, items in enumerate([(3, 1, 4, 1, 5, 9, 2, 6), (7, 7, 0, 12, 12, 35, GREATEST)]):
         is_set = False
@@ -482,7 +501,7 @@ def sample():
             )
             script += calls if is_set or row.does == MAKES else [setting(items), *calls]
             is_set = all(CALLS[it].does == READS for it, _, _ in calls)
-    return script
+    return script + over_many()
 
 
 def line(call):

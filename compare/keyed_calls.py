@@ -454,7 +454,7 @@ def large(count):
     }
     values |= {"keys": (keys,) * 2, "pairs": (keys,) * 2, "other": (keys, f"{2 * count}*1")}
     values["calls"] = (
-        f"0 {count} 7 1 {4 * count} 8 2 0 0 3 0 0",
+        " ".join([f"0 {count} 7 1 {4 * count} 8 2 0 0 3 0 0"] * (1 + count // 100)),
         f"0 {4 * count} 7 1 {count} 8 2 {9 * count} 0",
     )
     return {id(KINDS[kind]): [(number,) for number in numbers] for kind, numbers in values.items()}
