@@ -9,9 +9,8 @@ from collections import defaultdict
 from itertools import pairwise
 from typing import NamedTuple
 
-from common import ROOT, read
+from common import CRATES, ROOT, read
 
-CRATES = ("ne_vec", "ne_iter", "ne_tree", "ne_hash", "ne_index", "ne_products", "ne_laws")
 # How the tests name a trait's method for a type, and the method that an iterator type comes from.
 KINDS = {
     "NEVec": "",

@@ -1,10 +1,10 @@
-//! The examples of arrays.
+//! The examples of arrays, written by `.ci/examples --write`.
 ghost use Rattle.std.specs.Prelude.{◌≡◌, ◌∷◌, [], IfOk};
 
 use nonempty_collections::{NEVec, NonEmptyArrayExt, NonEmptyIterator};
 use std::alloc::{AllocError, Global};
 
-/// The items of an array as a slice.
+/// By hand. The items of an array as a slice.
 pub fn as_nonempty_slice(alloc: Global) -> Result<NEVec<u32>, AllocError>
     ensures { IfOk result (λ v. v ≡ 1 ∷ 4 ∷ 1 ∷ []) }
 {
@@ -13,7 +13,7 @@ pub fn as_nonempty_slice(alloc: Global) -> Result<NEVec<u32>, AllocError>
     slice.nonempty_iter().copied().collect(alloc)
 }
 
-/// The number of items.
+/// The example of `nonzero_len`.
 pub fn nonzero_len(_alloc: Global) -> Result<usize, AllocError>
     ensures { IfOk result (λ len. len ≡ 2) }
 {
@@ -21,7 +21,7 @@ pub fn nonzero_len(_alloc: Global) -> Result<usize, AllocError>
     Ok(len)
 }
 
-/// The items of an array as a vector.
+/// The example of `into_nonempty_vec`.
 pub fn into_nonempty_vec(alloc: Global) -> Result<NEVec<u32>, AllocError>
     ensures { IfOk result (λ v. v ≡ 4 ∷ 6 ∷ []) }
 {

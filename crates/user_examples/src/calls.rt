@@ -10,7 +10,7 @@ use ne_laws::vector_calls::{VecCall, VecReply, run_vec};
 use nonempty_collections::{IntoNonEmptyIterator, NEBTreeMap, NEVec, nebtm, nev};
 use std::alloc::{AllocError, Global};
 
-/// That the last reply is a `Len` is only run; if it is, its number is 3.
+/// By hand. That the last reply is a `Len` is only run; if it is, its number is 3.
 pub fn calls_on_a_map(
     alloc: Global,
 ) -> Result<(Vec<MapReply<u32>>, NEBTreeMap<u32, u32>), AllocError>
@@ -34,7 +34,7 @@ pub fn calls_on_a_map(
     Ok((replies, m))
 }
 
-/// That one run is taken at most is proved. Which one it is, and the next, is only run.
+/// By hand. That one run is taken at most is proved. Which one it is, and the next, is only run.
 pub fn first_run(
     alloc: Global,
 ) -> Result<(Vec<NEVec<u32>>, Option<Result<NEVec<u32>, AllocError>>), AllocError>
@@ -46,7 +46,7 @@ pub fn first_run(
     Ok((runs, next))
 }
 
-/// That the fourth reply is a `Len` is only run; if it is, its number is 2.
+/// By hand. That the fourth reply is a `Len` is only run; if it is, its number is 2.
 pub fn calls_on_a_vector(alloc: Global) -> Result<(Vec<VecReply<u32>>, NEVec<u32>), AllocError>
     ensures len { IfOk result (λ r. length r.0.items ≡ 5) }
     ensures pushed { IfOk result (λ r. slice_get r.0.items 0 ≡ Some VecReply.Done) }

@@ -1,10 +1,10 @@
-//! The examples of dropping repeated items of a vector.
+//! The examples of dropping repeated items of a vector, written by `.ci/examples --write`.
 ghost use Rattle.std.specs.Prelude.{◌≡◌, ◌∷◌, [], IfOk};
 
 use nonempty_collections::{NEVec, nev};
 use std::alloc::{AllocError, Global};
 
-/// Of items with the same ten, the first one stays.
+/// The example of `dedup_by_key`.
 pub fn dedup_by_key(alloc: Global) -> Result<NEVec<u32>, AllocError>
     ensures { IfOk result (λ v. v ≡ 41 ∷ 60 ∷ 40 ∷ []) }
 {
@@ -13,7 +13,7 @@ pub fn dedup_by_key(alloc: Global) -> Result<NEVec<u32>, AllocError>
     Ok(items)
 }
 
-/// An item that is less than the last one kept is dropped.
+/// The example of `dedup_by`.
 pub fn dedup_by(alloc: Global) -> Result<NEVec<u32>, AllocError>
     ensures { IfOk result (λ v. v ≡ 4 ∷ 6 ∷ []) }
 {

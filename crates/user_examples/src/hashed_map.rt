@@ -1,4 +1,4 @@
-//! The examples of hashed maps.
+//! The examples of hashed maps, written by `.ci/examples --write`.
 ghost use Rattle.std.specs.Prelude.{◌≡◌, ◌+◌, ◌≤◌, [], ◌∷◌, true, false, length, nat_eq};
 ghost use Rattle.std.specs.Prelude.{Contains, IfOk, None, Some};
 ghost use Rattle.std.specs.HashMap.{get, hash_map_len, spare};
@@ -13,7 +13,7 @@ use std::hash::{BuildHasherDefault, RandomState};
 use std::io;
 use std::num::NonZeroUsize;
 
-/// Creates a map whose hasher has a random seed.
+/// By hand. Creates a map whose hasher has a random seed.
 pub fn random_state(
     alloc: Global,
     rt: &HostRuntime,
@@ -24,8 +24,8 @@ pub fn random_state(
     Ok(map)
 }
 
-/// Looks up keys of a map that is written out, and counts them.
-pub fn get_and_len(alloc: Global) -> Result<(Option<u32>, Option<u32>, usize), AllocError>
+/// The example of `NEMap`.
+pub fn nemap(alloc: Global) -> Result<(Option<u32>, Option<u32>, usize), AllocError>
     ensures one { IfOk result (λ r. r.0 ≡ Some 30) }
     ensures three { IfOk result (λ r. r.1 ≡ None) }
     ensures len { IfOk result (λ r. r.2 ≡ 2) }
@@ -36,7 +36,7 @@ pub fn get_and_len(alloc: Global) -> Result<(Option<u32>, Option<u32>, usize), A
     Ok((one.copied(), three.copied(), len))
 }
 
-/// Creates a map of one key.
+/// The example of `new`.
 pub fn new(alloc: Global) -> Result<NEMap<u32, u32>, AllocError>
     ensures { IfOk result (λ m. m.entries ≡ (4, 20) ∷ []) }
 {
@@ -44,7 +44,7 @@ pub fn new(alloc: Global) -> Result<NEMap<u32, u32>, AllocError>
     Ok(map)
 }
 
-/// Creates a map of one key that has room for more.
+/// By hand. Creates a map of one key that has room for more.
 pub fn with_capacity(alloc: Global) -> Result<NEMap<u32, u32>, AllocError>
     ensures entries { IfOk result (λ m. m.entries ≡ (2, 1) ∷ []) }
     ensures room { IfOk result (λ m. 9 ≤ hash_map_len m + spare m) }
@@ -54,7 +54,7 @@ pub fn with_capacity(alloc: Global) -> Result<NEMap<u32, u32>, AllocError>
     Ok(map)
 }
 
-/// Converts std's maps, one that has keys and one that is empty.
+/// The example of `try_from_map`.
 pub fn try_from_map(
     alloc: Global,
 ) -> Result<(Option<NEMap<u32, u32>>, Option<NEMap<u32, u32>>), AllocError>
@@ -72,7 +72,7 @@ pub fn try_from_map(
     Ok((some, none))
 }
 
-/// Iterates over the pairs by std's iterator.
+/// The example of `iter`.
 pub fn iter(alloc: Global) -> Result<Vec<(u32, u32)>, AllocError>
     ensures zero { IfOk result (λ v. lookup (nat_eq 0) v.items ≡ Some 3) }
     ensures two { IfOk result (λ v. lookup (nat_eq 2) v.items ≡ Some 1) }
@@ -83,7 +83,7 @@ pub fn iter(alloc: Global) -> Result<Vec<(u32, u32)>, AllocError>
     pairs.map(|(k, v)| (*k, *v)).collect(alloc)
 }
 
-/// The values that the loop writes are only run.
+/// By hand. The values that the loop writes are only run.
 pub fn iter_mut(alloc: Global) -> Result<NEMap<u32, u32>, AllocError>
     ensures { IfOk result (λ m. hash_map_len m ≡ 2) }
 {
@@ -94,7 +94,7 @@ pub fn iter_mut(alloc: Global) -> Result<NEMap<u32, u32>, AllocError>
     Ok(map)
 }
 
-/// Iterates over the pairs.
+/// The example of `nonempty_iter`.
 pub fn nonempty_iter(alloc: Global) -> Result<NEVec<(u32, u32)>, AllocError>
     ensures zero { IfOk result (λ v. lookup (nat_eq 0) v ≡ Some 3) }
     ensures two { IfOk result (λ v. lookup (nat_eq 2) v ≡ Some 1) }
@@ -105,7 +105,7 @@ pub fn nonempty_iter(alloc: Global) -> Result<NEVec<(u32, u32)>, AllocError>
     pairs.map(|(k, v)| (*k, *v)).collect(alloc)
 }
 
-/// The values that the loop writes are only run.
+/// By hand. The values that the loop writes are only run.
 pub fn nonempty_iter_mut(alloc: Global) -> Result<NEMap<u32, u32>, AllocError>
     ensures { IfOk result (λ m. hash_map_len m ≡ 2) }
 {
@@ -116,7 +116,7 @@ pub fn nonempty_iter_mut(alloc: Global) -> Result<NEMap<u32, u32>, AllocError>
     Ok(map)
 }
 
-/// Iterates over the keys.
+/// By hand. Iterates over the keys.
 pub fn keys(alloc: Global) -> Result<NEVec<u32>, AllocError>
     ensures zero { IfOk result (λ v. is_member nat_eq v 0 ≡ true) }
     ensures two { IfOk result (λ v. is_member nat_eq v 2 ≡ true) }
@@ -127,7 +127,7 @@ pub fn keys(alloc: Global) -> Result<NEVec<u32>, AllocError>
     Ok(keys.copied().collect(alloc)?)
 }
 
-/// Counts the keys of a map that is written out with one of them twice.
+/// The example of `len`.
 pub fn len(alloc: Global) -> Result<usize, AllocError>
     ensures { IfOk result (λ len. len ≡ 2) }
 {
@@ -135,7 +135,7 @@ pub fn len(alloc: Global) -> Result<usize, AllocError>
     Ok(len)
 }
 
-/// Iterates over the values.
+/// By hand. Iterates over the values.
 pub fn values(alloc: Global) -> Result<NEVec<u32>, AllocError>
     ensures three { IfOk result (λ v. Contains v 3) }
     ensures one { IfOk result (λ v. Contains v 1) }
@@ -152,17 +152,16 @@ pub fn values(alloc: Global) -> Result<NEVec<u32>, AllocError>
     })
 }
 
-/// Asks for a key that is there and for one that isn't.
+/// The example of `contains_key`.
 pub fn contains_key(alloc: Global) -> Result<(bool, bool), AllocError>
-    ensures there { IfOk result (λ r. r.0 ≡ true) }
-    ensures absent { IfOk result (λ r. r.1 ≡ false) }
+    ensures { IfOk result (λ r. (r.0 ≡ true) × (r.1 ≡ false)) }
 {
     let map = nem![alloc; 2 => 24, 4 => 26, 6 => 23, 8 => 25]?;
     let (there, absent) = (map.contains_key(&2), map.contains_key(&10));
     Ok((there, absent))
 }
 
-/// Writes the value of a key.
+/// The example of `get_mut`.
 pub fn get_mut(alloc: Global) -> Result<NEMap<u32, u32>, AllocError>
     ensures two { IfOk result (λ m. get nat_eq m 2 ≡ Some 24) }
     ensures four { IfOk result (λ m. get nat_eq m 4 ≡ Some 27) }
@@ -177,7 +176,7 @@ pub fn get_mut(alloc: Global) -> Result<NEMap<u32, u32>, AllocError>
     Ok(map)
 }
 
-/// Inserts a new key, and a key that is there.
+/// The example of `insert`.
 pub fn insert(alloc: Global) -> Result<(Option<u32>, Option<u32>, NEMap<u32, u32>), AllocError>
     ensures none { IfOk result (λ r. r.0 ≡ None) }
     ensures old { IfOk result (λ r. r.1 ≡ Some 20) }
@@ -191,7 +190,7 @@ pub fn insert(alloc: Global) -> Result<(Option<u32>, Option<u32>, NEMap<u32, u32
     Ok((none, old, map))
 }
 
-/// Creates a map of one key with a hasher.
+/// The example of `with_hasher`.
 pub fn with_hasher(alloc: Global) -> Result<NEMap<u32, u32>, AllocError>
     ensures { IfOk result (λ m. m.entries ≡ (5, 60) ∷ []) }
 {
@@ -200,7 +199,7 @@ pub fn with_hasher(alloc: Global) -> Result<NEMap<u32, u32>, AllocError>
     Ok(map)
 }
 
-/// Compares a map with its clone.
+/// The example of `clone`.
 pub fn clone(alloc: Global) -> Result<bool, AllocError>
     ensures { IfOk result (λ same. same ≡ true) }
 {

@@ -1,4 +1,4 @@
-//! The examples of hashed sets.
+//! The examples of hashed sets, written by `.ci/examples --write`.
 ghost use Rattle.std.specs.Prelude.{◌≡◌, ◌+◌, ◌≤◌, [], ◌∷◌, true, false, length, nat_eq};
 ghost use Rattle.std.specs.Prelude.{IfOk, None, Some};
 ghost use Rattle.std.specs.HashSet.{contains, hash_set_len, spare};
@@ -13,7 +13,7 @@ use std::hash::{BuildHasherDefault, RandomState};
 use std::io;
 use std::num::NonZeroUsize;
 
-/// Creates a set whose hasher has a random seed.
+/// By hand. Creates a set whose hasher has a random seed.
 pub fn random_state(alloc: Global, rt: &HostRuntime) -> Result<NESet<u32, RandomState>, io::Error>
     ensures { IfOk result (λ s. s.keys ≡ 1 ∷ []) }
 {
@@ -21,8 +21,8 @@ pub fn random_state(alloc: Global, rt: &HostRuntime) -> Result<NESet<u32, Random
     Ok(set)
 }
 
-/// Asks for items of a set that is written out, and counts them.
-pub fn contains_and_len(alloc: Global) -> Result<(bool, bool, usize), AllocError>
+/// The example of `NESet`.
+pub fn neset(alloc: Global) -> Result<(bool, bool, usize), AllocError>
     ensures two { IfOk result (λ r. r.0 ≡ true) }
     ensures three { IfOk result (λ r. r.1 ≡ false) }
     ensures len { IfOk result (λ r. r.2 ≡ 2) }
@@ -33,7 +33,7 @@ pub fn contains_and_len(alloc: Global) -> Result<(bool, bool, usize), AllocError
     Ok((two, three, len))
 }
 
-/// Iterates over the items by std's iterator.
+/// The example of `iter`.
 pub fn iter(alloc: Global) -> Result<Vec<u32>, AllocError>
     ensures two { IfOk result (λ v. is_member nat_eq v.items 2 ≡ true) }
     ensures four { IfOk result (λ v. is_member nat_eq v.items 4 ≡ true) }
@@ -46,7 +46,7 @@ pub fn iter(alloc: Global) -> Result<Vec<u32>, AllocError>
     items.copied().collect(alloc)
 }
 
-/// Iterates over the items.
+/// The example of `nonempty_iter`.
 pub fn nonempty_iter(alloc: Global) -> Result<NEVec<u32>, AllocError>
     ensures two { IfOk result (λ v. is_member nat_eq v 2 ≡ true) }
     ensures four { IfOk result (λ v. is_member nat_eq v 4 ≡ true) }
@@ -59,7 +59,7 @@ pub fn nonempty_iter(alloc: Global) -> Result<NEVec<u32>, AllocError>
     items.copied().collect(alloc)
 }
 
-/// Counts the items of a set that is written out with one of them twice.
+/// The example of `len`.
 pub fn len(alloc: Global) -> Result<usize, AllocError>
     ensures { IfOk result (λ len. len ≡ 2) }
 {
@@ -67,7 +67,7 @@ pub fn len(alloc: Global) -> Result<usize, AllocError>
     Ok(len)
 }
 
-/// Creates a set of one item.
+/// The example of `new`.
 pub fn new(alloc: Global) -> Result<NESet<u32>, AllocError>
     ensures { IfOk result (λ s. s.keys ≡ 2 ∷ []) }
 {
@@ -75,7 +75,7 @@ pub fn new(alloc: Global) -> Result<NESet<u32>, AllocError>
     Ok(set)
 }
 
-/// Creates a set of one item that has room for more.
+/// By hand. Creates a set of one item that has room for more.
 pub fn with_capacity(alloc: Global) -> Result<NESet<u32>, AllocError>
     ensures items { IfOk result (λ s. s.keys ≡ 2 ∷ []) }
     ensures room { IfOk result (λ s. 9 ≤ hash_set_len s + spare s) }
@@ -85,7 +85,7 @@ pub fn with_capacity(alloc: Global) -> Result<NESet<u32>, AllocError>
     Ok(set)
 }
 
-/// Converts std's sets, one that has items and one that is empty.
+/// The example of `try_from_set`.
 pub fn try_from_set(alloc: Global) -> Result<(Option<NESet<u32>>, Option<NESet<u32>>), AllocError>
     ensures two { IfOk result (λ r. IsSomeAnd r.0 (λ s. contains nat_eq s 2 ≡ true)) }
     ensures four { IfOk result (λ r. IsSomeAnd r.0 (λ s. contains nat_eq s 4 ≡ true)) }
@@ -101,36 +101,34 @@ pub fn try_from_set(alloc: Global) -> Result<(Option<NESet<u32>>, Option<NESet<u
     Ok((some, none))
 }
 
-/// Asks for an item that is there and for one that isn't.
+/// The example of `contains`.
 pub fn contains(alloc: Global) -> Result<(bool, bool), AllocError>
-    ensures there { IfOk result (λ r. r.0 ≡ true) }
-    ensures absent { IfOk result (λ r. r.1 ≡ false) }
+    ensures { IfOk result (λ r. (r.0 ≡ true) × (r.1 ≡ false)) }
 {
     let set = nes![alloc; 2, 4, 6]?;
     let (there, absent) = (set.contains(&6), set.contains(&8));
     Ok((there, absent))
 }
 
-/// Iterates over the items that are only in the first set.
+/// The example of `difference`.
 pub fn difference(alloc: Global) -> Result<Vec<u32>, AllocError>
-    ensures { IfOk result (λ v. IsSetOf nat_eq (2 ∷ []) v.items) }
+    ensures { IfOk result (λ left. IsSetOf nat_eq (2 ∷ []) left.items) }
 {
     let (a, b) = (nes![alloc; 2, 4]?, nes![alloc; 4, 6]?);
     let left: Vec<u32> = a.difference(&b).copied().collect(alloc)?;
     Ok(left)
 }
 
-/// Looks up an item that is there and one that isn't.
+/// The example of `get`.
 pub fn get(alloc: Global) -> Result<(Option<u32>, Option<u32>), AllocError>
-    ensures eight { IfOk result (λ r. r.0 ≡ Some 8) }
-    ensures none { IfOk result (λ r. r.1 ≡ None) }
+    ensures { IfOk result (λ r. (r.0 ≡ Some 8) × (r.1 ≡ None)) }
 {
     let set = NESet::new(alloc, 8)?;
     let (eight, none) = (set.get(&8), set.get(&6));
     Ok((eight.copied(), none.copied()))
 }
 
-/// Inserts an item twice.
+/// The example of `insert`.
 pub fn insert(alloc: Global) -> Result<(bool, bool, NESet<u32>), AllocError>
     ensures added { IfOk result (λ r. r.0 ≡ true) }
     ensures again { IfOk result (λ r. r.1 ≡ false) }
@@ -145,7 +143,7 @@ pub fn insert(alloc: Global) -> Result<(bool, bool, NESet<u32>), AllocError>
     Ok((added, again, set))
 }
 
-/// Iterates over the items that are in both sets.
+/// The example of `intersection`.
 pub fn intersection(alloc: Global) -> Result<Vec<u32>, AllocError>
     ensures { IfOk result (λ v. IsSetOf nat_eq (3 ∷ []) v.items) }
 {
@@ -154,7 +152,7 @@ pub fn intersection(alloc: Global) -> Result<Vec<u32>, AllocError>
     shared.copied().collect(alloc)
 }
 
-/// Asks whether two sets that have an item in common have none.
+/// The example of `is_disjoint`.
 pub fn is_disjoint(alloc: Global) -> Result<bool, AllocError>
     ensures { IfOk result (λ disjoint. disjoint ≡ false) }
 {
@@ -163,7 +161,7 @@ pub fn is_disjoint(alloc: Global) -> Result<bool, AllocError>
     Ok(disjoint)
 }
 
-/// Asks whether the second set has each item of the first.
+/// The example of `is_subset`.
 pub fn is_subset(alloc: Global) -> Result<bool, AllocError>
     ensures { IfOk result (λ subset. subset ≡ true) }
 {
@@ -172,7 +170,7 @@ pub fn is_subset(alloc: Global) -> Result<bool, AllocError>
     Ok(subset)
 }
 
-/// Asks whether the first set has each item of the second.
+/// The example of `is_superset`.
 pub fn is_superset(alloc: Global) -> Result<bool, AllocError>
     ensures { IfOk result (λ superset. superset ≡ true) }
 {
@@ -181,10 +179,9 @@ pub fn is_superset(alloc: Global) -> Result<bool, AllocError>
     Ok(superset)
 }
 
-/// Replaces an item by an equal one, and adds one that equals none.
+/// The example of `replace`.
 pub fn replace(alloc: Global) -> Result<(Option<u32>, Option<u32>), AllocError>
-    ensures old { IfOk result (λ r. r.0 ≡ Some 8) }
-    ensures none { IfOk result (λ r. r.1 ≡ None) }
+    ensures { IfOk result (λ r. (r.0 ≡ Some 8) × (r.1 ≡ None)) }
 {
     let mut set = NESet::new(alloc, 8)?;
     let old = set.replace(8)?;
@@ -192,7 +189,7 @@ pub fn replace(alloc: Global) -> Result<(Option<u32>, Option<u32>), AllocError>
     Ok((old, none))
 }
 
-/// Makes room for 20 more items, and returns the capacity.
+/// By hand. Makes room for 20 more items, and returns the capacity.
 pub fn reserve(alloc: Global) -> Result<usize, AllocError>
     ensures { IfOk result (λ capacity. 21 ≤ capacity) }
 {
@@ -201,7 +198,7 @@ pub fn reserve(alloc: Global) -> Result<usize, AllocError>
     Ok(set.capacity().get())
 }
 
-/// Creates a set of one item with a hasher.
+/// The example of `with_hasher`.
 pub fn with_hasher(alloc: Global) -> Result<NESet<u32>, AllocError>
     ensures { IfOk result (λ s. s.keys ≡ 8 ∷ []) }
 {
@@ -210,7 +207,7 @@ pub fn with_hasher(alloc: Global) -> Result<NESet<u32>, AllocError>
     Ok(set)
 }
 
-/// Compares a set with its clone.
+/// The example of `clone`.
 pub fn clone(alloc: Global) -> Result<bool, AllocError>
     ensures { IfOk result (λ same. same ≡ true) }
 {

@@ -1,4 +1,4 @@
-//! The examples of index maps.
+//! The examples of index maps, written by `.ci/examples --write`.
 ghost use Rattle.std.specs.Prelude.{◌≡◌, ◌+◌, ◌≤◌, [], ◌∷◌, true, false, IfOk};
 ghost use Rattle.std.specs.Prelude.{None, Some};
 ghost use Rattle.std.specs.Option.{IsSomeAnd};
@@ -10,8 +10,8 @@ use std::alloc::{AllocError, Global};
 use std::hash::BuildHasherDefault;
 use std::num::NonZeroUsize;
 
-/// Looks up keys of a map that is written out, and counts them.
-pub fn get_and_len(alloc: Global) -> Result<(Option<u32>, Option<u32>, usize), AllocError>
+/// The example of `NEIndexMap`.
+pub fn neindexmap(alloc: Global) -> Result<(Option<u32>, Option<u32>, usize), AllocError>
     ensures one { IfOk result (λ r. r.0 ≡ Some 30) }
     ensures three { IfOk result (λ r. r.1 ≡ None) }
     ensures len { IfOk result (λ r. r.2 ≡ 2) }
@@ -22,7 +22,7 @@ pub fn get_and_len(alloc: Global) -> Result<(Option<u32>, Option<u32>, usize), A
     Ok((one.copied(), three.copied(), len))
 }
 
-/// Iterates over the pairs by the iterator of `indexmap`.
+/// The example of `iter`.
 pub fn iter(alloc: Global) -> Result<Vec<(u32, u32)>, AllocError>
     ensures { IfOk result (λ v. v.items ≡ (0, 3) ∷ (2, 1) ∷ []) }
 {
@@ -31,7 +31,7 @@ pub fn iter(alloc: Global) -> Result<Vec<(u32, u32)>, AllocError>
     pairs.map(|(k, v)| (*k, *v)).collect(alloc)
 }
 
-/// Iterates over the pairs.
+/// The example of `nonempty_iter`.
 pub fn nonempty_iter(alloc: Global) -> Result<NEVec<(u32, u32)>, AllocError>
     ensures { IfOk result (λ v. v ≡ (0, 3) ∷ (2, 1) ∷ []) }
 {
@@ -40,7 +40,7 @@ pub fn nonempty_iter(alloc: Global) -> Result<NEVec<(u32, u32)>, AllocError>
     pairs.map(|(k, v)| (*k, *v)).collect(alloc)
 }
 
-/// Iterates over the keys.
+/// The example of `keys`.
 pub fn keys(alloc: Global) -> Result<NEVec<u32>, AllocError>
     ensures { IfOk result (λ v. v ≡ 0 ∷ 2 ∷ []) }
 {
@@ -49,7 +49,7 @@ pub fn keys(alloc: Global) -> Result<NEVec<u32>, AllocError>
     keys.copied().collect(alloc)
 }
 
-/// Counts the keys of a map that is written out with one of them twice.
+/// The example of `len`.
 pub fn len(alloc: Global) -> Result<usize, AllocError>
     ensures { IfOk result (λ len. len ≡ 2) }
 {
@@ -57,7 +57,7 @@ pub fn len(alloc: Global) -> Result<usize, AllocError>
     Ok(len)
 }
 
-/// Iterates over the values.
+/// The example of `values`.
 pub fn values(alloc: Global) -> Result<NEVec<u32>, AllocError>
     ensures { IfOk result (λ v. v ≡ 3 ∷ 1 ∷ []) }
 {
@@ -66,7 +66,7 @@ pub fn values(alloc: Global) -> Result<NEVec<u32>, AllocError>
     values.copied().collect(alloc)
 }
 
-/// Reads the first pair.
+/// The example of `first`.
 pub fn first(alloc: Global) -> Result<(u32, u32), AllocError>
     ensures { IfOk result (λ first. first ≡ (0, 1)) }
 {
@@ -75,7 +75,7 @@ pub fn first(alloc: Global) -> Result<(u32, u32), AllocError>
     Ok((*first.0, *first.1))
 }
 
-/// Reads the last pair.
+/// The example of `last`.
 pub fn last(alloc: Global) -> Result<(u32, u32), AllocError>
     ensures { IfOk result (λ last. last ≡ (10, 6)) }
 {
@@ -84,7 +84,7 @@ pub fn last(alloc: Global) -> Result<(u32, u32), AllocError>
     Ok((*last.0, *last.1))
 }
 
-/// Creates a map of one key.
+/// The example of `new`.
 pub fn new(alloc: Global) -> Result<NEIndexMap<u32, u32>, AllocError>
     ensures { IfOk result (λ m. m.entries ≡ (4, 20) ∷ []) }
 {
@@ -92,7 +92,7 @@ pub fn new(alloc: Global) -> Result<NEIndexMap<u32, u32>, AllocError>
     Ok(map)
 }
 
-/// Creates a map of one key that has room for more.
+/// By hand. Creates a map of one key that has room for more.
 pub fn with_capacity(alloc: Global) -> Result<NEIndexMap<u32, u32>, AllocError>
     ensures entries { IfOk result (λ m. m.entries ≡ (2, 1) ∷ []) }
     ensures room { IfOk result (λ m. 9 ≤ index_map_len m + spare m) }
@@ -102,12 +102,12 @@ pub fn with_capacity(alloc: Global) -> Result<NEIndexMap<u32, u32>, AllocError>
     Ok(map)
 }
 
-/// Converts maps of `indexmap`, one that has keys and one that is empty.
+/// The example of `try_from_map`.
 pub fn try_from_map(
     alloc: Global,
 ) -> Result<(Option<NEIndexMap<u32, u32>>, Option<NEIndexMap<u32, u32>>), AllocError>
-    ensures some { IfOk result (λ r. IsSomeAnd r.0 (λ m. m.entries ≡ (4, 1) ∷ (2, 2) ∷ [])) }
-    ensures none { IfOk result (λ r. r.1 ≡ None) }
+    ensures { IfOk result (λ r.
+        (IsSomeAnd r.0 (λ m. m.entries ≡ (4, 1) ∷ (2, 2) ∷ [])) × (r.1 ≡ None)) }
 {
     let inner: IndexMap<u32, u32> = [(4, 1), (2, 2)].into_iter().collect(alloc)?;
     let some = NEIndexMap::try_from_map(inner);
@@ -116,17 +116,16 @@ pub fn try_from_map(
     Ok((some, none))
 }
 
-/// Asks for a key that is there and for one that isn't.
+/// The example of `contains_key`.
 pub fn contains_key(alloc: Global) -> Result<(bool, bool), AllocError>
-    ensures there { IfOk result (λ r. r.0 ≡ true) }
-    ensures absent { IfOk result (λ r. r.1 ≡ false) }
+    ensures { IfOk result (λ r. (r.0 ≡ true) × (r.1 ≡ false)) }
 {
     let map = neim![alloc; 4 => 26, 2 => 24, 6 => 23, 8 => 25]?;
     let (there, absent) = (map.contains_key(&2), map.contains_key(&10));
     Ok((there, absent))
 }
 
-/// Looks up a key and its value.
+/// The example of `get_key_value`.
 pub fn get_key_value(alloc: Global) -> Result<Option<(u32, u32)>, AllocError>
     ensures { IfOk result (λ pair. pair ≡ Some (2, 1)) }
 {
@@ -135,7 +134,7 @@ pub fn get_key_value(alloc: Global) -> Result<Option<(u32, u32)>, AllocError>
     Ok(pair.map(|(k, v)| (*k, *v)))
 }
 
-/// Writes the value of a key.
+/// The example of `get_mut`.
 pub fn get_mut(alloc: Global) -> Result<NEIndexMap<u32, u32>, AllocError>
     ensures { IfOk result (λ m. m.entries ≡ (4, 27) ∷ (2, 24) ∷ (6, 23) ∷ (8, 25) ∷ []) }
 {
@@ -146,10 +145,9 @@ pub fn get_mut(alloc: Global) -> Result<NEIndexMap<u32, u32>, AllocError>
     Ok(map)
 }
 
-/// Asks for the indices of a key that is there and of one that isn't.
+/// The example of `get_index_of`.
 pub fn get_index_of(alloc: Global) -> Result<(Option<usize>, Option<usize>), AllocError>
-    ensures index { IfOk result (λ r. r.0 ≡ Some 1) }
-    ensures none { IfOk result (λ r. r.1 ≡ None) }
+    ensures { IfOk result (λ r. (r.0 ≡ Some 1) × (r.1 ≡ None)) }
 {
     let map = neim![alloc; 0 => 3, 2 => 1]?;
     let index = map.get_index_of(&2);
@@ -157,7 +155,7 @@ pub fn get_index_of(alloc: Global) -> Result<(Option<usize>, Option<usize>), All
     Ok((index, none))
 }
 
-/// Inserts a new key, and a key that is there.
+/// The example of `insert`.
 pub fn insert(alloc: Global) -> Result<(Option<u32>, Option<u32>, NEIndexMap<u32, u32>), AllocError>
     ensures none { IfOk result (λ r. r.0 ≡ None) }
     ensures old { IfOk result (λ r. r.1 ≡ Some 20) }
@@ -169,7 +167,7 @@ pub fn insert(alloc: Global) -> Result<(Option<u32>, Option<u32>, NEIndexMap<u32
     Ok((none, old, map))
 }
 
-/// Creates a map of one key with a hasher.
+/// The example of `with_hasher`.
 pub fn with_hasher(alloc: Global) -> Result<NEIndexMap<u32, u32>, AllocError>
     ensures { IfOk result (λ m. m.entries ≡ (8, 50) ∷ []) }
 {
@@ -178,7 +176,7 @@ pub fn with_hasher(alloc: Global) -> Result<NEIndexMap<u32, u32>, AllocError>
     Ok(map)
 }
 
-/// Exchanges the first two pairs.
+/// The example of `swap_indices`.
 pub fn swap_indices(alloc: Global) -> Result<NEIndexMap<u32, u32>, AllocError>
     ensures { IfOk result (λ m. m.entries ≡ (2, 7) ∷ (0, 5) ∷ (4, 3) ∷ []) }
 {
@@ -187,7 +185,7 @@ pub fn swap_indices(alloc: Global) -> Result<NEIndexMap<u32, u32>, AllocError>
     Ok(map)
 }
 
-/// Clones a map.
+/// The example of `clone`.
 pub fn clone(alloc: Global) -> Result<NEIndexMap<u32, u32>, AllocError>
     ensures { IfOk result (λ m. m.entries ≡ (4, 26) ∷ (2, 24) ∷ (6, 23) ∷ (8, 25) ∷ []) }
 {
@@ -196,7 +194,7 @@ pub fn clone(alloc: Global) -> Result<NEIndexMap<u32, u32>, AllocError>
     Ok(copy)
 }
 
-/// Reads a value by its index.
+/// The example of `index`.
 pub fn index(alloc: Global) -> Result<u32, AllocError>
     ensures { IfOk result (λ value. value ≡ 2) }
 {

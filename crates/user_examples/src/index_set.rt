@@ -1,4 +1,4 @@
-//! The examples of index sets.
+//! The examples of index sets, written by `.ci/examples --write`.
 ghost use Rattle.std.specs.Prelude.{◌≡◌, ◌+◌, ◌≤◌, [], ◌∷◌, true, false, IfOk, None, Some};
 ghost use Rattle.std.specs.Option.{IsSomeAnd};
 ghost use Rattle.indexmap.specs.IndexSet.{index_set_len, spare};
@@ -9,8 +9,8 @@ use std::alloc::{AllocError, Global};
 use std::hash::BuildHasherDefault;
 use std::num::NonZeroUsize;
 
-/// Asks for items of a set that is written out, and counts them.
-pub fn contains_and_len(alloc: Global) -> Result<(bool, bool, usize), AllocError>
+/// The example of `NEIndexSet`.
+pub fn neindexset(alloc: Global) -> Result<(bool, bool, usize), AllocError>
     ensures two { IfOk result (λ r. r.0 ≡ true) }
     ensures three { IfOk result (λ r. r.1 ≡ false) }
     ensures len { IfOk result (λ r. r.2 ≡ 2) }
@@ -21,7 +21,7 @@ pub fn contains_and_len(alloc: Global) -> Result<(bool, bool, usize), AllocError
     Ok((two, three, len))
 }
 
-/// Iterates over the items by the iterator of `indexmap`.
+/// The example of `iter`.
 pub fn iter(alloc: Global) -> Result<Vec<u32>, AllocError>
     ensures { IfOk result (λ v. v.items ≡ 10 ∷ 2 ∷ 8 ∷ 4 ∷ []) }
 {
@@ -30,7 +30,7 @@ pub fn iter(alloc: Global) -> Result<Vec<u32>, AllocError>
     items.copied().collect(alloc)
 }
 
-/// Iterates over the items.
+/// The example of `nonempty_iter`.
 pub fn nonempty_iter(alloc: Global) -> Result<NEVec<u32>, AllocError>
     ensures { IfOk result (λ v. v ≡ 10 ∷ 2 ∷ 8 ∷ 4 ∷ []) }
 {
@@ -39,7 +39,7 @@ pub fn nonempty_iter(alloc: Global) -> Result<NEVec<u32>, AllocError>
     items.copied().collect(alloc)
 }
 
-/// Counts the items of a set that is written out with one of them twice.
+/// The example of `len`.
 pub fn len(alloc: Global) -> Result<usize, AllocError>
     ensures { IfOk result (λ len. len ≡ 2) }
 {
@@ -47,7 +47,7 @@ pub fn len(alloc: Global) -> Result<usize, AllocError>
     Ok(len)
 }
 
-/// Creates a set of one item.
+/// The example of `new`.
 pub fn new(alloc: Global) -> Result<NEIndexSet<u32>, AllocError>
     ensures { IfOk result (λ s. s.keys ≡ 2 ∷ []) }
 {
@@ -55,7 +55,7 @@ pub fn new(alloc: Global) -> Result<NEIndexSet<u32>, AllocError>
     Ok(set)
 }
 
-/// Creates a set of one item that has room for more.
+/// By hand. Creates a set of one item that has room for more.
 pub fn with_capacity(alloc: Global) -> Result<NEIndexSet<u32>, AllocError>
     ensures items { IfOk result (λ s. s.keys ≡ 2 ∷ []) }
     ensures room { IfOk result (λ s. 9 ≤ index_set_len s + spare s) }
@@ -65,12 +65,11 @@ pub fn with_capacity(alloc: Global) -> Result<NEIndexSet<u32>, AllocError>
     Ok(set)
 }
 
-/// Converts sets of `indexmap`, one that has items and one that is empty.
+/// The example of `try_from_set`.
 pub fn try_from_set(
     alloc: Global,
 ) -> Result<(Option<NEIndexSet<u32>>, Option<NEIndexSet<u32>>), AllocError>
-    ensures some { IfOk result (λ r. IsSomeAnd r.0 (λ s. s.keys ≡ 2 ∷ 4 ∷ [])) }
-    ensures none { IfOk result (λ r. r.1 ≡ None) }
+    ensures { IfOk result (λ r. (IsSomeAnd r.0 (λ s. s.keys ≡ 2 ∷ 4 ∷ [])) × (r.1 ≡ None)) }
 {
     let inner: IndexSet<u32> = [2, 4].into_iter().collect(alloc)?;
     let some = NEIndexSet::try_from_set(inner);
@@ -79,26 +78,25 @@ pub fn try_from_set(
     Ok((some, none))
 }
 
-/// Asks for an item that is there and for one that isn't.
+/// The example of `contains`.
 pub fn contains(alloc: Global) -> Result<(bool, bool), AllocError>
-    ensures there { IfOk result (λ r. r.0 ≡ true) }
-    ensures absent { IfOk result (λ r. r.1 ≡ false) }
+    ensures { IfOk result (λ r. (r.0 ≡ true) × (r.1 ≡ false)) }
 {
     let set = neis![alloc; 2, 4, 6]?;
     let (there, absent) = (set.contains(&6), set.contains(&8));
     Ok((there, absent))
 }
 
-/// Iterates over the items that are only in the first set.
+/// The example of `difference`.
 pub fn difference(alloc: Global) -> Result<Vec<u32>, AllocError>
     ensures { IfOk result (λ v. v.items ≡ 2 ∷ 4 ∷ []) }
 {
     let (a, b) = (neis![alloc; 2, 4, 6]?, neis![alloc; 6]?);
     let left = a.difference(&b);
-    Ok(left.copied().collect(alloc)?)
+    left.copied().collect(alloc)
 }
 
-/// Inserts an item twice.
+/// The example of `insert`.
 pub fn insert(alloc: Global) -> Result<(bool, bool, NEIndexSet<u32>), AllocError>
     ensures added { IfOk result (λ r. r.0 ≡ true) }
     ensures again { IfOk result (λ r. r.1 ≡ false) }
@@ -110,16 +108,16 @@ pub fn insert(alloc: Global) -> Result<(bool, bool, NEIndexSet<u32>), AllocError
     Ok((added, again, set))
 }
 
-/// Iterates over the items that are in both sets.
+/// The example of `intersection`.
 pub fn intersection(alloc: Global) -> Result<Vec<u32>, AllocError>
     ensures { IfOk result (λ v. v.items ≡ 3 ∷ []) }
 {
     let (a, b) = (neis![alloc; 0, 3]?, neis![alloc; 3, 1]?);
     let shared = a.intersection(&b);
-    Ok(shared.copied().collect(alloc)?)
+    shared.copied().collect(alloc)
 }
 
-/// Asks whether two sets that have an item in common have none.
+/// The example of `is_disjoint`.
 pub fn is_disjoint(alloc: Global) -> Result<bool, AllocError>
     ensures { IfOk result (λ disjoint. disjoint ≡ false) }
 {
@@ -128,7 +126,7 @@ pub fn is_disjoint(alloc: Global) -> Result<bool, AllocError>
     Ok(disjoint)
 }
 
-/// Asks whether the second set has each item of the first.
+/// The example of `is_subset`.
 pub fn is_subset(alloc: Global) -> Result<bool, AllocError>
     ensures { IfOk result (λ subset. subset ≡ true) }
 {
@@ -139,7 +137,7 @@ pub fn is_subset(alloc: Global) -> Result<bool, AllocError>
     Ok(subset)
 }
 
-/// Asks whether the first set has each item of the second.
+/// The example of `is_superset`.
 pub fn is_superset(alloc: Global) -> Result<bool, AllocError>
     ensures { IfOk result (λ superset. superset ≡ true) }
 {
@@ -150,7 +148,7 @@ pub fn is_superset(alloc: Global) -> Result<bool, AllocError>
     Ok(superset)
 }
 
-/// Replaces an item by an equal one.
+/// The example of `replace`.
 pub fn replace(alloc: Global) -> Result<Option<u32>, AllocError>
     ensures { IfOk result (λ old. old ≡ Some 4) }
 {
@@ -159,7 +157,7 @@ pub fn replace(alloc: Global) -> Result<Option<u32>, AllocError>
     Ok(old)
 }
 
-/// Makes room for 20 more items, and returns the capacity.
+/// By hand. Makes room for 20 more items, and returns the capacity.
 pub fn reserve(alloc: Global) -> Result<usize, AllocError>
     ensures { IfOk result (λ capacity. 21 ≤ capacity) }
 {
@@ -168,7 +166,7 @@ pub fn reserve(alloc: Global) -> Result<usize, AllocError>
     Ok(set.capacity().get())
 }
 
-/// Counts the items of both sets.
+/// The example of `union`.
 pub fn union(alloc: Global) -> Result<usize, AllocError>
     ensures { IfOk result (λ count. count ≡ 2) }
 {
@@ -177,7 +175,7 @@ pub fn union(alloc: Global) -> Result<usize, AllocError>
     Ok(count)
 }
 
-/// Creates a set of one item with a hasher.
+/// The example of `with_hasher`.
 pub fn with_hasher(alloc: Global) -> Result<NEIndexSet<u32>, AllocError>
     ensures { IfOk result (λ s. s.keys ≡ 5 ∷ []) }
 {
@@ -186,7 +184,7 @@ pub fn with_hasher(alloc: Global) -> Result<NEIndexSet<u32>, AllocError>
     Ok(set)
 }
 
-/// Compares a set with its clone.
+/// The example of `clone`.
 pub fn clone(alloc: Global) -> Result<bool, AllocError>
     ensures { IfOk result (λ same. same ≡ true) }
 {

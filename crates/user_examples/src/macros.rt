@@ -1,14 +1,14 @@
-//! The examples of the macros.
+//! The examples of the macros, written by `.ci/examples --write`.
 ghost use Rattle.std.specs.Prelude.{◌≡◌, ◌∷◌, [], IfOk, Some};
 
 use nonempty_collections::{NEIndexMap, NEVec, ne_indexmap, nebtm, nebts, nem, nes, nev};
 use std::alloc::{AllocError, Global};
 
-/// Vectors of several items, of one, and of one repeated.
+/// The example of `nev`.
 pub fn nev(alloc: Global) -> Result<(NEVec<u32>, NEVec<u32>, NEVec<u32>), AllocError>
-    ensures several { IfOk result (λ r. r.0 ≡ 7 ∷ 5 ∷ 9 ∷ []) }
+    ensures three { IfOk result (λ r. r.0 ≡ 7 ∷ 5 ∷ 9 ∷ []) }
     ensures one { IfOk result (λ r. r.1 ≡ 7 ∷ []) }
-    ensures repeated { IfOk result (λ r. r.2 ≡ 7 ∷ 7 ∷ 7 ∷ 7 ∷ []) }
+    ensures same { IfOk result (λ r. r.2 ≡ 7 ∷ 7 ∷ 7 ∷ 7 ∷ []) }
 {
     let three = nev![alloc; 7, 5, 9]?;
     let one = nev![alloc; 7]?;
@@ -16,17 +16,16 @@ pub fn nev(alloc: Global) -> Result<(NEVec<u32>, NEVec<u32>, NEVec<u32>), AllocE
     Ok((three, one, same))
 }
 
-/// Writes out a tree map with a key twice.
+/// The example of `nebtm`.
 pub fn nebtm(alloc: Global) -> Result<(Option<u32>, Option<u32>), AllocError>
-    ensures one { IfOk result (λ r. r.0 ≡ Some 30) }
-    ensures two { IfOk result (λ r. r.1 ≡ Some 20) }
+    ensures { IfOk result (λ r. (r.0 ≡ Some 30) × (r.1 ≡ Some 20)) }
 {
     let map = nebtm![alloc; 1 => 10, 2 => 20, 1 => 30]?;
     let (one, two) = (map.get(&1), map.get(&2));
     Ok((one.copied(), two.copied()))
 }
 
-/// Writes out a tree set with an item twice.
+/// The example of `nebts`.
 pub fn nebts(alloc: Global) -> Result<usize, AllocError>
     ensures { IfOk result (λ len. len ≡ 2) }
 {
@@ -35,17 +34,16 @@ pub fn nebts(alloc: Global) -> Result<usize, AllocError>
     Ok(len)
 }
 
-/// Writes out a hashed map with a key twice.
+/// The example of `nem`.
 pub fn nem(alloc: Global) -> Result<(Option<u32>, Option<u32>), AllocError>
-    ensures one { IfOk result (λ r. r.0 ≡ Some 30) }
-    ensures two { IfOk result (λ r. r.1 ≡ Some 20) }
+    ensures { IfOk result (λ r. (r.0 ≡ Some 30) × (r.1 ≡ Some 20)) }
 {
     let map = nem![alloc; 1 => 10, 2 => 20, 1 => 30]?;
     let (one, two) = (map.get(&1), map.get(&2));
     Ok((one.copied(), two.copied()))
 }
 
-/// Writes out a hashed set with an item twice.
+/// The example of `nes`.
 pub fn nes(alloc: Global) -> Result<usize, AllocError>
     ensures { IfOk result (λ len. len ≡ 2) }
 {
@@ -54,7 +52,7 @@ pub fn nes(alloc: Global) -> Result<usize, AllocError>
     Ok(len)
 }
 
-/// Writes out an index map by the other macro.
+/// The example of `ne_indexmap`.
 pub fn ne_indexmap(alloc: Global) -> Result<NEIndexMap<u32, u32>, AllocError>
     ensures { IfOk result (λ m. m.entries ≡ (2, 10) ∷ (1, 11) ∷ []) }
 {

@@ -1,4 +1,4 @@
-//! The examples of non-empty iterators.
+//! The examples of non-empty iterators, written by `.ci/examples --write`.
 //!
 //! If the check does not find a value by itself, one clause says it by a function of the list `xs`,
 //! and another one what that is.
@@ -15,7 +15,7 @@ use nonempty_collections::{IntoNonEmptyIterator, NEVec, NonEmptyIterator, nev};
 use std::alloc::{AllocError, Global};
 use std::num::{NonZeroUsize, Wrapping};
 
-/// The halves of an array's items.
+/// By hand. The halves of an array's items.
 pub fn halves(alloc: Global) -> Result<NEVec<u32>, AllocError>
     ensures items { IfOk result (λ halves. (xs : List ℕ) → xs ≡ 3 ∷ 1 ∷ 2 ∷ []
         → halves ≡ map (λ x. x / 2) xs) }
@@ -26,9 +26,11 @@ pub fn halves(alloc: Global) -> Result<NEVec<u32>, AllocError>
     Ok(halves)
 }
 
-/// The first item, and then std's iterator over the others.
+/// The example of `next`.
 pub fn next(alloc: Global) -> Result<(u32, Option<u32>, Option<u32>), AllocError>
-    ensures { IfOk result (λ r. (r.0 ≡ 4) × (r.1 ≡ Some 6) × (r.2 ≡ None)) }
+    ensures first { IfOk result (λ r. r.0 ≡ 4) }
+    ensures second { IfOk result (λ r. r.1 ≡ Some 6) }
+    ensures end { IfOk result (λ r. r.2 ≡ None) }
 {
     let items = nev![alloc; 4, 6]?;
     let (first, mut rest) = items.nonempty_iter().next();
@@ -36,7 +38,7 @@ pub fn next(alloc: Global) -> Result<(u32, Option<u32>, Option<u32>), AllocError
     Ok((*first, second.copied(), end.copied()))
 }
 
-/// The first item, which stays in the source.
+/// The example of `peekable`.
 pub fn peekable(alloc: Global) -> Result<u32, AllocError>
     ensures { IfOk result (λ first. first ≡ 4) }
 {
@@ -45,7 +47,7 @@ pub fn peekable(alloc: Global) -> Result<u32, AllocError>
     Ok(first)
 }
 
-/// All items meet the test.
+/// The example of `all`.
 pub fn all(alloc: Global) -> Result<bool, AllocError>
     ensures { IfOk result (λ even. even ≡ true) }
 {
@@ -53,7 +55,7 @@ pub fn all(alloc: Global) -> Result<bool, AllocError>
     Ok(even)
 }
 
-/// No item meets the test.
+/// The example of `any`.
 pub fn any(alloc: Global) -> Result<bool, AllocError>
     ensures { IfOk result (λ found. found ≡ false) }
 {
@@ -61,7 +63,7 @@ pub fn any(alloc: Global) -> Result<bool, AllocError>
     Ok(found)
 }
 
-/// The items of one vector, and those of another.
+/// The example of `chain`.
 pub fn chain(alloc: Global) -> Result<NEVec<u32>, AllocError>
     ensures { IfOk result (λ all. all ≡ 4 ∷ 6 ∷ 8 ∷ 9 ∷ []) }
 {
@@ -70,7 +72,7 @@ pub fn chain(alloc: Global) -> Result<NEVec<u32>, AllocError>
     Ok(all)
 }
 
-/// A clone of each item.
+/// By hand. A clone of each item.
 pub fn cloned(alloc: Global) -> Result<Result<NEVec<u32>, AllocError>, AllocError>
     ensures { IfOk result (λ clones. clones ≡ Ok (1 ∷ 2 ∷ [])) }
 {
@@ -79,7 +81,7 @@ pub fn cloned(alloc: Global) -> Result<Result<NEVec<u32>, AllocError>, AllocErro
     clones.collect(alloc)
 }
 
-/// The items in a vector.
+/// The example of `collect`.
 pub fn collect(alloc: Global) -> Result<NEVec<u32>, AllocError>
     ensures { IfOk result (λ same. same ≡ 4 ∷ 6 ∷ 8 ∷ []) }
 {
@@ -88,7 +90,7 @@ pub fn collect(alloc: Global) -> Result<NEVec<u32>, AllocError>
     Ok(same)
 }
 
-/// A copy of each item.
+/// The example of `copied`.
 pub fn copied(alloc: Global) -> Result<NEVec<u32>, AllocError>
     ensures { IfOk result (λ copies. copies ≡ 4 ∷ 6 ∷ 8 ∷ []) }
 {
@@ -97,7 +99,7 @@ pub fn copied(alloc: Global) -> Result<NEVec<u32>, AllocError>
     Ok(copies)
 }
 
-/// The number of items.
+/// The example of `count`.
 pub fn count(alloc: Global) -> Result<usize, AllocError>
     ensures { IfOk result (λ count. count ≡ 3) }
 {
@@ -105,7 +107,7 @@ pub fn count(alloc: Global) -> Result<usize, AllocError>
     Ok(count)
 }
 
-/// The items with their indices.
+/// By hand. The items with their indices.
 pub fn enumerate(alloc: Global) -> Result<NEVec<(usize, char)>, AllocError>
     ensures { IfOk result (λ pairs. pairs ≡ (0, 97) ∷ (1, 98) ∷ []) }
 {
@@ -113,7 +115,7 @@ pub fn enumerate(alloc: Global) -> Result<NEVec<(usize, char)>, AllocError>
     pairs.collect(alloc)
 }
 
-/// The items that meet a test.
+/// By hand. The items that meet a test.
 pub fn filter(alloc: Global) -> Result<Vec<u32>, AllocError>
     ensures items { IfOk result (λ fours. (xs : List ℕ) → xs ≡ 4 ∷ 6 ∷ 8 ∷ []
         → fours.items ≡ filter (λ x. x % 4 == 0) xs) }
@@ -124,7 +126,7 @@ pub fn filter(alloc: Global) -> Result<Vec<u32>, AllocError>
     Ok(fours)
 }
 
-/// The halves of the even items.
+/// By hand. The halves of the even items.
 pub fn filter_map(alloc: Global) -> Result<Vec<u32>, AllocError>
     ensures items { IfOk result (λ halves. (xs : List ℕ) → xs ≡ 2 ∷ 3 ∷ 4 ∷ []
         → halves.items ≡ filter_map (λ x. then_some (x % 2 == 0) (x / 2)) xs) }
@@ -136,7 +138,7 @@ pub fn filter_map(alloc: Global) -> Result<Vec<u32>, AllocError>
     halves.collect(alloc)
 }
 
-/// The first item that meets a test.
+/// The example of `find`.
 pub fn find(alloc: Global) -> Result<Option<u32>, AllocError>
     ensures { IfOk result (λ even. even ≡ Some 2) }
 {
@@ -146,7 +148,7 @@ pub fn find(alloc: Global) -> Result<Option<u32>, AllocError>
     Ok(even)
 }
 
-/// The items of two vectors.
+/// By hand. The items of two vectors.
 pub fn flatten(alloc: Global) -> Result<NEVec<u32>, AllocError>
     ensures items { IfOk result (λ items. (xs : List (List ℕ))
         → xs ≡ (1 ∷ 2 ∷ []) ∷ (3 ∷ []) ∷ [] → items ≡ flat_map (λ list. list) xs) }
@@ -159,7 +161,7 @@ pub fn flatten(alloc: Global) -> Result<NEVec<u32>, AllocError>
     items.collect(alloc)
 }
 
-/// The number that has the items as its digits.
+/// By hand. The number that has the items as its digits.
 pub fn fold(alloc: Global) -> Result<u32, AllocError>
     ensures digits { IfOk result (λ number. (xs : List ℕ) → xs ≡ 4 ∷ 6 ∷ 8 ∷ []
         → number ≡ fold (λ n x. (n * 10 % 2 ^ 32 + x) % 2 ^ 32) 0 xs) }
@@ -170,7 +172,7 @@ pub fn fold(alloc: Global) -> Result<u32, AllocError>
     Ok(number)
 }
 
-/// The runs are the one division by the halves. Their list is only run.
+/// By hand. The runs are the one division by the halves. Their list is only run.
 pub fn group_by(alloc: Global) -> Result<Result<NEVec<NEVec<u32>>, AllocError>, AllocError>
     ensures { IfOk result (λ runs. IfOk runs
         (λ rs. IsDividedBy (λ x. x / 2) nat_eq (3 ∷ 2 ∷ 1 ∷ []) rs)) }
@@ -182,7 +184,7 @@ pub fn group_by(alloc: Global) -> Result<Result<NEVec<NEVec<u32>>, AllocError>, 
     Ok(runs)
 }
 
-/// The halves with a separator between them.
+/// By hand. The halves with a separator between them.
 pub fn intersperse(alloc: Global) -> Result<Result<NEVec<u32>, AllocError>, AllocError>
     ensures items { IfOk result (λ items. IfOk items (λ v. (xs : List ℕ) → xs ≡ 4 ∷ 6 ∷ []
         → v ≡ interspersed 0 (map (λ x. x / 2) xs))) }
@@ -193,9 +195,9 @@ pub fn intersperse(alloc: Global) -> Result<Result<NEVec<u32>, AllocError>, Allo
     items.collect(alloc)
 }
 
-/// One more than each item.
+/// The example of `map`.
 pub fn map(alloc: Global) -> Result<NEVec<u32>, AllocError>
-    ensures { IfOk result (λ items. items ≡ 5 ∷ 7 ∷ 9 ∷ []) }
+    ensures { IfOk result (λ v. v ≡ 5 ∷ 7 ∷ 9 ∷ []) }
 {
     let items = nev![alloc; 4, 6, 8]?
         .into_nonempty_iter()
@@ -204,7 +206,7 @@ pub fn map(alloc: Global) -> Result<NEVec<u32>, AllocError>
     Ok(items)
 }
 
-/// The greatest item.
+/// The example of `max`.
 pub fn max(alloc: Global) -> Result<u32, AllocError>
     ensures { IfOk result (λ greatest. greatest ≡ 8) }
 {
@@ -212,7 +214,7 @@ pub fn max(alloc: Global) -> Result<u32, AllocError>
     Ok(greatest)
 }
 
-/// The item with the greatest half, by the halves as keys.
+/// The example of `max_by_key`.
 pub fn max_by_key(alloc: Global) -> Result<u32, AllocError>
     ensures { IfOk result (λ greatest. greatest ≡ 9) }
 {
@@ -221,7 +223,7 @@ pub fn max_by_key(alloc: Global) -> Result<u32, AllocError>
     Ok(greatest)
 }
 
-/// The least item.
+/// The example of `min`.
 pub fn min(alloc: Global) -> Result<u32, AllocError>
     ensures { IfOk result (λ least. least ≡ 4) }
 {
@@ -229,7 +231,7 @@ pub fn min(alloc: Global) -> Result<u32, AllocError>
     Ok(least)
 }
 
-/// The item with the least half, by the halves as keys.
+/// The example of `min_by_key`.
 pub fn min_by_key(alloc: Global) -> Result<u32, AllocError>
     ensures { IfOk result (λ least. least ≡ 2) }
 {
@@ -238,7 +240,7 @@ pub fn min_by_key(alloc: Global) -> Result<u32, AllocError>
     Ok(least)
 }
 
-/// Which list it is, is only run.
+/// By hand. Which list it is, is only run.
 pub fn sorted_by_key(alloc: Global) -> Result<NEVec<(usize, u32)>, AllocError>
     ensures { IfOk result (λ v. KeysAscend (λ x. x.1 / 2) nat_cmp v) }
 {
@@ -249,7 +251,7 @@ pub fn sorted_by_key(alloc: Global) -> Result<NEVec<(usize, u32)>, AllocError>
     sorted.collect(alloc)
 }
 
-/// The item at an index, if there is one.
+/// The example of `nth`.
 pub fn nth(alloc: Global) -> Result<(Option<u32>, Option<u32>), AllocError>
     ensures { IfOk result (λ r. (r.0 ≡ Some 8) × (r.1 ≡ None)) }
 {
@@ -259,7 +261,7 @@ pub fn nth(alloc: Global) -> Result<(Option<u32>, Option<u32>), AllocError>
     Ok((third, fourth))
 }
 
-/// The totals so far.
+/// By hand. The totals so far.
 pub fn scan(alloc: Global) -> Result<NEVec<u32>, AllocError>
     ensures totals { IfOk result (λ sums. (xs : List ℕ) → xs ≡ 1 ∷ 2 ∷ 3 ∷ []
         → sums ≡ scan (λ t x. (t + x) % 2 ^ 32) (λ t x. (t + x) % 2 ^ 32) 0 xs) }
@@ -274,7 +276,7 @@ pub fn scan(alloc: Global) -> Result<NEVec<u32>, AllocError>
     sums.collect(alloc)
 }
 
-/// All items but the first two.
+/// The example of `skip`.
 pub fn skip(alloc: Global) -> Result<Vec<u32>, AllocError>
     ensures { IfOk result (λ rest. rest.items ≡ 4 ∷ 1 ∷ 5 ∷ 9 ∷ 2 ∷ 6 ∷ []) }
 {
@@ -283,7 +285,7 @@ pub fn skip(alloc: Global) -> Result<Vec<u32>, AllocError>
     Ok(rest)
 }
 
-/// The items from the first one that does not meet a test.
+/// By hand. The items from the first one that does not meet a test.
 pub fn skip_while(alloc: Global) -> Result<Vec<u32>, AllocError>
     ensures items { IfOk result (λ rest. (xs : List ℕ) → xs ≡ 2 ∷ 4 ∷ 7 ∷ 8 ∷ 9 ∷ []
         → rest.items ≡ drop (prefix_len (λ x. x % 2 == 0) xs) xs) }
@@ -295,7 +297,7 @@ pub fn skip_while(alloc: Global) -> Result<Vec<u32>, AllocError>
     Ok(rest)
 }
 
-/// The sum of the items.
+/// The example of `sum`.
 pub fn sum(alloc: Global) -> Result<u32, AllocError>
     ensures { IfOk result (λ sum. sum ≡ 18) }
 {
@@ -303,7 +305,7 @@ pub fn sum(alloc: Global) -> Result<u32, AllocError>
     Ok(sum)
 }
 
-/// The first two items.
+/// The example of `take`.
 pub fn take(alloc: Global) -> Result<NEVec<u32>, AllocError>
     ensures { IfOk result (λ items. items ≡ 4 ∷ 6 ∷ []) }
 {
@@ -312,7 +314,7 @@ pub fn take(alloc: Global) -> Result<NEVec<u32>, AllocError>
     items.collect(alloc)
 }
 
-/// The items before the first one that does not meet a test.
+/// By hand. The items before the first one that does not meet a test.
 pub fn take_while(alloc: Global) -> Result<Vec<u32>, AllocError>
     ensures items { IfOk result (λ front. (xs : List ℕ) → xs ≡ 2 ∷ 4 ∷ 7 ∷ 8 ∷ 9 ∷ []
         → front.items ≡ take_while (λ x. x % 2 == 0) xs) }
@@ -323,7 +325,7 @@ pub fn take_while(alloc: Global) -> Result<Vec<u32>, AllocError>
     Ok(front)
 }
 
-/// The product of the items.
+/// By hand. The product of the items.
 pub fn product(alloc: Global) -> Result<u32, AllocError>
     ensures { IfOk result (λ product. product ≡ 24) }
 {
@@ -332,7 +334,7 @@ pub fn product(alloc: Global) -> Result<u32, AllocError>
     Ok(product.0)
 }
 
-/// The pairs of the items of two vectors.
+/// By hand. The pairs of the items of two vectors.
 pub fn zip(alloc: Global) -> Result<NEVec<(u32, u32)>, AllocError>
     ensures items { IfOk result (λ pairs. (xs ys : List ℕ) → xs ≡ 7 ∷ 8 ∷ 9 ∷ [] → ys ≡ 1 ∷ 2 ∷ []
         → pairs ≡ zip xs ys) }
@@ -344,7 +346,7 @@ pub fn zip(alloc: Global) -> Result<NEVec<(u32, u32)>, AllocError>
     pairs.collect(alloc)
 }
 
-/// The number that has the items as its digits, from the first one on.
+/// By hand. The number that has the items as its digits, from the first one on.
 pub fn reduce(alloc: Global) -> Result<u32, AllocError>
     ensures digits { IfOk result (λ number. (xs : List ℕ) → xs ≡ 1 ∷ 2 ∷ 3 ∷ []
         → Some number ≡ reduce (λ n x. (n * 10 % 2 ^ 32 + x) % 2 ^ 32) xs) }

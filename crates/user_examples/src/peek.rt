@@ -1,10 +1,10 @@
-//! The examples of peeking.
+//! The examples of peeking, written by `.ci/examples --write`.
 ghost use Rattle.std.specs.Prelude.{◌≡◌, ◌∷◌, [], IfOk};
 
 use nonempty_collections::{IntoNonEmptyIterator, NEVec, NonEmptyIterator, nev};
 use std::alloc::{AllocError, Global};
 
-/// The first item is changed.
+/// The example of `peek_mut`.
 pub fn peek_mut(alloc: Global) -> Result<NEVec<u32>, AllocError>
     ensures { IfOk result (λ v. v ≡ 5 ∷ 1 ∷ 4 ∷ 1 ∷ 5 ∷ 9 ∷ 2 ∷ 6 ∷ []) }
 {

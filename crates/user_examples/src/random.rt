@@ -1,4 +1,4 @@
-//! The examples of random choices.
+//! The examples of random choices, written by `.ci/examples --write`.
 ghost use Rattle.std.specs.Prelude.{◌≡◌, IfOk, Some};
 
 use nonempty_collections::nev;
@@ -6,7 +6,7 @@ use rand::rngs::SmallRng;
 use rand_core::SeedableRng;
 use std::alloc::{AllocError, Global};
 
-/// The only item is chosen.
+/// The example of `choose`.
 pub fn choose(alloc: Global) -> Result<Option<u32>, AllocError>
     ensures { IfOk result (λ only. only ≡ Some 7) }
 {

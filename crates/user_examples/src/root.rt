@@ -5,7 +5,7 @@ use ne_vec::Error;
 use nonempty_collections::{NEVec, Singleton};
 use std::alloc::{AllocError, Global};
 
-/// A conversion of an empty vector returns the error `Empty`.
+/// By hand. A conversion of an empty vector returns the error `Empty`.
 pub fn error(alloc: Global) -> Result<Result<NEVec<u32>, Error>, AllocError>
     ensures { IfOk result (λ r. r ≡ Err Error.Empty) }
 {
@@ -13,7 +13,7 @@ pub fn error(alloc: Global) -> Result<Result<NEVec<u32>, Error>, AllocError>
     Ok(none)
 }
 
-/// Makes a vector of an item by `singleton`, and adds another one: `[1, 2]`.
+/// By hand. Makes a vector of an item by `singleton`, and adds another one: `[1, 2]`.
 pub fn singleton(alloc: Global) -> Result<NEVec<u32>, AllocError>
     ensures { IfOk result (λ v. (xs : List ℕ) → xs ≡ 1 ∷ [] → v ≡ xs ++ 2 ∷ []) }
 {

@@ -1,4 +1,4 @@
-//! The examples of the slice.
+//! The examples of the slice, written by `.ci/examples --write`.
 ghost use Rattle.std.specs.Prelude.{◌≡◌, ◌∷◌, [], List, ℕ, IfOk, true, length, ltb, map};
 ghost use Rattle.std.specs.Int.{abs_diff};
 ghost use Rattle.ne_vec.specs.Divisions.{by_first, by_previous, runs_of};
@@ -7,8 +7,8 @@ use nonempty_collections::{NESlice, NEVec, NonEmptyIterator, nev};
 use std::alloc::{AllocError, Global};
 use std::num::NonZeroUsize;
 
-/// The first and the last item of a slice.
-pub fn ends(alloc: Global) -> Result<(u32, u32), AllocError>
+/// The example of `NESlice`.
+pub fn neslice(alloc: Global) -> Result<(u32, u32), AllocError>
     ensures { IfOk result (λ r. (r.0 ≡ 4) × (r.1 ≡ 8)) }
 {
     let items = nev![alloc; 4, 6, 8]?;
@@ -17,7 +17,7 @@ pub fn ends(alloc: Global) -> Result<(u32, u32), AllocError>
     Ok((first, last))
 }
 
-/// The first item.
+/// The example of `first`.
 pub fn first(alloc: Global) -> Result<u32, AllocError>
     ensures { IfOk result (λ first. first ≡ 4) }
 {
@@ -26,7 +26,7 @@ pub fn first(alloc: Global) -> Result<u32, AllocError>
     Ok(first)
 }
 
-/// The last item.
+/// The example of `last`.
 pub fn last(alloc: Global) -> Result<u32, AllocError>
     ensures { IfOk result (λ last. last ≡ 8) }
 {
@@ -35,7 +35,7 @@ pub fn last(alloc: Global) -> Result<u32, AllocError>
     Ok(last)
 }
 
-/// A slice with items is converted, and an empty one is not.
+/// By hand. A slice with items is converted, and an empty one is not.
 pub fn try_from_slice(alloc: Global) -> Result<(NEVec<u32>, bool), AllocError>
     ensures some { IfOk result (λ r. r.0 ≡ 5 ∷ 9 ∷ 2 ∷ []) }
     ensures none { IfOk result (λ r. r.1 ≡ true) }
@@ -50,7 +50,7 @@ pub fn try_from_slice(alloc: Global) -> Result<(NEVec<u32>, bool), AllocError>
     ))
 }
 
-/// The number of items.
+/// The example of `len`.
 pub fn len(alloc: Global) -> Result<usize, AllocError>
     ensures { IfOk result (λ len. len ≡ 8) }
 {
@@ -59,7 +59,7 @@ pub fn len(alloc: Global) -> Result<usize, AllocError>
     Ok(len)
 }
 
-/// An iterator over the items.
+/// By hand. An iterator over the items.
 pub fn nonempty_iter(alloc: Global) -> Result<Vec<u32>, AllocError>
     ensures { IfOk result (λ same. same.items ≡ 3 ∷ 1 ∷ 4 ∷ 1 ∷ 5 ∷ 9 ∷ 2 ∷ 6 ∷ []) }
 {
@@ -69,7 +69,7 @@ pub fn nonempty_iter(alloc: Global) -> Result<Vec<u32>, AllocError>
     Ok(same)
 }
 
-/// The items of the chunks are only run.
+/// By hand. The items of the chunks are only run.
 pub fn nonempty_chunks(alloc: Global) -> Result<(usize, usize, usize), AllocError>
     ensures count { IfOk result (λ r. r.0 ≡ 2) }
     ensures first { IfOk result (λ r. r.1 ≡ 2) }
@@ -86,7 +86,7 @@ pub fn nonempty_chunks(alloc: Global) -> Result<(usize, usize, usize), AllocErro
     ))
 }
 
-/// The numbers are only run.
+/// By hand. The numbers are only run.
 pub fn runs_by(alloc: Global) -> Result<NEVec<usize>, AllocError>
     ensures { IfOk result (λ r. (xs : List ℕ) → xs ≡ 1 ∷ 2 ∷ 3 ∷ []
         → r ≡ map (λ c. length c) (runs_of by_first (λ a b. ltb (abs_diff a b) 2) xs)) }
@@ -97,7 +97,7 @@ pub fn runs_by(alloc: Global) -> Result<NEVec<usize>, AllocError>
     runs.map(|c| c.len().get()).collect(alloc)
 }
 
-/// The numbers are only run.
+/// By hand. The numbers are only run.
 pub fn adjacent_runs(alloc: Global) -> Result<NEVec<usize>, AllocError>
     ensures { IfOk result (λ r. (xs : List ℕ) → xs ≡ 1 ∷ 2 ∷ 3 ∷ []
         → r ≡ map (λ c. length c) (runs_of by_previous (λ a b. ltb (abs_diff a b) 2) xs)) }
@@ -108,7 +108,7 @@ pub fn adjacent_runs(alloc: Global) -> Result<NEVec<usize>, AllocError>
     runs.map(|c| c.len().get()).collect(alloc)
 }
 
-/// An item by its index.
+/// The example of `index`.
 pub fn index(alloc: Global) -> Result<u32, AllocError>
     ensures { IfOk result (λ third. third ≡ 4) }
 {

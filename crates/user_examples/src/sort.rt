@@ -5,7 +5,7 @@ ghost use Rattle.std.specs.Ordering.{nat_cmp};
 use nonempty_collections::{NEVec, nev};
 use std::alloc::{AllocError, Global};
 
-/// Which list it is, is only run.
+/// By hand. Which list it is, is only run.
 pub fn sort(alloc: Global) -> Result<NEVec<u32>, AllocError>
     ensures { IfOk result (λ v. IsSorted nat_cmp v) }
 {

@@ -1,10 +1,10 @@
-//! The examples of what becomes a source.
+//! The examples of what becomes a source, written by `.ci/examples --write`.
 ghost use Rattle.std.specs.Prelude.{◌≡◌, ◌∷◌, [], IfOk};
 
 use nonempty_collections::{IntoNonEmptyIterator, NEVec, NonEmptyIterator};
 use std::alloc::{AllocError, Global};
 
-/// An array becomes a source.
+/// The example of `into_nonempty_iter`.
 pub fn into_nonempty_iter(alloc: Global) -> Result<NEVec<u32>, AllocError>
     ensures { IfOk result (λ v. v ≡ 1 ∷ 2 ∷ 3 ∷ []) }
 {

@@ -1,19 +1,19 @@
-//! The examples of the vector's conversions and indices.
+//! The examples of the vector's conversions and indices, written by `.ci/examples --write`.
 ghost use Rattle.std.specs.Prelude.{◌≡◌, ◌∷◌, [], IfOk, Ok};
 
 use ne_vec::Error;
 use nonempty_collections::{NEVec, nev};
 use std::alloc::{AllocError, Global};
 
-/// The items as std's vector.
-pub fn into_vec(alloc: Global) -> Result<Vec<u32>, AllocError>
+/// The example of `from`.
+pub fn from(alloc: Global) -> Result<Vec<u32>, AllocError>
     ensures { IfOk result (λ vec. vec.items ≡ 4 ∷ 6 ∷ 8 ∷ []) }
 {
     let vec: Vec<u32> = nev![alloc; 4, 6, 8]?.into();
     Ok(vec)
 }
 
-/// Items by their indices.
+/// The example of `index`.
 pub fn index(alloc: Global) -> Result<(u32, u32), AllocError>
     ensures { IfOk result (λ r. (r.0 ≡ 4) × (r.1 ≡ 9)) }
 {
@@ -22,7 +22,7 @@ pub fn index(alloc: Global) -> Result<(u32, u32), AllocError>
     Ok((first, last))
 }
 
-/// An item is changed by its index.
+/// The example of `index_mut`.
 pub fn index_mut(alloc: Global) -> Result<NEVec<u32>, AllocError>
     ensures { IfOk result (λ v. v ≡ 11 ∷ 21 ∷ 31 ∷ []) }
 {
@@ -31,7 +31,7 @@ pub fn index_mut(alloc: Global) -> Result<NEVec<u32>, AllocError>
     Ok(items)
 }
 
-/// A conversion of std's vector with items.
+/// By hand. A conversion of std's vector with items.
 pub fn try_from(alloc: Global) -> Result<Result<NEVec<u32>, Error>, AllocError>
     ensures { IfOk result (λ some. some ≡ Ok (1 ∷ 2 ∷ [])) }
 {

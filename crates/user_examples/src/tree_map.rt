@@ -1,4 +1,4 @@
-//! The examples of tree maps.
+//! The examples of tree maps, written by `.ci/examples --write`.
 ghost use Rattle.std.specs.Prelude.{◌≡◌, [], ◌∷◌, true, false, IfOk, None, Some};
 ghost use Rattle.std.specs.BTreeMap.{keys};
 ghost use Rattle.std.specs.Option.{IsSomeAnd};
@@ -7,8 +7,8 @@ use nonempty_collections::{NEBTreeMap, NEVec, NonEmptyIterator, nebtm};
 use std::alloc::{AllocError, Global};
 use std::collections::BTreeMap;
 
-/// Looks up keys of a map that is written out, and counts them.
-pub fn get_and_len(alloc: Global) -> Result<(Option<u32>, Option<u32>, usize), AllocError>
+/// The example of `NEBTreeMap`.
+pub fn nebtreemap(alloc: Global) -> Result<(Option<u32>, Option<u32>, usize), AllocError>
     ensures one { IfOk result (λ r. r.0 ≡ Some 30) }
     ensures three { IfOk result (λ r. r.1 ≡ None) }
     ensures len { IfOk result (λ r. r.2 ≡ 2) }
@@ -19,7 +19,7 @@ pub fn get_and_len(alloc: Global) -> Result<(Option<u32>, Option<u32>, usize), A
     Ok((one.copied(), three.copied(), len))
 }
 
-/// Creates a map of one key.
+/// The example of `new`.
 pub fn new(alloc: Global) -> Result<NEBTreeMap<u32, u32>, AllocError>
     ensures { IfOk result (λ m. m.entries ≡ (4, 20) ∷ []) }
 {
@@ -27,12 +27,12 @@ pub fn new(alloc: Global) -> Result<NEBTreeMap<u32, u32>, AllocError>
     Ok(map)
 }
 
-/// Converts std's maps, one that has keys and one that is empty.
+/// The example of `try_from_map`.
 pub fn try_from_map(
     alloc: Global,
 ) -> Result<(Option<NEBTreeMap<u32, u32>>, Option<NEBTreeMap<u32, u32>>), AllocError>
-    ensures some { IfOk result (λ r. IsSomeAnd r.0 (λ m. m.entries ≡ (2, 2) ∷ (4, 1) ∷ [])) }
-    ensures none { IfOk result (λ r. r.1 ≡ None) }
+    ensures { IfOk result (λ r.
+        (IsSomeAnd r.0 (λ m. m.entries ≡ (2, 2) ∷ (4, 1) ∷ [])) × (r.1 ≡ None)) }
 {
     let mut inner = BTreeMap::new(alloc);
     inner.insert(4, 1)?;
@@ -43,7 +43,7 @@ pub fn try_from_map(
     Ok((some, none))
 }
 
-/// Iterates over the pairs by std's iterator.
+/// The example of `iter`.
 pub fn iter(alloc: Global) -> Result<Vec<(u32, u32)>, AllocError>
     ensures { IfOk result (λ v. v.items ≡ (0, 3) ∷ (2, 1) ∷ []) }
 {
@@ -52,7 +52,7 @@ pub fn iter(alloc: Global) -> Result<Vec<(u32, u32)>, AllocError>
     pairs.map(|(k, v)| (*k, *v)).collect(alloc)
 }
 
-/// The values that the loop writes are only run.
+/// By hand. The values that the loop writes are only run.
 pub fn iter_mut(alloc: Global) -> Result<NEBTreeMap<u32, u32>, AllocError>
     ensures { IfOk result (λ m. keys m ≡ 2 ∷ 4 ∷ []) }
 {
@@ -63,7 +63,7 @@ pub fn iter_mut(alloc: Global) -> Result<NEBTreeMap<u32, u32>, AllocError>
     Ok(map)
 }
 
-/// Iterates over the pairs.
+/// The example of `nonempty_iter`.
 pub fn nonempty_iter(alloc: Global) -> Result<NEVec<(u32, u32)>, AllocError>
     ensures { IfOk result (λ v. v ≡ (0, 3) ∷ (2, 1) ∷ []) }
 {
@@ -72,7 +72,7 @@ pub fn nonempty_iter(alloc: Global) -> Result<NEVec<(u32, u32)>, AllocError>
     pairs.map(|(k, v)| (*k, *v)).collect(alloc)
 }
 
-/// The values that the loop writes are only run.
+/// By hand. The values that the loop writes are only run.
 pub fn nonempty_iter_mut(alloc: Global) -> Result<NEBTreeMap<u32, u32>, AllocError>
     ensures { IfOk result (λ m. keys m ≡ 2 ∷ 4 ∷ []) }
 {
@@ -83,7 +83,7 @@ pub fn nonempty_iter_mut(alloc: Global) -> Result<NEBTreeMap<u32, u32>, AllocErr
     Ok(map)
 }
 
-/// Iterates over the keys.
+/// The example of `keys`.
 pub fn keys(alloc: Global) -> Result<NEVec<u32>, AllocError>
     ensures { IfOk result (λ v. v ≡ 0 ∷ 2 ∷ []) }
 {
@@ -92,7 +92,7 @@ pub fn keys(alloc: Global) -> Result<NEVec<u32>, AllocError>
     keys.copied().collect(alloc)
 }
 
-/// Counts the keys of a map that is written out with one of them twice.
+/// The example of `len`.
 pub fn len(alloc: Global) -> Result<usize, AllocError>
     ensures { IfOk result (λ len. len ≡ 2) }
 {
@@ -100,7 +100,7 @@ pub fn len(alloc: Global) -> Result<usize, AllocError>
     Ok(len)
 }
 
-/// Iterates over the values.
+/// The example of `values`.
 pub fn values(alloc: Global) -> Result<NEVec<u32>, AllocError>
     ensures { IfOk result (λ v. v ≡ 3 ∷ 1 ∷ []) }
 {
@@ -109,17 +109,16 @@ pub fn values(alloc: Global) -> Result<NEVec<u32>, AllocError>
     values.copied().collect(alloc)
 }
 
-/// Asks for a key that is there and for one that isn't.
+/// The example of `contains_key`.
 pub fn contains_key(alloc: Global) -> Result<(bool, bool), AllocError>
-    ensures there { IfOk result (λ r. r.0 ≡ true) }
-    ensures absent { IfOk result (λ r. r.1 ≡ false) }
+    ensures { IfOk result (λ r. (r.0 ≡ true) × (r.1 ≡ false)) }
 {
     let map = nebtm![alloc; 2 => 24, 4 => 26, 6 => 23, 8 => 25]?;
     let (there, absent) = (map.contains_key(&2), map.contains_key(&10));
     Ok((there, absent))
 }
 
-/// Looks up a key and its value.
+/// The example of `get_key_value`.
 pub fn get_key_value(alloc: Global) -> Result<Option<(u32, u32)>, AllocError>
     ensures { IfOk result (λ pair. pair ≡ Some (2, 1)) }
 {
@@ -128,7 +127,7 @@ pub fn get_key_value(alloc: Global) -> Result<Option<(u32, u32)>, AllocError>
     Ok(pair.map(|(k, v)| (*k, *v)))
 }
 
-/// Writes the value of a key.
+/// The example of `get_mut`.
 pub fn get_mut(alloc: Global) -> Result<NEBTreeMap<u32, u32>, AllocError>
     ensures { IfOk result (λ m. m.entries ≡ (2, 24) ∷ (4, 27) ∷ (6, 23) ∷ (8, 25) ∷ []) }
 {
@@ -139,7 +138,7 @@ pub fn get_mut(alloc: Global) -> Result<NEBTreeMap<u32, u32>, AllocError>
     Ok(map)
 }
 
-/// Inserts a new key, and a key that is there.
+/// The example of `insert`.
 pub fn insert(alloc: Global) -> Result<(Option<u32>, Option<u32>, NEBTreeMap<u32, u32>), AllocError>
     ensures none { IfOk result (λ r. r.0 ≡ None) }
     ensures old { IfOk result (λ r. r.1 ≡ Some 20) }
@@ -151,7 +150,7 @@ pub fn insert(alloc: Global) -> Result<(Option<u32>, Option<u32>, NEBTreeMap<u32
     Ok((none, old, map))
 }
 
-/// Compares a map with its clone.
+/// The example of `clone`.
 pub fn clone(alloc: Global) -> Result<bool, AllocError>
     ensures { IfOk result (λ same. same ≡ true) }
 {

@@ -1,4 +1,4 @@
-//! The examples of tree sets.
+//! The examples of tree sets, written by `.ci/examples --write`.
 ghost use Rattle.std.specs.Prelude.{◌≡◌, [], ◌∷◌, true, false, IfOk, None, Some};
 ghost use Rattle.std.specs.Option.{IsSomeAnd};
 
@@ -6,8 +6,8 @@ use nonempty_collections::{NEBTreeSet, NEVec, NonEmptyIterator, nebts};
 use std::alloc::{AllocError, Global};
 use std::collections::BTreeSet;
 
-/// Asks for items of a set that is written out, and counts them.
-pub fn contains_and_len(alloc: Global) -> Result<(bool, bool, usize), AllocError>
+/// The example of `NEBTreeSet`.
+pub fn nebtreeset(alloc: Global) -> Result<(bool, bool, usize), AllocError>
     ensures two { IfOk result (λ r. r.0 ≡ true) }
     ensures three { IfOk result (λ r. r.1 ≡ false) }
     ensures len { IfOk result (λ r. r.2 ≡ 2) }
@@ -18,7 +18,7 @@ pub fn contains_and_len(alloc: Global) -> Result<(bool, bool, usize), AllocError
     Ok((two, three, len))
 }
 
-/// Creates a set of one item.
+/// The example of `new`.
 pub fn new(alloc: Global) -> Result<NEBTreeSet<u32>, AllocError>
     ensures { IfOk result (λ s. s.keys ≡ 2 ∷ []) }
 {
@@ -26,7 +26,7 @@ pub fn new(alloc: Global) -> Result<NEBTreeSet<u32>, AllocError>
     Ok(set)
 }
 
-/// Iterates over the items by std's iterator.
+/// The example of `iter`.
 pub fn iter(alloc: Global) -> Result<Vec<u32>, AllocError>
     ensures { IfOk result (λ v. v.items ≡ 2 ∷ 4 ∷ 8 ∷ 10 ∷ []) }
 {
@@ -35,7 +35,7 @@ pub fn iter(alloc: Global) -> Result<Vec<u32>, AllocError>
     items.copied().collect(alloc)
 }
 
-/// Iterates over the items.
+/// The example of `nonempty_iter`.
 pub fn nonempty_iter(alloc: Global) -> Result<NEVec<u32>, AllocError>
     ensures { IfOk result (λ v. v ≡ 2 ∷ 4 ∷ 8 ∷ 10 ∷ []) }
 {
@@ -44,7 +44,7 @@ pub fn nonempty_iter(alloc: Global) -> Result<NEVec<u32>, AllocError>
     items.copied().collect(alloc)
 }
 
-/// Counts the items of a set that is written out with one of them twice.
+/// The example of `len`.
 pub fn len(alloc: Global) -> Result<usize, AllocError>
     ensures { IfOk result (λ len. len ≡ 2) }
 {
@@ -52,12 +52,11 @@ pub fn len(alloc: Global) -> Result<usize, AllocError>
     Ok(len)
 }
 
-/// Converts std's sets, one that has items and one that is empty.
+/// The example of `try_from_set`.
 pub fn try_from_set(
     alloc: Global,
 ) -> Result<(Option<NEBTreeSet<u32>>, Option<NEBTreeSet<u32>>), AllocError>
-    ensures some { IfOk result (λ r. IsSomeAnd r.0 (λ s. s.keys ≡ 2 ∷ 4 ∷ [])) }
-    ensures none { IfOk result (λ r. r.1 ≡ None) }
+    ensures { IfOk result (λ r. (IsSomeAnd r.0 (λ s. s.keys ≡ 2 ∷ 4 ∷ [])) × (r.1 ≡ None)) }
 {
     let mut inner = BTreeSet::new(alloc);
     inner.insert(2)?;
@@ -68,17 +67,16 @@ pub fn try_from_set(
     Ok((some, none))
 }
 
-/// Asks for an item that is there and for one that isn't.
+/// The example of `contains`.
 pub fn contains(alloc: Global) -> Result<(bool, bool), AllocError>
-    ensures there { IfOk result (λ r. r.0 ≡ true) }
-    ensures absent { IfOk result (λ r. r.1 ≡ false) }
+    ensures { IfOk result (λ r. (r.0 ≡ true) × (r.1 ≡ false)) }
 {
     let set = nebts![alloc; 2, 4, 6]?;
     let (there, absent) = (set.contains(&6), set.contains(&8));
     Ok((there, absent))
 }
 
-/// Iterates over the items that are only in the first set.
+/// The example of `difference`.
 pub fn difference(alloc: Global) -> Result<Vec<u32>, AllocError>
     ensures { IfOk result (λ v. v.items ≡ 2 ∷ 4 ∷ []) }
 {
@@ -87,17 +85,16 @@ pub fn difference(alloc: Global) -> Result<Vec<u32>, AllocError>
     left.copied().collect(alloc)
 }
 
-/// Looks up an item that is there and one that isn't.
+/// The example of `get`.
 pub fn get(alloc: Global) -> Result<(Option<u32>, Option<u32>), AllocError>
-    ensures two { IfOk result (λ r. r.0 ≡ Some 2) }
-    ensures none { IfOk result (λ r. r.1 ≡ None) }
+    ensures { IfOk result (λ r. (r.0 ≡ Some 2) × (r.1 ≡ None)) }
 {
     let set = nebts![alloc; 1, 3, 2]?;
     let (two, none) = (set.get(&2), set.get(&0));
     Ok((two.copied(), none.copied()))
 }
 
-/// Inserts an item twice.
+/// The example of `insert`.
 pub fn insert(alloc: Global) -> Result<(bool, bool, NEBTreeSet<u32>), AllocError>
     ensures added { IfOk result (λ r. r.0 ≡ true) }
     ensures again { IfOk result (λ r. r.1 ≡ false) }
@@ -109,7 +106,7 @@ pub fn insert(alloc: Global) -> Result<(bool, bool, NEBTreeSet<u32>), AllocError
     Ok((added, again, set))
 }
 
-/// Iterates over the items that are in both sets.
+/// The example of `intersection`.
 pub fn intersection(alloc: Global) -> Result<Vec<u32>, AllocError>
     ensures { IfOk result (λ v. v.items ≡ 3 ∷ []) }
 {
@@ -118,7 +115,7 @@ pub fn intersection(alloc: Global) -> Result<Vec<u32>, AllocError>
     shared.copied().collect(alloc)
 }
 
-/// Asks whether two sets that have an item in common have none.
+/// The example of `is_disjoint`.
 pub fn is_disjoint(alloc: Global) -> Result<bool, AllocError>
     ensures { IfOk result (λ disjoint. disjoint ≡ false) }
 {
@@ -127,7 +124,7 @@ pub fn is_disjoint(alloc: Global) -> Result<bool, AllocError>
     Ok(disjoint)
 }
 
-/// Asks whether the second set has each item of the first.
+/// The example of `is_subset`.
 pub fn is_subset(alloc: Global) -> Result<bool, AllocError>
     ensures { IfOk result (λ subset. subset ≡ true) }
 {
@@ -136,7 +133,7 @@ pub fn is_subset(alloc: Global) -> Result<bool, AllocError>
     Ok(subset)
 }
 
-/// Asks whether the first set has each item of the second.
+/// The example of `is_superset`.
 pub fn is_superset(alloc: Global) -> Result<bool, AllocError>
     ensures { IfOk result (λ superset. superset ≡ true) }
 {
@@ -145,7 +142,7 @@ pub fn is_superset(alloc: Global) -> Result<bool, AllocError>
     Ok(superset)
 }
 
-/// Replaces an item by an equal one.
+/// The example of `replace`.
 pub fn replace(alloc: Global) -> Result<Option<u32>, AllocError>
     ensures { IfOk result (λ old. old ≡ Some 4) }
 {
@@ -154,7 +151,7 @@ pub fn replace(alloc: Global) -> Result<Option<u32>, AllocError>
     Ok(old)
 }
 
-/// Iterates over the items of both sets.
+/// The example of `union`.
 pub fn union(alloc: Global) -> Result<NEVec<u32>, AllocError>
     ensures { IfOk result (λ v. v ≡ 1 ∷ 2 ∷ 3 ∷ 4 ∷ 5 ∷ []) }
 {
@@ -163,7 +160,7 @@ pub fn union(alloc: Global) -> Result<NEVec<u32>, AllocError>
     all.copied().collect(alloc)
 }
 
-/// Compares a set with its clone.
+/// The example of `clone`.
 pub fn clone(alloc: Global) -> Result<bool, AllocError>
     ensures { IfOk result (λ same. same ≡ true) }
 {

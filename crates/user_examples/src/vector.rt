@@ -1,4 +1,4 @@
-//! The examples of the vector.
+//! The examples of the vector, written by `.ci/examples --write`.
 ghost use Rattle.std.specs.Prelude.{◌≡◌, ◌/◌, ◌%◌, ◌==◌, ◌∷◌, [], List, ℕ, IfOk, MatchResult};
 ghost use Rattle.std.specs.Prelude.{None, Ok, Some, codes, true, false, length, filter, map};
 
@@ -6,8 +6,8 @@ use nonempty_collections::{NESlice, NEVec, NonEmptyIterator, nev};
 use std::alloc::{AllocError, Global};
 use std::num::NonZeroUsize;
 
-/// The first and the last item of a vector, after a `push`.
-pub fn ends(alloc: Global) -> Result<(u32, u32), AllocError>
+/// The example of `NEVec`.
+pub fn nevec(alloc: Global) -> Result<(u32, u32), AllocError>
     ensures { IfOk result (λ r. (r.0 ≡ 4) × (r.1 ≡ 9)) }
 {
     let mut items = nev![alloc; 4, 6, 8]?;
@@ -16,7 +16,7 @@ pub fn ends(alloc: Global) -> Result<(u32, u32), AllocError>
     Ok((first, last))
 }
 
-/// A vector of one item.
+/// The example of `new`.
 pub fn new(alloc: Global) -> Result<NEVec<u32>, AllocError>
     ensures { IfOk result (λ v. v ≡ 7 ∷ []) }
 {
@@ -24,7 +24,7 @@ pub fn new(alloc: Global) -> Result<NEVec<u32>, AllocError>
     Ok(items)
 }
 
-/// A vector of a repeated item.
+/// The example of `from_elem`.
 pub fn from_elem(alloc: Global) -> Result<NEVec<u32>, AllocError>
     ensures { IfOk result (λ v. v ≡ 7 ∷ 7 ∷ []) }
 {
@@ -33,7 +33,7 @@ pub fn from_elem(alloc: Global) -> Result<NEVec<u32>, AllocError>
     Ok(items)
 }
 
-/// A vector of one item, with room for more.
+/// The example of `with_capacity`.
 pub fn with_capacity(alloc: Global) -> Result<NEVec<u32>, AllocError>
     ensures { IfOk result (λ v. v ≡ 1 ∷ []) }
 {
@@ -42,7 +42,7 @@ pub fn with_capacity(alloc: Global) -> Result<NEVec<u32>, AllocError>
     Ok(items)
 }
 
-/// A vector of a first item and others.
+/// The example of `from_parts`.
 pub fn from_parts(alloc: Global) -> Result<NEVec<u32>, AllocError>
     ensures { IfOk result (λ v. v ≡ 1 ∷ 2 ∷ 3 ∷ 4 ∷ 5 ∷ []) }
 {
@@ -50,7 +50,7 @@ pub fn from_parts(alloc: Global) -> Result<NEVec<u32>, AllocError>
     Ok(items)
 }
 
-/// The first of several texts.
+/// The example of `first`.
 pub fn first(alloc: Global) -> Result<&'static str, AllocError>
     ensures { IfOk result (λ first. first.now ≡ 195 ∷ 150 ∷ codes "sterreich") }
 {
@@ -59,7 +59,7 @@ pub fn first(alloc: Global) -> Result<&'static str, AllocError>
     Ok(first)
 }
 
-/// The first item is changed.
+/// The example of `first_mut`.
 pub fn first_mut(alloc: Global) -> Result<NEVec<u32>, AllocError>
     ensures { IfOk result (λ v. v ≡ 40 ∷ 6 ∷ 8 ∷ []) }
 {
@@ -68,7 +68,7 @@ pub fn first_mut(alloc: Global) -> Result<NEVec<u32>, AllocError>
     Ok(items)
 }
 
-/// An item is added at the end.
+/// The example of `push`.
 pub fn push(alloc: Global) -> Result<NEVec<u32>, AllocError>
     ensures { IfOk result (λ v. v ≡ 7 ∷ 8 ∷ []) }
 {
@@ -77,7 +77,7 @@ pub fn push(alloc: Global) -> Result<NEVec<u32>, AllocError>
     Ok(items)
 }
 
-/// The last item is taken, and the only one is not.
+/// The example of `pop`.
 pub fn pop(alloc: Global) -> Result<(Option<u32>, Option<u32>), AllocError>
     ensures { IfOk result (λ r. (r.0 ≡ Some 6) × (r.1 ≡ None)) }
 {
@@ -87,7 +87,7 @@ pub fn pop(alloc: Global) -> Result<(Option<u32>, Option<u32>), AllocError>
     Ok((popped, none))
 }
 
-/// An item is removed by its index, and the others keep their order.
+/// The example of `remove`.
 pub fn remove(alloc: Global) -> Result<(Option<u32>, NEVec<u32>), AllocError>
     ensures { IfOk result (λ r. (r.0 ≡ Some 4) × (r.1 ≡ 6 ∷ 8 ∷ [])) }
 {
@@ -96,7 +96,7 @@ pub fn remove(alloc: Global) -> Result<(Option<u32>, NEVec<u32>), AllocError>
     Ok((removed, items))
 }
 
-/// An item is removed by its index, and the last one takes its place.
+/// The example of `swap_remove`.
 pub fn swap_remove(alloc: Global) -> Result<(Option<u32>, NEVec<u32>), AllocError>
     ensures { IfOk result (λ r. (r.0 ≡ Some 4) × (r.1 ≡ 9 ∷ 6 ∷ 8 ∷ [])) }
 {
@@ -105,7 +105,7 @@ pub fn swap_remove(alloc: Global) -> Result<(Option<u32>, NEVec<u32>), AllocErro
     Ok((removed, items))
 }
 
-/// The even items stay, or there are none.
+/// By hand. The even items stay, or there are none.
 pub fn retain(
     alloc: Global,
 ) -> Result<(Result<NEVec<u32>, Vec<u32>>, Result<NEVec<u32>, Vec<u32>>), AllocError>
@@ -122,7 +122,7 @@ pub fn retain(
     Ok((even, none))
 }
 
-/// The items are halved, and the even halves stay.
+/// By hand. The items are halved, and the even halves stay.
 pub fn retain_mut(alloc: Global) -> Result<Result<NEVec<u32>, Vec<u32>>, AllocError>
     ensures { IfOk result (λ r. r ≡ Ok (0 ∷ 2 ∷ 0 ∷ 2 ∷ 4 ∷ [])) }
 {
@@ -134,7 +134,7 @@ pub fn retain_mut(alloc: Global) -> Result<Result<NEVec<u32>, Vec<u32>>, AllocEr
     Ok(even_halves)
 }
 
-/// Items are inserted at the end, in the middle and in front.
+/// The example of `insert`.
 pub fn insert(alloc: Global) -> Result<NEVec<u32>, AllocError>
     ensures { IfOk result (λ v. v ≡ 1 ∷ 4 ∷ 2 ∷ 6 ∷ 3 ∷ []) }
 {
@@ -145,7 +145,7 @@ pub fn insert(alloc: Global) -> Result<NEVec<u32>, AllocError>
     Ok(items)
 }
 
-/// The number of items.
+/// The example of `len`.
 pub fn len(alloc: Global) -> Result<usize, AllocError>
     ensures { IfOk result (λ len. len ≡ 8) }
 {
@@ -153,7 +153,7 @@ pub fn len(alloc: Global) -> Result<usize, AllocError>
     Ok(len)
 }
 
-/// The last of several texts.
+/// The example of `last`.
 pub fn last(alloc: Global) -> Result<&'static str, AllocError>
     ensures { IfOk result (λ last. last.now ≡ codes "Italia") }
 {
@@ -162,7 +162,7 @@ pub fn last(alloc: Global) -> Result<&'static str, AllocError>
     Ok(last)
 }
 
-/// The last item is changed.
+/// The example of `last_mut`.
 pub fn last_mut(alloc: Global) -> Result<NEVec<u32>, AllocError>
     ensures { IfOk result (λ v. v ≡ 11 ∷ 20 ∷ 31 ∷ []) }
 {
@@ -171,7 +171,7 @@ pub fn last_mut(alloc: Global) -> Result<NEVec<u32>, AllocError>
     Ok(items)
 }
 
-/// An item that is there, and one that is not.
+/// The example of `contains`.
 pub fn contains(alloc: Global) -> Result<(bool, bool), AllocError>
     ensures { IfOk result (λ r. (r.0 ≡ true) × (r.1 ≡ false)) }
 {
@@ -180,7 +180,7 @@ pub fn contains(alloc: Global) -> Result<(bool, bool), AllocError>
     Ok((there, absent))
 }
 
-/// The item at an index, if there is one.
+/// The example of `get`.
 pub fn get(alloc: Global) -> Result<(Option<u32>, Option<u32>), AllocError>
     ensures { IfOk result (λ r. (r.0 ≡ Some 30) × (r.1 ≡ None)) }
 {
@@ -189,7 +189,7 @@ pub fn get(alloc: Global) -> Result<(Option<u32>, Option<u32>), AllocError>
     Ok((last.copied(), none.copied()))
 }
 
-/// The item at an index is changed.
+/// The example of `get_mut`.
 pub fn get_mut(alloc: Global) -> Result<NEVec<u32>, AllocError>
     ensures { IfOk result (λ v. v ≡ 11 ∷ 22 ∷ 31 ∷ []) }
 {
@@ -200,7 +200,7 @@ pub fn get_mut(alloc: Global) -> Result<NEVec<u32>, AllocError>
     Ok(items)
 }
 
-/// The items are reversed as a slice.
+/// The example of `as_mut_slice`.
 pub fn as_mut_slice(alloc: Global) -> Result<NEVec<u32>, AllocError>
     ensures { IfOk result (λ v. v ≡ 31 ∷ 22 ∷ 11 ∷ []) }
 {
@@ -209,7 +209,7 @@ pub fn as_mut_slice(alloc: Global) -> Result<NEVec<u32>, AllocError>
     Ok(items)
 }
 
-/// The halves of the items, by std's iterator.
+/// By hand. The halves of the items, by std's iterator.
 pub fn iter(alloc: Global) -> Result<Vec<u32>, AllocError>
     ensures { IfOk result (λ halves. halves.items ≡ map (λ x. x / 2) (3 ∷ 4 ∷ 5 ∷ 6 ∷ [])) }
 {
@@ -218,7 +218,7 @@ pub fn iter(alloc: Global) -> Result<Vec<u32>, AllocError>
     Ok(halves)
 }
 
-/// The values that the loop writes are only run.
+/// By hand. The values that the loop writes are only run.
 pub fn iter_mut(alloc: Global) -> Result<NEVec<u32>, AllocError>
     ensures { IfOk result (λ v. length v ≡ 4) }
 {
@@ -229,7 +229,7 @@ pub fn iter_mut(alloc: Global) -> Result<NEVec<u32>, AllocError>
     Ok(items)
 }
 
-/// The greatest item.
+/// The example of `nonempty_iter`.
 pub fn nonempty_iter(alloc: Global) -> Result<u32, AllocError>
     ensures { IfOk result (λ greatest. greatest ≡ 8) }
 {
@@ -238,7 +238,7 @@ pub fn nonempty_iter(alloc: Global) -> Result<u32, AllocError>
     Ok(greatest)
 }
 
-/// The values that the loop writes are only run.
+/// By hand. The values that the loop writes are only run.
 pub fn nonempty_iter_mut(alloc: Global) -> Result<NEVec<u32>, AllocError>
     ensures { IfOk result (λ v. length v ≡ 4) }
 {
@@ -249,7 +249,7 @@ pub fn nonempty_iter_mut(alloc: Global) -> Result<NEVec<u32>, AllocError>
     Ok(items)
 }
 
-/// The items are reversed.
+/// The example of `reverse`.
 pub fn reverse(alloc: Global) -> Result<NEVec<u32>, AllocError>
     ensures { IfOk result (λ v. v ≡ 8 ∷ 6 ∷ 4 ∷ []) }
 {
@@ -258,7 +258,7 @@ pub fn reverse(alloc: Global) -> Result<NEVec<u32>, AllocError>
     Ok(items)
 }
 
-/// The first two items stay.
+/// The example of `truncate`.
 pub fn truncate(alloc: Global) -> Result<NEVec<u32>, AllocError>
     ensures { IfOk result (λ v. v ≡ 1 ∷ 2 ∷ []) }
 {
@@ -267,7 +267,7 @@ pub fn truncate(alloc: Global) -> Result<NEVec<u32>, AllocError>
     Ok(items)
 }
 
-/// The items of a slice, and none of an empty one.
+/// The example of `try_from_slice`.
 pub fn try_from_slice(alloc: Global) -> Result<(Option<NEVec<u32>>, Option<NEVec<u32>>), AllocError>
     ensures { IfOk result (λ r. (r.0 ≡ Some (4 ∷ 6 ∷ 8 ∷ [])) × (r.1 ≡ None)) }
 {
@@ -276,7 +276,7 @@ pub fn try_from_slice(alloc: Global) -> Result<(Option<NEVec<u32>>, Option<NEVec
     Ok((some, none))
 }
 
-/// The items of std's vector, and none of an empty one.
+/// The example of `try_from_vec`.
 pub fn try_from_vec(alloc: Global) -> Result<(Option<NEVec<u32>>, Option<NEVec<u32>>), AllocError>
     ensures { IfOk result (λ r. (r.0 ≡ Some (4 ∷ 6 ∷ 8 ∷ [])) × (r.1 ≡ None)) }
 {
@@ -285,7 +285,7 @@ pub fn try_from_vec(alloc: Global) -> Result<(Option<NEVec<u32>>, Option<NEVec<u
     Ok((some, none))
 }
 
-/// A clone has the same items.
+/// The example of `clone`.
 pub fn clone(alloc: Global) -> Result<NEVec<u32>, AllocError>
     ensures { IfOk result (λ same. same ≡ 3 ∷ 1 ∷ 4 ∷ 1 ∷ 5 ∷ 9 ∷ 2 ∷ 6 ∷ []) }
 {
@@ -294,7 +294,7 @@ pub fn clone(alloc: Global) -> Result<NEVec<u32>, AllocError>
     Ok(same)
 }
 
-/// The first item, and the others.
+/// The example of `split_first`.
 pub fn split_first(alloc: Global) -> Result<(u32, Vec<u32>), AllocError>
     ensures { IfOk result (λ r. (r.0 ≡ 4) × (r.1.items ≡ 6 ∷ 8 ∷ [])) }
 {
@@ -303,17 +303,18 @@ pub fn split_first(alloc: Global) -> Result<(u32, Vec<u32>), AllocError>
     Ok((*first, rest.to_vec(alloc)?))
 }
 
-/// The first item, those in the middle, and the last one.
+/// The example of `split`.
 pub fn split(alloc: Global) -> Result<(u32, Vec<u32>, u32), AllocError>
-    ensures ends { IfOk result (λ r. (r.0 ≡ 4) × (r.2 ≡ 9)) }
+    ensures first { IfOk result (λ r. r.0 ≡ 4) }
     ensures middle { IfOk result (λ r. r.1.items ≡ 6 ∷ 8 ∷ []) }
+    ensures last { IfOk result (λ r. r.2 ≡ 9) }
 {
     let items = nev![alloc; 4, 6, 8, 9]?;
     let (first, middle, last) = items.split();
     Ok((*first, middle.to_vec(alloc)?, *last))
 }
 
-/// The items of another vector are moved to the end.
+/// The example of `append`.
 pub fn append(alloc: Global) -> Result<NEVec<u32>, AllocError>
     ensures { IfOk result (λ v. v ≡ 4 ∷ 6 ∷ 8 ∷ []) }
 {
@@ -323,7 +324,7 @@ pub fn append(alloc: Global) -> Result<NEVec<u32>, AllocError>
     Ok(items)
 }
 
-/// The items of the chunks are only run.
+/// By hand. The items of the chunks are only run.
 pub fn nonempty_chunks(alloc: Global) -> Result<(usize, usize, usize), AllocError>
     ensures count { IfOk result (λ r. r.0 ≡ 2) }
     ensures first { IfOk result (λ r. r.1 ≡ 2) }

@@ -100,13 +100,19 @@ type Row = ((Make, &'static str), (Change, &'static str));
 // Maps and sets of items.
 trait Table: Singleton<Item = Item> + FromNonEmptyIterator<Item> + Clone + Drop {
     // How many items there is room for, in a table that is made of one.
-    fn room() -> u32;
+    fn room() -> u32 {
+        9
+    }
 
     // A hint for which collecting requests no room: 0, or more than any memory holds.
-    fn hint() -> usize;
+    fn hint() -> usize {
+        usize::MAX
+    }
 
     // Whether a call with an item that is there already does without memory.
-    fn takes_none_again() -> bool;
+    fn takes_none_again() -> bool {
+        false
+    }
 
     fn make(alloc: Global, call: Make, item: Item) -> Result<Self, AllocError>;
 

@@ -92,18 +92,6 @@ impl Table for NEBTreeSet<Item> {
 // The order of a hashed table is unspecified: the numbers, no two of which are equal, are those
 // from 1 on if none is greater than the number of them.
 impl Table for NEMap<Key, Owner> {
-    fn room() -> u32 {
-        9
-    }
-
-    fn hint() -> usize {
-        usize::MAX
-    }
-
-    fn takes_none_again() -> bool {
-        false
-    }
-
     fn make(alloc: Global, call: Make, item: Item) -> Result<Self, AllocError> {
         let hasher = BuildHasherDefault::new();
         let (one, forty) = (NonZeroUsize::MIN, NonZeroUsize::new(40).unwrap());
@@ -142,18 +130,6 @@ impl Table for NEMap<Key, Owner> {
 }
 
 impl Table for NESet<Item> {
-    fn room() -> u32 {
-        9
-    }
-
-    fn hint() -> usize {
-        usize::MAX
-    }
-
-    fn takes_none_again() -> bool {
-        false
-    }
-
     fn make(alloc: Global, call: Make, item: Item) -> Result<Self, AllocError> {
         let hasher = BuildHasherDefault::new();
         let (one, forty) = (NonZeroUsize::MIN, NonZeroUsize::new(40).unwrap());
@@ -192,18 +168,6 @@ impl Table for NESet<Item> {
 }
 
 impl Table for NEIndexMap<Key, Owner> {
-    fn room() -> u32 {
-        9
-    }
-
-    fn hint() -> usize {
-        usize::MAX
-    }
-
-    fn takes_none_again() -> bool {
-        false
-    }
-
     fn make(alloc: Global, call: Make, item: Item) -> Result<Self, AllocError> {
         let hasher = BuildHasherDefault::new();
         let (one, forty) = (NonZeroUsize::MIN, NonZeroUsize::new(40).unwrap());
@@ -240,18 +204,6 @@ impl Table for NEIndexMap<Key, Owner> {
 }
 
 impl Table for NEIndexSet<Item> {
-    fn room() -> u32 {
-        9
-    }
-
-    fn hint() -> usize {
-        usize::MAX
-    }
-
-    fn takes_none_again() -> bool {
-        false
-    }
-
     fn make(alloc: Global, call: Make, item: Item) -> Result<Self, AllocError> {
         let hasher = BuildHasherDefault::new();
         let (one, forty) = (NonZeroUsize::MIN, NonZeroUsize::new(40).unwrap());

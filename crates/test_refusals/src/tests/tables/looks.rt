@@ -39,25 +39,67 @@ where
     count
 }
 
-fn look_up_tree(map: &mut NEBTreeMap<u32, u32>) -> usize {
-    if let Some(place) = map.get_mut(&2) {
-        *place = 21;
-    }
-    for (_key, value) in map.iter_mut() {
-        *value = value.wrapping_add(1);
-    }
-    for (_key, value) in map.nonempty_iter_mut() {
-        *value = value.wrapping_add(1);
-    }
-    let found = [map.get(&2).is_some(), map.get_key_value(&3).is_some()];
-    let has = [map.contains_key(&2), map == map, map.as_ref().len() == 1];
-    holding(&found).wrapping_add(holding(&has))
+// Looks a key up in a map.
+macro_rules! looked_up {
+    ($map:expr) => {{
+        let found = [$map.get(&2).is_some(), $map.get_key_value(&3).is_some()];
+        let has = [$map.contains_key(&2), $map == $map, $map.as_ref().len() == 1];
+        holding(&found).wrapping_add(holding(&has))
+    }};
 }
 
-fn walk_tree(map: &NEBTreeMap<u32, u32>) -> usize {
-    counted(map.iter())
-        .wrapping_add(counted(map.keys().into_iter()))
-        .wrapping_add(counted(map.values().into_iter()))
+// Writes to the values of a map, and looks a key up. Index maps have no iterator that writes.
+macro_rules! written {
+    ($map:expr) => {{
+        if let Some(place) = $map.get_mut(&2) {
+            *place = 21;
+        }
+        for (_key, value) in $map.iter_mut() {
+            *value = value.wrapping_add(1);
+        }
+        for (_key, value) in $map.nonempty_iter_mut() {
+            *value = value.wrapping_add(1);
+        }
+        looked_up!($map)
+    }};
+}
+
+// Iterates over the pairs of a map, its keys and its values.
+macro_rules! iterated_map {
+    ($map:expr) => {
+        counted($map.iter())
+            .wrapping_add(counted($map.keys().into_iter()))
+            .wrapping_add(counted($map.values().into_iter()))
+    };
+}
+
+// Looks an item up in a set, and compares the set with itself.
+macro_rules! compared {
+    ($set:expr) => {{
+        let found = [$set.get(&2).is_some(), $set.contains(&3), $set.as_ref().len() == 1];
+        let alike = [$set == $set, $set.is_subset($set), $set.is_superset($set)];
+        holding(&found)
+            .wrapping_add(holding(&alike))
+            .wrapping_add(usize::from($set.is_disjoint($set)))
+    }};
+}
+
+// Iterates over the items of a set, and over those that it has in common with itself.
+macro_rules! iterated_set {
+    ($set:expr) => {
+        counted($set.iter())
+            .wrapping_add(counted($set.difference($set)))
+            .wrapping_add(counted($set.intersection($set)))
+            .wrapping_add(counted($set.union($set).into_iter()))
+    };
+}
+
+fn look_up_tree(map: &mut NEBTreeMap<u32, u32>) -> usize {
+    written!(map)
+}
+
+fn iterate_tree(map: &NEBTreeMap<u32, u32>) -> usize {
+    iterated_map!(map)
 }
 
 #[test]
@@ -67,7 +109,7 @@ fn tree_map(rt: HostRuntime) -> Result<(), Fail> {
         return tell(&rt, "not reached", call);
     };
     let found = look_up_tree(&mut map);
-    let items = walk_tree(&map);
+    let items = iterate_tree(&map);
     let inner = BTreeMap::from(map);
     let map = NEBTreeMap::try_from_map(inner).ok_or("no key")?;
     counts(
@@ -80,24 +122,11 @@ fn tree_map(rt: HostRuntime) -> Result<(), Fail> {
 }
 
 fn look_up_hashed(map: &mut NEMap<u32, u32>) -> usize {
-    if let Some(place) = map.get_mut(&2) {
-        *place = 21;
-    }
-    for (_key, value) in map.iter_mut() {
-        *value = value.wrapping_add(1);
-    }
-    for (_key, value) in map.nonempty_iter_mut() {
-        *value = value.wrapping_add(1);
-    }
-    let found = [map.get(&2).is_some(), map.get_key_value(&3).is_some()];
-    let has = [map.contains_key(&2), map == map, map.as_ref().len() == 1];
-    holding(&found).wrapping_add(holding(&has))
+    written!(map)
 }
 
-fn walk_hashed(map: &NEMap<u32, u32>) -> usize {
-    counted(map.iter())
-        .wrapping_add(counted(map.keys().into_iter()))
-        .wrapping_add(counted(map.values().into_iter()))
+fn iterate_hashed(map: &NEMap<u32, u32>) -> usize {
+    iterated_map!(map)
 }
 
 #[test]
@@ -107,7 +136,7 @@ fn hashed_map(rt: HostRuntime) -> Result<(), Fail> {
         return tell(&rt, "not reached", call);
     };
     let found = look_up_hashed(&mut map);
-    let items = walk_hashed(&map);
+    let items = iterate_hashed(&map);
     let inner = HashMap::from(map);
     let map = NEMap::try_from_map(inner).ok_or("no key")?;
     counts(
@@ -125,19 +154,14 @@ fn look_up_index(map: &mut NEIndexMap<u32, u32>) -> usize {
     }
     map.swap_indices(0, 0);
     let ends = [*map.first().0 == 2, *map.last().1 == 21, map[0] == 21];
-    let found = [map.get(&2).is_some(), map.get_key_value(&3).is_some()];
-    let has = [map.contains_key(&2), map == map, map.as_ref().len() == 1];
     let is_first = usize::from(map.get_index_of(&2) == Some(0));
     holding(&ends)
-        .wrapping_add(holding(&found))
-        .wrapping_add(holding(&has))
         .wrapping_add(is_first)
+        .wrapping_add(looked_up!(map))
 }
 
-fn walk_index(map: &NEIndexMap<u32, u32>) -> usize {
-    counted(map.iter())
-        .wrapping_add(counted(map.keys().into_iter()))
-        .wrapping_add(counted(map.values().into_iter()))
+fn iterate_index(map: &NEIndexMap<u32, u32>) -> usize {
+    iterated_map!(map)
 }
 
 #[test]
@@ -147,7 +171,7 @@ fn index_map(rt: HostRuntime) -> Result<(), Fail> {
         return tell(&rt, "not reached", call);
     };
     let found = look_up_index(&mut map);
-    let items = walk_index(&map);
+    let items = iterate_index(&map);
     let inner = IndexMap::from(map);
     let map = NEIndexMap::try_from_map(inner).ok_or("no key")?;
     counts(
@@ -159,26 +183,38 @@ fn index_map(rt: HostRuntime) -> Result<(), Fail> {
     tell(&rt, if answer.is_ok() { "made" } else { "refused" }, call)
 }
 
-fn look_up_hashed_set(set: &NESet<u32>) -> usize {
-    let found = [
-        set.get(&2).is_some(),
-        set.contains(&3),
-        set.as_ref().len() == 1,
-    ];
-    let compared = [
-        set == set,
-        set.is_subset(set),
-        set.is_superset(set),
-        set.is_disjoint(set),
-    ];
-    holding(&found).wrapping_add(holding(&compared))
+fn look_up_tree_set(set: &NEBTreeSet<u32>) -> usize {
+    compared!(set)
 }
 
-fn walk_hashed_set(set: &NESet<u32>) -> usize {
-    counted(set.iter())
-        .wrapping_add(counted(set.difference(set)))
-        .wrapping_add(counted(set.intersection(set)))
-        .wrapping_add(counted(set.union(set).into_iter()))
+fn iterate_tree_set(set: &NEBTreeSet<u32>) -> usize {
+    iterated_set!(set)
+}
+
+#[test]
+fn tree_set(rt: HostRuntime) -> Result<(), Fail> {
+    let call = "NEBTreeSet::new behind looks";
+    let Ok(set) = NEBTreeSet::new(rt.alloc(), 2) else {
+        return tell(&rt, "not reached", call);
+    };
+    let (found, items) = (look_up_tree_set(&set), iterate_tree_set(&set));
+    let inner = BTreeSet::from(set);
+    let set = NEBTreeSet::try_from_set(inner).ok_or("no item")?;
+    counts(
+        call,
+        [found, items, counted(set.into_nonempty_iter().into_iter())],
+        [5, 3, 1],
+    )?;
+    let answer = NEBTreeSet::new(rt.alloc(), 1);
+    tell(&rt, if answer.is_ok() { "made" } else { "refused" }, call)
+}
+
+fn look_up_hashed_set(set: &NESet<u32>) -> usize {
+    compared!(set)
+}
+
+fn iterate_hashed_set(set: &NESet<u32>) -> usize {
+    iterated_set!(set)
 }
 
 #[test]
@@ -187,7 +223,7 @@ fn hashed_set(rt: HostRuntime) -> Result<(), Fail> {
     let Ok(set) = NESet::new(rt.alloc(), 2) else {
         return tell(&rt, "not reached", call);
     };
-    let (found, items) = (look_up_hashed_set(&set), walk_hashed_set(&set));
+    let (found, items) = (look_up_hashed_set(&set), iterate_hashed_set(&set));
     let inner = HashSet::from(set);
     let mut set = NESet::try_from_set(inner).ok_or("no item")?;
     let answer = set.reserve(100);
@@ -200,25 +236,11 @@ fn hashed_set(rt: HostRuntime) -> Result<(), Fail> {
 }
 
 fn look_up_index_set(set: &NEIndexSet<u32>) -> usize {
-    let found = [
-        set.get(&2).is_some(),
-        set.contains(&3),
-        set.as_ref().len() == 1,
-    ];
-    let compared = [
-        set == set,
-        set.is_subset(set),
-        set.is_superset(set),
-        set.is_disjoint(set),
-    ];
-    holding(&found).wrapping_add(holding(&compared))
+    compared!(set)
 }
 
-fn walk_index_set(set: &NEIndexSet<u32>) -> usize {
-    counted(set.iter())
-        .wrapping_add(counted(set.difference(set)))
-        .wrapping_add(counted(set.intersection(set)))
-        .wrapping_add(counted(set.union(set).into_iter()))
+fn iterate_index_set(set: &NEIndexSet<u32>) -> usize {
+    iterated_set!(set)
 }
 
 #[test]
@@ -227,7 +249,7 @@ fn index_set(rt: HostRuntime) -> Result<(), Fail> {
     let Ok(set) = NEIndexSet::new(rt.alloc(), 2) else {
         return tell(&rt, "not reached", call);
     };
-    let (found, items) = (look_up_index_set(&set), walk_index_set(&set));
+    let (found, items) = (look_up_index_set(&set), iterate_index_set(&set));
     let inner = IndexSet::from(set);
     let mut set = NEIndexSet::try_from_set(inner).ok_or("no item")?;
     let answer = set.reserve(100);
@@ -236,45 +258,5 @@ fn index_set(rt: HostRuntime) -> Result<(), Fail> {
         [found, items, counted(set.into_nonempty_iter().into_iter())],
         [5, 3, 1],
     )?;
-    tell(&rt, if answer.is_ok() { "made" } else { "refused" }, call)
-}
-
-fn look_up_tree_set(set: &NEBTreeSet<u32>) -> usize {
-    let found = [
-        set.get(&2).is_some(),
-        set.contains(&3),
-        set.as_ref().len() == 1,
-    ];
-    let compared = [
-        set == set,
-        set.is_subset(set),
-        set.is_superset(set),
-        set.is_disjoint(set),
-    ];
-    holding(&found).wrapping_add(holding(&compared))
-}
-
-fn walk_tree_set(set: &NEBTreeSet<u32>) -> usize {
-    counted(set.iter())
-        .wrapping_add(counted(set.difference(set)))
-        .wrapping_add(counted(set.intersection(set)))
-        .wrapping_add(counted(set.union(set).into_iter()))
-}
-
-#[test]
-fn tree_set(rt: HostRuntime) -> Result<(), Fail> {
-    let call = "NEBTreeSet::new behind looks";
-    let Ok(set) = NEBTreeSet::new(rt.alloc(), 2) else {
-        return tell(&rt, "not reached", call);
-    };
-    let (found, items) = (look_up_tree_set(&set), walk_tree_set(&set));
-    let inner = BTreeSet::from(set);
-    let set = NEBTreeSet::try_from_set(inner).ok_or("no item")?;
-    counts(
-        call,
-        [found, items, counted(set.into_nonempty_iter().into_iter())],
-        [5, 3, 1],
-    )?;
-    let answer = NEBTreeSet::new(rt.alloc(), 1);
     tell(&rt, if answer.is_ok() { "made" } else { "refused" }, call)
 }
