@@ -6,8 +6,6 @@
 
 mod builder;
 mod description;
-#[cfg(test)]
-mod tests;
 
 use anyhow::Result;
 use std::io;

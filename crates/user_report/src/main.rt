@@ -7,8 +7,6 @@
 
 mod report;
 mod rows;
-#[cfg(test)]
-mod tests;
 
 use anyhow::{Context, Result, ensure};
 use nonempty_collections::NEVec;

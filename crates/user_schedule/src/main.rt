@@ -6,8 +6,6 @@
 
 mod jobs;
 mod schedule;
-#[cfg(test)]
-mod tests;
 
 use anyhow::{Context, Result};
 use std::io;

@@ -2,12 +2,72 @@
 
 use super::{Change, Item, Items, Key, Make, Owner, Row, Table, every_call};
 use nonempty_collections::{
-    NEBTreeMap, NEBTreeSet, NEIndexMap, NEIndexSet, NEMap, NESet, Singleton, neis, nes,
+    NEBTreeMap, NEBTreeSet, NEIndexMap, NEIndexSet, NEMap, NESet, Singleton, neim, neis, nem, nes,
 };
 use std::alloc::{AllocError, Global};
 use std::hash::BuildHasherDefault;
 use std::num::NonZeroUsize;
 use std::test::Fail;
+
+// The calls that make a table with room of an item, which is passed as its parts and whole.
+macro_rules! made {
+    ($Table:ident, $call:expr, $alloc:expr, $($part:expr),*; $item:expr, $written:expr) => {{
+        let hasher = BuildHasherDefault::new();
+        let (one, forty) = (NonZeroUsize::MIN, NonZeroUsize::new(40).unwrap());
+        match $call {
+            Make::New => $Table::new($alloc, $($part),*),
+            Make::WithCapacity => $Table::with_capacity($alloc, one, $($part),*),
+            Make::WithHasher => $Table::with_hasher($alloc, hasher, $($part),*),
+            Make::WithCapacityAndHasher => {
+                $Table::with_capacity_and_hasher($alloc, forty, hasher, $($part),*)
+            }
+            Make::Singleton => Singleton::singleton($alloc, $item),
+            Make::Written => $written,
+        }
+    }};
+}
+
+// The calls on a map with room.
+macro_rules! changed_map {
+    ($map:expr, $call:expr, $item:expr) => {{
+        let (key, value) = $item;
+        match $call {
+            Change::Insert | Change::Replace => $map.insert(key, value).map(|_| ()),
+            Change::ExtendOne => $map.extend_one((key, value)),
+            _ => $map.shrink_to_fit(),
+        }
+    }};
+}
+
+// The calls on a set with room.
+macro_rules! changed_set {
+    ($set:expr, $call:expr, $item:expr) => {
+        match $call {
+            Change::Insert => $set.insert($item).map(|_| ()),
+            Change::Replace => $set.replace($item).map(|_| ()),
+            Change::ExtendOne => $set.extend_one($item),
+            _ => $set.shrink_to_fit(),
+        }
+    };
+}
+
+// How many numbers there are, or 0 if they are not those from 1 on, in order.
+macro_rules! counted {
+    ($table:expr, $item:pat => $number:expr) => {{
+        let mut next = 1u32..;
+        let rises = $table.iter().all(|$item| next.next() == Some($number));
+        if rises { $table.len().get() } else { 0 }
+    }};
+}
+
+// The same in any order: no two are equal, so it is enough if none is greater than their number.
+macro_rules! counted_in_any_order {
+    ($table:expr, $item:pat => $number:expr) => {{
+        let len = $table.len().get();
+        let all = $table.iter().all(|$item| 0 < $number && $number as usize <= len);
+        if all { len } else { 0 }
+    }};
+}
 
 // A node of a tree holds fifteen keys. For one more it becomes two nodes, below a third.
 impl Table for NEBTreeMap<Key, Owner> {
@@ -44,9 +104,7 @@ impl Table for NEBTreeMap<Key, Owner> {
     }
 
     fn count(&self) -> usize {
-        let mut next = 1u32..;
-        let rises = self.iter().all(|(key, _)| next.next() == Some(key.0));
-        if rises { self.len().get() } else { 0 }
+        counted!(self, (key, _) => key.0)
     }
 }
 
@@ -83,37 +141,18 @@ impl Table for NEBTreeSet<Item> {
     }
 
     fn count(&self) -> usize {
-        let mut next = 1u32..;
-        let rises = self.iter().all(|item| next.next() == Some(item.0.0));
-        if rises { self.len().get() } else { 0 }
+        counted!(self, item => item.0.0)
     }
 }
 
-// The order of a hashed table is unspecified: the numbers, no two of which are equal, are those
-// from 1 on if none is greater than the number of them.
 impl Table for NEMap<Key, Owner> {
     fn make(alloc: Global, call: Make, item: Item) -> Result<Self, AllocError> {
-        let hasher = BuildHasherDefault::new();
-        let (one, forty) = (NonZeroUsize::MIN, NonZeroUsize::new(40).unwrap());
         let (key, value) = item;
-        match call {
-            Make::New => NEMap::new(alloc, key, value),
-            Make::WithCapacity => NEMap::with_capacity(alloc, one, key, value),
-            Make::WithHasher => NEMap::with_hasher(alloc, hasher, key, value),
-            Make::WithCapacityAndHasher => {
-                NEMap::with_capacity_and_hasher(alloc, forty, hasher, key, value)
-            }
-            Make::Singleton | Make::Written => Singleton::singleton(alloc, (key, value)),
-        }
+        made!(NEMap, call, alloc, key, value; (key, value), nem![alloc; key => value])
     }
 
     fn change(&mut self, call: Change, item: Item) -> Result<(), AllocError> {
-        let (key, value) = item;
-        match call {
-            Change::Insert | Change::Replace => self.insert(key, value).map(|_| ()),
-            Change::ExtendOne => self.extend_one((key, value)),
-            _ => self.shrink_to_fit(),
-        }
+        changed_map!(self, call, item)
     }
 
     fn extend_by(&mut self, items: Items<'_>) -> Result<(), AllocError> {
@@ -121,37 +160,17 @@ impl Table for NEMap<Key, Owner> {
     }
 
     fn count(&self) -> usize {
-        let len = self.len().get();
-        let all = self
-            .iter()
-            .all(|(key, _)| 0 < key.0 && key.0 as usize <= len);
-        if all { len } else { 0 }
+        counted_in_any_order!(self, (key, _) => key.0)
     }
 }
 
 impl Table for NESet<Item> {
     fn make(alloc: Global, call: Make, item: Item) -> Result<Self, AllocError> {
-        let hasher = BuildHasherDefault::new();
-        let (one, forty) = (NonZeroUsize::MIN, NonZeroUsize::new(40).unwrap());
-        match call {
-            Make::New => NESet::new(alloc, item),
-            Make::WithCapacity => NESet::with_capacity(alloc, one, item),
-            Make::WithHasher => NESet::with_hasher(alloc, hasher, item),
-            Make::WithCapacityAndHasher => {
-                NESet::with_capacity_and_hasher(alloc, forty, hasher, item)
-            }
-            Make::Singleton => Singleton::singleton(alloc, item),
-            Make::Written => nes![alloc; item],
-        }
+        made!(NESet, call, alloc, item; item, nes![alloc; item])
     }
 
     fn change(&mut self, call: Change, item: Item) -> Result<(), AllocError> {
-        match call {
-            Change::Insert => self.insert(item).map(|_| ()),
-            Change::Replace => self.replace(item).map(|_| ()),
-            Change::ExtendOne => self.extend_one(item),
-            _ => self.shrink_to_fit(),
-        }
+        changed_set!(self, call, item)
     }
 
     fn extend_by(&mut self, items: Items<'_>) -> Result<(), AllocError> {
@@ -159,37 +178,18 @@ impl Table for NESet<Item> {
     }
 
     fn count(&self) -> usize {
-        let len = self.len().get();
-        let all = self
-            .iter()
-            .all(|item| 0 < item.0.0 && item.0.0 as usize <= len);
-        if all { len } else { 0 }
+        counted_in_any_order!(self, item => item.0.0)
     }
 }
 
 impl Table for NEIndexMap<Key, Owner> {
     fn make(alloc: Global, call: Make, item: Item) -> Result<Self, AllocError> {
-        let hasher = BuildHasherDefault::new();
-        let (one, forty) = (NonZeroUsize::MIN, NonZeroUsize::new(40).unwrap());
         let (key, value) = item;
-        match call {
-            Make::New => NEIndexMap::new(alloc, key, value),
-            Make::WithCapacity => NEIndexMap::with_capacity(alloc, one, key, value),
-            Make::WithHasher => NEIndexMap::with_hasher(alloc, hasher, key, value),
-            Make::WithCapacityAndHasher => {
-                NEIndexMap::with_capacity_and_hasher(alloc, forty, hasher, key, value)
-            }
-            Make::Singleton | Make::Written => Singleton::singleton(alloc, (key, value)),
-        }
+        made!(NEIndexMap, call, alloc, key, value; (key, value), neim![alloc; key => value])
     }
 
     fn change(&mut self, call: Change, item: Item) -> Result<(), AllocError> {
-        let (key, value) = item;
-        match call {
-            Change::Insert | Change::Replace => self.insert(key, value).map(|_| ()),
-            Change::ExtendOne => self.extend_one((key, value)),
-            _ => self.shrink_to_fit(),
-        }
+        changed_map!(self, call, item)
     }
 
     fn extend_by(&mut self, items: Items<'_>) -> Result<(), AllocError> {
@@ -197,35 +197,17 @@ impl Table for NEIndexMap<Key, Owner> {
     }
 
     fn count(&self) -> usize {
-        let mut next = 1u32..;
-        let rises = self.iter().all(|(key, _)| next.next() == Some(key.0));
-        if rises { self.len().get() } else { 0 }
+        counted!(self, (key, _) => key.0)
     }
 }
 
 impl Table for NEIndexSet<Item> {
     fn make(alloc: Global, call: Make, item: Item) -> Result<Self, AllocError> {
-        let hasher = BuildHasherDefault::new();
-        let (one, forty) = (NonZeroUsize::MIN, NonZeroUsize::new(40).unwrap());
-        match call {
-            Make::New => NEIndexSet::new(alloc, item),
-            Make::WithCapacity => NEIndexSet::with_capacity(alloc, one, item),
-            Make::WithHasher => NEIndexSet::with_hasher(alloc, hasher, item),
-            Make::WithCapacityAndHasher => {
-                NEIndexSet::with_capacity_and_hasher(alloc, forty, hasher, item)
-            }
-            Make::Singleton => Singleton::singleton(alloc, item),
-            Make::Written => neis![alloc; item],
-        }
+        made!(NEIndexSet, call, alloc, item; item, neis![alloc; item])
     }
 
     fn change(&mut self, call: Change, item: Item) -> Result<(), AllocError> {
-        match call {
-            Change::Insert => self.insert(item).map(|_| ()),
-            Change::Replace => self.replace(item).map(|_| ()),
-            Change::ExtendOne => self.extend_one(item),
-            _ => self.shrink_to_fit(),
-        }
+        changed_set!(self, call, item)
     }
 
     fn extend_by(&mut self, items: Items<'_>) -> Result<(), AllocError> {
@@ -233,9 +215,7 @@ impl Table for NEIndexSet<Item> {
     }
 
     fn count(&self) -> usize {
-        let mut next = 1u32..;
-        let rises = self.iter().all(|item| next.next() == Some(item.0.0));
-        if rises { self.len().get() } else { 0 }
+        counted!(self, item => item.0.0)
     }
 }
 
