@@ -253,7 +253,9 @@ def wanted_functions(examples):
             module.update({code: by_hand[code] for code in kept})
         elif not any(it.bare.startswith(example.bare) for it in others):
             name = example.about.lower()
-            while any(re.search(rf"^pub fn {name}\(", it, re.M) for it in module.values()):
+            # the names of other functions in the module, and of a function that the code calls
+            taken = [*module.values(), re.sub(r"(?<![.:\w])(\w+)\(", r"\npub fn \1(", example.bare)]
+            while any(re.search(rf"^pub fn {name}\(", it, re.M) for it in taken):
                 name += "_again"
             module[example.bare] = function(example, name)
     return {name: [*these.values()] for name, these in modules.items()}

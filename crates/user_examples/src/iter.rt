@@ -6,7 +6,7 @@ use nonempty_collections::{NEVec, NonEmptyIterator};
 use std::alloc::{AllocError, Global};
 
 /// The example of `once`.
-pub fn once(alloc: Global) -> Result<NEVec<u32>, AllocError>
+pub fn once_again(alloc: Global) -> Result<NEVec<u32>, AllocError>
     ensures { IfOk result (λ one. one ≡ 5 ∷ []) }
 {
     let one: NEVec<u32> = once(5).collect(alloc)?;
