@@ -46,13 +46,10 @@ fn gives(
     answer: Result<NEVec<Number>, AllocError>,
     values: &[u32],
 ) -> Result<(), Fail> {
-    match answer {
-        Ok(made) => {
-            holds(call, are(&made, values))?;
-            tell(rt, "made", call)
-        }
-        Err(AllocError) => tell(rt, "refused", call),
-    }
+    let is_made = answer.is_ok();
+    let is_right = answer.map_or(true, |made| are(&made, values));
+    holds(call, is_right)?;
+    tell(rt, if is_made { "made" } else { "refused" }, call)
 }
 
 #[test]

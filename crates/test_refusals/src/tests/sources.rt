@@ -60,13 +60,26 @@ fn into_nonempty_vec(rt: HostRuntime) -> Result<(), Fail> {
     )
 }
 
-// Chains of adapters that do not allocate, used up: the greatest item is 9 at last. They are short,
-// because the time of their check grows fast with their length.
-fn greatest() -> u32 {
+// Chains of adapters that do not allocate, used up. They are short, and each is a function, because
+// the time of a check grows fast with a chain's length. The greatest of twice the items:
+fn doubled() -> u32 {
     let looked_at = [1u32, 2, 3].into_nonempty_iter().peekable();
-    let doubled = looked_at.map(|x| x.wrapping_mul(2)).max();
-    let twice = once(doubled).flat_map(|x| [x, 9]).max();
-    let place = once(twice).enumerate().max().0 as u32;
+    looked_at.map(|x| x.wrapping_mul(2)).max()
+}
+
+// 9, if the number is less.
+fn at_least_nine(number: u32) -> u32 {
+    once(number).flat_map(|x| [x, 9]).max()
+}
+
+// The index 0.
+fn place(number: u32) -> u32 {
+    once(number).enumerate().max().0 as u32
+}
+
+// 9.
+fn greatest() -> u32 {
+    let place = place(at_least_nine(doubled()));
     once(place).chain(once(9)).zip([7u32; 2]).max().0
 }
 
