@@ -3,7 +3,7 @@ ghost use Rattle.std.specs.Prelude.{◌≡◌, MatchResult};
 ghost use Rattle.user_queries.specs.Descriptions.{IsDescribedBy, IsWrong};
 
 use crate::builder::Query;
-use anyhow::{Context, Result, bail};
+use anyhow::{Context, Result};
 use std::alloc::{AllocError, Global};
 use std::error::Error;
 use std::fmt;

@@ -2,7 +2,6 @@
 
 use super::{Countdown, holds, is, leaves, pair, same, tell, two};
 use nonempty_collections::Singleton;
-use std::alloc::AllocError;
 use std::convert::AsSlice;
 use std::test::Fail;
 

@@ -2,7 +2,7 @@
 
 use super::{leaves, tell};
 use nonempty_collections::NEVec;
-use std::alloc::{AllocError, Global};
+use std::alloc::Global;
 use std::test::Fail;
 
 // Twenty-one items, in falling order.
