@@ -87,13 +87,13 @@ pub fn contains(alloc: Global) -> Result<(bool, bool), AllocError>
     Ok((there, absent))
 }
 
-/// The example of `difference`.
+/// By hand. Iterates over the items that are only in the first set.
 pub fn difference(alloc: Global) -> Result<Vec<u32>, AllocError>
     ensures { IfOk result (λ v. v.items ≡ 2 ∷ 4 ∷ []) }
 {
     let (a, b) = (neis![alloc; 2, 4, 6]?, neis![alloc; 6]?);
     let left = a.difference(&b);
-    left.copied().collect(alloc)
+    Ok(left.copied().collect(alloc)?)
 }
 
 /// The example of `insert`.
@@ -108,13 +108,13 @@ pub fn insert(alloc: Global) -> Result<(bool, bool, NEIndexSet<u32>), AllocError
     Ok((added, again, set))
 }
 
-/// The example of `intersection`.
+/// By hand. Iterates over the items that are in both sets.
 pub fn intersection(alloc: Global) -> Result<Vec<u32>, AllocError>
     ensures { IfOk result (λ v. v.items ≡ 3 ∷ []) }
 {
     let (a, b) = (neis![alloc; 0, 3]?, neis![alloc; 3, 1]?);
     let shared = a.intersection(&b);
-    shared.copied().collect(alloc)
+    Ok(shared.copied().collect(alloc)?)
 }
 
 /// The example of `is_disjoint`.
