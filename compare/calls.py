@@ -446,6 +446,53 @@ try_from_vec 2 3 4 1 5
 all_unique
 try_from_vec 0 1
 cartesian_product 7 8
+try_from_vec 1
+intersperse 0
+run_vec
+try_from_vec 1 2
+copied
+collect_unit
+try_from_vec 1 2 3
+intersperse 0
+flat_map
+max_by calls
+try_from_vec 0 1 2
+nth 2
+nth 3
+try_from_vec 0 1 2 3
+peek_mut 7
+try_from_vec 1 1 2
+collect_vec
+collect_hash_set 1 2
+collect_tree_set
+try_from_vec 1 1 2 2
+group_by
+try_from_vec 1 1 2 3
+group_by
+try_from_vec 9 9 9 9 9
+group_by pairs
+try_from_vec 1 1 1 2 3 2 2 1
+dedup
+try_from_vec 2 1 8
+collect_result
+try_from_vec 2 4 8
+collect_result
+try_from_vec 2 4 6 7 8
+take_while
+skip_while
+try_from_vec 1 2 3 3 5 6 7
+partition_point 5
+try_from_vec 0 1 1 1 1 2 3 5 8 13 21 34 55
+binary_search 13
+binary_search 4
+binary_search 100
+try_from_vec 1 2 3 4 5 6 7
+nonempty_chunks 3
+nonempty_chunks 4294967295
+try_from_vec 20 18 30 30
+sorted_by_key falling
+try_from_vec 5
+chain
 """
 
 

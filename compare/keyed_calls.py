@@ -331,6 +331,7 @@ debug
 extend 6 23 2 24
 extend_one 8 25
 extend_one 5 26
+insert 5 28
 clone
 contains_key 2
 contains_key 10

@@ -14,6 +14,7 @@ mod numbers;
 mod own_sources;
 mod products;
 mod random;
+mod rows;
 mod runs;
 mod searches;
 mod separators;

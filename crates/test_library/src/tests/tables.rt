@@ -4,6 +4,7 @@
 use super::{is, of};
 use nonempty_collections::{NEBTreeMap, NEBTreeSet, NEIndexMap, NEIndexSet, NEMap, NESet};
 use std::alloc::{AllocError, Global};
+use std::collections::{HashMap, HashSet};
 use std::hash::{BuildHasher, BuildHasherDefault, FoldHasher, Hasher};
 use std::rc::Rc;
 use std::test::Fail;
@@ -288,6 +289,17 @@ fn numbered_hashers(rt: HostRuntime) -> Result<(), Fail> {
     let map = NEIndexMap::with_capacity_and_hasher(alloc, four, of_number(7), 1, 'a')?;
     let set = NEIndexSet::with_capacity_and_hasher(alloc, four, of_number(8), 1)?;
     is([map.hasher().number, set.hasher().number], [7, 8])
+}
+
+// Conversions keep the hasher.
+#[test]
+fn converted_hashers(rt: HostRuntime) -> Result<(), Fail> {
+    let map = HashMap::from(NEMap::with_hasher(rt.alloc(), of_number(5), 1, 'a')?);
+    let set = HashSet::from(NESet::with_hasher(rt.alloc(), of_number(6), 1)?);
+    is([map.hasher().number, set.hasher().number], [5, 6])?;
+    let map = NEMap::try_from_map(map).ok_or("no key")?;
+    let set = NESet::try_from_set(set).ok_or("no item")?;
+    is([map.hasher().number, set.hasher().number], [5, 6])
 }
 
 // There is no memory for so many keys.
