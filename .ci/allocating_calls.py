@@ -32,7 +32,7 @@ CLAUSE = r"ensures (\w*) ?\{ (OnErr|ExtendsWithItems|IsUnchanged|IsReordered)\b"
 # clone of the items fails, which is tested in `test_library`; and calls that are tested under
 # another name.
 EXCUSED = {
-    *("NESlice::clone", "Iter::clone", "Keys::clone", "Values::clone", "collect into ()"),
+    *("NESlice::clone", "Iter::clone", "NonEmptyIter::clone", "collect into ()"),
     *("RawIntersperse::next", "FromNonEmptyIterator::from_nonempty_iter", "NonEmptyMap::put"),
     "ne_indexmap",
 }

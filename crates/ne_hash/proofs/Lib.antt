@@ -1,5 +1,3 @@
-pub mod Cloned
-pub mod Collect
+pub mod HashInserts
 pub mod Same
 pub mod Single
-pub mod UnionShown

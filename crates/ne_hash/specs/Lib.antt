@@ -1,4 +1,1 @@
-pub mod Clones
-pub mod Lends
-pub mod SameMap
-pub mod UnionWalks
+pub mod HashLends

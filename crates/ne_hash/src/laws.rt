@@ -4,7 +4,7 @@ ghost use Rattle.std.specs.Prelude.{◌≡◌, ◌↔◌, List, Ok, Result};
 ghost use Rattle.std.specs.HashMap.{HashMap as Entries, get};
 ghost use Rattle.std.specs.HashSet.{HashSet as Keys, IsSameSet};
 ghost use Rattle.ne_vec.specs.declared.Error.{Error};
-ghost use Rattle.ne_hash.specs.SameMap.{IsSameMap};
+ghost use Rattle.ne_iter.specs.SameMap.{IsSameMap};
 
 use crate::{NEMap, NESet};
 use ne_iter::{FromNonEmptyIterator, Singleton};
@@ -31,15 +31,15 @@ pub fn hashed_sets_come_back<T: Eq + Hash + Drop, S: BuildHasher + Drop>()
 
 /// Equality of maps by `==` is symmetric and transitive for all values that implement `PartialEq`.
 pub fn hashed_map_equality_is_symmetric_and_transitive<K: Eq + Hash, V: PartialEq, S: BuildHasher>()
-    ensures symmetric { (m n : Entries K V S) → IsSameMap K.eq V.eq m n
-        → IsSameMap K.eq V.eq n m }
-    ensures transitive { (m n o : Entries K V S) → IsSameMap K.eq V.eq m n
-        → IsSameMap K.eq V.eq n o → IsSameMap K.eq V.eq m o }
+    ensures symmetric { (m n : Entries K V S) → IsSameMap V.eq (get K.eq m) (get K.eq n)
+        → IsSameMap V.eq (get K.eq n) (get K.eq m) }
+    ensures transitive { (m n o : Entries K V S) → IsSameMap V.eq (get K.eq m) (get K.eq n)
+        → IsSameMap V.eq (get K.eq n) (get K.eq o) → IsSameMap V.eq (get K.eq m) (get K.eq o) }
 {}
 
 /// If each value equals itself, so does each map.
 pub fn hashed_map_equality_is_reflexive<K: Eq + Hash, V: Eq, S: BuildHasher>()
-    ensures { (m : Entries K V S) → IsSameMap K.eq V.eq m m }
+    ensures { (m : Entries K V S) → IsSameMap V.eq (get K.eq m) (get K.eq m) }
 {}
 
 /// Equality of sets by `==` is reflexive, symmetric and transitive.

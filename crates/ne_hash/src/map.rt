@@ -2,39 +2,40 @@
 //!
 //! An [`NEMap`] finds a key by its hash, and iterates in an unspecified order. Keys are compared by
 //! `==`. A key that is in the map stays as it is if an equal one is inserted.
-ghost use Rattle.std.specs.Prelude.{◌≡◌, ◌+◌, ◌<◌, ◌≤◌, ◌^◌, ◌++◌, [], ◌∷◌, false, List, None};
-ghost use Rattle.std.specs.Prelude.{if◌then◌else◌, is_some, IfOk, IfSome, IsOk, IsSome};
+ghost use Rattle.std.specs.Prelude.{◌≡◌, ◌+◌, ◌<◌, ◌≤◌, ◌^◌, ◌++◌, [], ◌∷◌, false, None};
+ghost use Rattle.std.specs.Prelude.{if◌then◌else◌, is_some, length, IfOk, IfSome, IsOk, IsSome};
 ghost use Rattle.std.specs.Prelude.{MatchOption, OnErr, OnOk, Some};
 ghost use Rattle.std.specs.HashMap.{get, get_key, hash_map_len, hasher_of, keys, spare, values};
 ghost use Rattle.std.specs.HashMap.{IsEmpty, IsReordered, IsUnchanged, IsUnique, PutsEntry};
-ghost use Rattle.std.specs.HashMap.{Updates};
+ghost use Rattle.std.specs.HashMap.{IsClone, Updates};
 ghost use Rattle.std.specs.HashMap.IterMut.{iter_mut_rest, IterMutCanStep};
 ghost use Rattle.std.specs.HashMap.Lent.{KeepsKeys};
 ghost use Rattle.std.specs.Borrow.{sem};
 ghost use Rattle.std.specs.Int.NonZero.{non_zero_usize_get};
 ghost use Rattle.std.specs.Iterator.{ExtendsWithItems, IsFiniteIterable};
 ghost use Rattle.std.specs.List.{IsAmong};
-ghost use Rattle.std.specs.Map.Iter.{LendsValuesInOrder, ShowsInOrder, ShowsValuesInOrder};
-ghost use Rattle.std.specs.Map.Iter.{deref, deref_pair};
+ghost use Rattle.std.specs.Map.Iter.{LendsValuesInOrder, ShowsInOrder, ShowsValuesInOrder, deref};
+ghost use Rattle.std.specs.Map.Iter.{deref_pair};
 ghost use Rattle.std.specs.Option.{option_copied, option_copied_mut, option_map};
 ghost use Rattle.std.specs.Set.{is_member};
+ghost use Rattle.ne_vec.specs.Lists.{itself};
 ghost use Rattle.ne_iter.specs.Collected.{IsMapOf};
 ghost use Rattle.ne_iter.specs.ExtendLists.{ExtendsByList};
-ghost use Rattle.ne_iter.specs.KeyWalks.{KeyWalkShows};
+ghost use Rattle.ne_iter.specs.KeyIterators.{ListsEntries};
 ghost use Rattle.ne_iter.specs.SourceLists.{MeetsList};
-ghost use Rattle.ne_hash.specs.Clones.{IsCloneOfMap};
-ghost use Rattle.ne_hash.specs.Lends.{LendsValue, LendsValues, std_walk};
+ghost use Rattle.ne_hash.specs.HashLends.{std_iterator, LendsValue, LendsValues};
+ghost use Rattle.ne_iter.specs.KeyClones.{KeepsEntries};
 
+mod iter;
 mod traits;
-mod walks;
 
-use ne_iter::iter::SourceWords;
+pub use iter::{Held, IntoIter, Iter, IterMut, Keys, Values};
+use ne_iter::iter::{NonEmptyIter, Source};
 use std::alloc::{AllocError, Global};
 use std::collections::{HashMap, hash_map};
 use std::hash::{BuildHasher, BuildHasherDefault, FoldHasher, Hash};
 use std::marker::Model;
 use std::num::NonZeroUsize;
-pub use walks::{IntoIter, Iter, IterMut, Keys, Values};
 
 /// A hashed map that holds at least one key. It wraps std's [`HashMap`].
 ///
@@ -215,13 +216,11 @@ impl<K: Eq + Hash, V, S: BuildHasher> NEMap<K, V, S> {
     /// ```
     pub fn nonempty_iter(&self) -> Iter<'_, K, V>
         ensures entries { result ≡ self.now.entries }
-        ensures shows { KeyWalkShows (deref_pair {K = K} {X = V}) result self.now.entries }
+        ensures lists { ListsEntries (deref_pair {K = K} {X = V}) result self.now.entries }
         ensures unique { IsUnique K.eq self.now }
         ensures nonempty { 0 < hash_map_len self.now }
     {
-        Iter {
-            inner: self.inner.iter(),
-        }
+        NonEmptyIter::new(self.inner.iter())
     }
 
     /// Returns a non-empty iterator over the pairs with mutable references to the values, in an
@@ -235,10 +234,10 @@ impl<K: Eq + Hash, V, S: BuildHasher> NEMap<K, V, S> {
     /// ```
     pub fn nonempty_iter_mut(&mut self) -> IterMut<'_, K, V>
         ensures* writes_back { sem 𝓛 (LendsValues K.row V.row S.row S.Hasher.row K.Hash
-            S.BuildHasher S.Hasher.Hasher self.entry (std_walk result)) }
+            S.BuildHasher S.Hasher.Hasher self.entry (std_iterator result)) }
         ensures keeps { KeepsKeys self.old }
-        ensures ready { IterMutCanStep (std_walk result) }
-        ensures rest { iter_mut_rest (std_walk result) ≡ self.old.entries }
+        ensures ready { IterMutCanStep (std_iterator result) }
+        ensures rest { iter_mut_rest (std_iterator result) ≡ self.old.entries }
         ensures unique { IsUnique K.eq self.old }
         ensures fits { hash_map_len self.old < 2 ^ 63 }
         ensures values_run { LendsValuesInOrder (iter_mut_rest {K = K} {X = V}) }
@@ -258,14 +257,13 @@ impl<K: Eq + Hash, V, S: BuildHasher> NEMap<K, V, S> {
     /// ```
     pub fn keys(&self) -> Keys<'_, K, V>
         ensures keys { result ≡ keys self.now }
-        ensures shows { KeyWalkShows (deref {X = K}) result (keys self.now) }
+        ensures lists { ListsEntries (deref {X = K}) result (keys self.now) }
         ensures found { (q : K) → is_some (get K.eq self.now q) ≡ is_member K.eq result q }
+        ensures len { length result ≡ hash_map_len self.now }
         ensures unique { IsUnique K.eq self.now }
         ensures nonempty { 0 < hash_map_len self.now }
     {
-        Keys {
-            inner: self.inner.keys(),
-        }
+        NonEmptyIter::new(self.inner.keys())
     }
 
     /// Returns the number of keys, which is at least 1.
@@ -300,13 +298,12 @@ impl<K: Eq + Hash, V, S: BuildHasher> NEMap<K, V, S> {
     /// ```
     pub fn values(&self) -> Values<'_, K, V>
         ensures values { result ≡ values self.now }
-        ensures shows { KeyWalkShows (deref {X = V}) result (values self.now) }
+        ensures lists { ListsEntries (deref {X = V}) result (values self.now) }
+        ensures len { length result ≡ hash_map_len self.now }
         ensures unique { IsUnique K.eq self.now }
         ensures nonempty { 0 < hash_map_len self.now }
     {
-        Values {
-            inner: self.inner.values(),
-        }
+        NonEmptyIter::new(self.inner.values())
     }
 
     /// Returns whether the map holds a key equal to `k`.
@@ -477,8 +474,8 @@ impl<K: Eq + Hash, V, S: BuildHasher> NEMap<K, V, S> {
         ensures ran { ExtendsWithItems I.into_iter_gives I.IntoIter.next_gives
             (λ old pairs new. IsMapOf K.eq (old.entries ++ pairs) new.entries)
             iter self.old self.new result }
-        ensures lists { OnOk result (ExtendsByList (⟦<I as SourceWords>⟧.lists)
-            (MeetsList I.into_iter_gives I.IntoIter.next_gives) iter self.old.entries
+        ensures lists { OnOk result (ExtendsByList (⟦<I as Source>⟧.lists itself)
+            (MeetsList I.into_iter_gives I.IntoIter.next_gives itself) iter self.old.entries
             (λ all. IsMapOf K.eq all self.new.entries)) }
         ensures unique { IsUnique K.eq self.new }
         ensures nonempty { 0 < hash_map_len self.new }
@@ -505,7 +502,8 @@ impl<K: Eq + Hash, V, S: BuildHasher> NEMap<K, V, S> {
         K: Clone,
         V: Clone,
         S: Clone,
-        ensures clones { IfOk result (IsCloneOfMap K.is_clone V.is_clone self.now) }
+        ensures clones { IfOk result (λ m. IsClone K.is_clone V.is_clone self.now m
+            × KeepsEntries K.is_clone V.is_clone self.now.entries m.entries) }
         ensures unique { IfOk result (IsUnique K.eq) }
         ensures nonempty { IfOk result (λ m. 0 < hash_map_len m) }
     {

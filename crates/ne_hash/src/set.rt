@@ -7,31 +7,31 @@ ghost use Rattle.std.specs.Prelude.{if◌then◌else◌, is_some, length, IfOk, 
 ghost use Rattle.std.specs.Prelude.{MatchOption, OnErr, OnOk};
 ghost use Rattle.std.specs.Bool.{OnFalse};
 ghost use Rattle.std.specs.HashSet.{contains, get, hash_set_len, hasher_of, spare, AreKeysOf};
-ghost use Rattle.std.specs.HashSet.{IsDifference, IsDisjoint, IsEmpty, IsIntersection};
-ghost use Rattle.std.specs.HashSet.{IsReordered, IsSubset, IsUnchanged, IsUnion, IsUnique};
-ghost use Rattle.std.specs.HashSet.{PutsKey, ReplacesKey, Updates};
+ghost use Rattle.std.specs.HashSet.{IsDifference, IsDisjoint, IsEmpty, IsIntersection, IsReordered};
+ghost use Rattle.std.specs.HashSet.{IsSubset, IsUnchanged, IsUnion, IsUnique, IsClone, PutsKey};
+ghost use Rattle.std.specs.HashSet.{ReplacesKey, Updates};
 ghost use Rattle.std.specs.Int.NonZero.{non_zero_usize_get};
 ghost use Rattle.std.specs.Iterator.{ExtendsWithItems, IsFiniteIterable};
 ghost use Rattle.std.specs.List.{IsDistinct};
 ghost use Rattle.std.specs.Map.Iter.{ShowsInOrder, deref};
 ghost use Rattle.std.specs.Option.{option_copied};
+ghost use Rattle.ne_vec.specs.Lists.{itself};
 ghost use Rattle.ne_iter.specs.Collected.{IsSetOf};
 ghost use Rattle.ne_iter.specs.ExtendLists.{ExtendsByList};
-ghost use Rattle.ne_iter.specs.KeyWalks.{KeyWalkShows};
+ghost use Rattle.ne_iter.specs.KeyIterators.{ListsEntries, ListsUnion};
 ghost use Rattle.ne_iter.specs.SourceLists.{MeetsList};
-ghost use Rattle.ne_hash.specs.Clones.{IsCloneOfSet};
-ghost use Rattle.ne_hash.specs.UnionWalks.{UnionShows};
+ghost use Rattle.ne_iter.specs.KeyClones.{KeepsItems};
 
+mod iter;
 mod traits;
-mod walks;
 
-use ne_iter::iter::SourceWords;
+pub use iter::{Held, IntoIter, Iter, Union};
+use ne_iter::iter::{NonEmptyIter, Source};
 use std::alloc::{AllocError, Global};
 use std::collections::{HashSet, hash_set};
 use std::hash::{BuildHasher, BuildHasherDefault, FoldHasher, Hash};
 use std::marker::Model;
 use std::num::NonZeroUsize;
-pub use walks::{IntoIter, Iter, Union};
 
 /// A hashed set that holds at least one item. It wraps std's [`HashSet`].
 ///
@@ -114,13 +114,11 @@ impl<T: Eq + Hash, S: BuildHasher> NESet<T, S> {
     /// ```
     pub fn nonempty_iter(&self) -> Iter<'_, T>
         ensures keys { result ≡ self.now.keys }
-        ensures shows { KeyWalkShows (deref {X = T}) result self.now.keys }
+        ensures lists { ListsEntries (deref {X = T}) result self.now.keys }
         ensures unique { IsUnique T.eq self.now }
         ensures nonempty { 0 < hash_set_len self.now }
     {
-        Iter {
-            inner: self.inner.iter(),
-        }
+        NonEmptyIter::new(self.inner.iter())
     }
 
     /// Returns the number of items, which is at least 1.
@@ -412,12 +410,10 @@ impl<T: Eq + Hash, S: BuildHasher> NESet<T, S> {
         ensures members { IsUnion T.eq self.now other.now result }
         ensures unique { IsDistinct T.eq result }
         ensures stored { AreKeysOf self.now other.now result }
-        ensures shows { UnionShows result result }
+        ensures lists { ListsUnion result result }
         ensures nonempty { 0 < length result }
     {
-        Union {
-            inner: self.inner.union(&other.inner),
-        }
+        NonEmptyIter::new(self.inner.union(&other.inner))
     }
 
     /// Creates a set that holds the item `value`, with the hasher `hasher` and room for at least
@@ -483,8 +479,8 @@ impl<T: Eq + Hash, S: BuildHasher> NESet<T, S> {
         ensures ran { ExtendsWithItems I.into_iter_gives I.IntoIter.next_gives
             (λ old items new. IsSetOf T.eq (old.keys ++ items) new.keys)
             iter self.old self.new result }
-        ensures lists { OnOk result (ExtendsByList (⟦<I as SourceWords>⟧.lists)
-            (MeetsList I.into_iter_gives I.IntoIter.next_gives) iter self.old.keys
+        ensures lists { OnOk result (ExtendsByList (⟦<I as Source>⟧.lists itself)
+            (MeetsList I.into_iter_gives I.IntoIter.next_gives itself) iter self.old.keys
             (λ all. IsSetOf T.eq all self.new.keys)) }
         ensures unique { IsUnique T.eq self.new }
         ensures nonempty { 0 < hash_set_len self.new }
@@ -510,7 +506,8 @@ impl<T: Eq + Hash, S: BuildHasher> NESet<T, S> {
     where
         T: Clone,
         S: Clone,
-        ensures clones { IfOk result (IsCloneOfSet T.is_clone self.now) }
+        ensures clones { IfOk result (λ s. IsClone T.is_clone self.now s
+            × KeepsItems T.is_clone self.now.keys s.keys) }
         ensures unique { IfOk result (IsUnique T.eq) }
         ensures nonempty { IfOk result (λ s. 0 < hash_set_len s) }
     {

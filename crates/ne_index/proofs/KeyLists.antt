@@ -1,6 +1,6 @@
 -- Keys that are inserted one by one are their key list.
-use Rattle.std.proofs.Common.{◌≡◌, Bool, true, false, cond, ◌||◌, List, [], ◌∷◌, ◌++◌, refl}
-use Rattle.std.proofs.Common.{sym, ap, subst, ◌∙◌, append_assoc, append-nil, if◌then◌else◌}
+use Rattle.std.proofs.Common.{◌≡◌, Bool, true, false, cond, ◌||◌, List, [], ◌∷◌, ◌++◌, refl, sym}
+use Rattle.std.proofs.Common.{ap, subst, ◌∙◌, append_assoc, append-nil, if◌then◌else◌}
 use Rattle.std.proofs.lemmas.Map.Keys.{IsDistinct-push}
 use Rattle.std.proofs.lemmas.Map.Steps.{list_any_congr}
 use Rattle.std.specs.Cmp.{IsEquivalence}
@@ -143,9 +143,9 @@ module _ {K : Type 0} (eq : K → K → Bool) where
       by false h = ap (λ l. x ∷ l) h
 
   -- The key list of a list begins with the key list of its front.
-  pub key_list-front : (front more : List K)
+  pub key_list-prefix : (front more : List K)
       → key_list eq (front ++ more) ≡ key_list eq front ++ first_seen eq front more
-  key_list-front front more = first_seen-behind [] front more
+  key_list-prefix front more = first_seen-behind [] front more
 
   joins : (b : Bool) (ks : List K) (k : K)
       → (if b then ks else ks ++ k ∷ []) ≡ ks ++ cond b [] (k ∷ [])

@@ -1,6 +1,4 @@
-pub mod Cloned
-pub mod Collect
+pub mod IndexInserts
 pub mod KeyLists
 pub mod Put
 pub mod SameEntries
-pub mod UnionShown

@@ -1,16 +1,16 @@
 -- Inserting one pair or item, as the crate `indexmap` does it.
-use Rattle.std.proofs.Common.{◌≡◌, Bool, true, false, cond, not, ◌||◌, List, [], ◌∷◌}
-use Rattle.std.proofs.Common.{◌++◌, if◌then◌else◌, refl, sym, ap, subst, ◌∙◌}
-use Rattle.std.proofs.Common.{Option, None, Some, is_some, true≢false}
+use Rattle.std.proofs.Common.{◌≡◌, Bool, true, false, cond, not, ◌||◌, List, [], ◌∷◌, ◌++◌}
+use Rattle.std.proofs.Common.{if◌then◌else◌, refl, sym, ap, subst, ◌∙◌, Option, None, Some, is_some}
+use Rattle.std.proofs.Common.{true≢false}
 use Rattle.std.specs.Prelude.{IfNone, IsSome}
 use Rattle.std.specs.Bool.{OnTrue}
 use Rattle.std.specs.List.{find, list_any}
 use Rattle.std.specs.Map.{keys_of}
 use Rattle.std.specs.Set.{is_member, swap_key}
-use Rattle.indexmap.proofs.CallerLemmas.{insert_entry-new, keys-insert_entry-present}
 use Rattle.indexmap.specs.IndexMap.{IndexMap, get, insert_entry, keys}
 use Rattle.indexmap.specs.IndexSet.{insert_key, replace_key}
 use Rattle.ne_index.specs.Puts.{put_entry, put_in_place, put_item}
+use Rattle.indexmap.proofs.CallerLemmas.{insert_entry-new, keys-insert_entry-present}
 
 module _ {K : Type 0} (eq : K → K → Bool) where
   module _ {V : Type 0} where

@@ -1,6 +1,3 @@
-pub mod Clones
 pub mod KeyListSets
-pub mod Lends
+pub mod IndexLends
 pub mod Puts
-pub mod SameMap
-pub mod UnionWalks

@@ -13,27 +13,28 @@ ghost use Rattle.std.specs.List.{swap, IsAmong};
 ghost use Rattle.std.specs.Map.Iter.{ShowsInOrder, ShowsValuesInOrder, deref, deref_pair};
 ghost use Rattle.std.specs.Option.{option_copied, option_copied_mut, option_map};
 ghost use Rattle.std.specs.Set.{is_member};
+ghost use Rattle.ne_vec.specs.Lists.{itself};
 ghost use Rattle.indexmap.specs.IndexMap.{get, get_key, hasher_of, index_map_len, index_of, keys};
 ghost use Rattle.indexmap.specs.IndexMap.{spare, values, IsEmpty, IsReordered, IsUnchanged};
-ghost use Rattle.indexmap.specs.IndexMap.{IsUnique, Updates};
+ghost use Rattle.indexmap.specs.IndexMap.{IsClone, IsUnique, Updates};
 ghost use Rattle.ne_iter.specs.ExtendLists.{ExtendsByList};
+ghost use Rattle.ne_iter.specs.KeyClones.{KeepsEntries};
 ghost use Rattle.ne_iter.specs.KeyList.{IsKeyListMapOf};
-ghost use Rattle.ne_iter.specs.KeyWalks.{KeyWalkShows};
+ghost use Rattle.ne_iter.specs.KeyIterators.{ListsEntries};
 ghost use Rattle.ne_iter.specs.SourceLists.{MeetsList};
-ghost use Rattle.ne_index.specs.Clones.{IsCloneOfMap};
-ghost use Rattle.ne_index.specs.Lends.{LendsValue};
+ghost use Rattle.ne_index.specs.IndexLends.{LendsValue};
 ghost use Rattle.ne_index.specs.Puts.{put_entry, put_item};
 
+mod iter;
 mod traits;
-mod walks;
 
 use indexmap::{IndexMap, map};
-use ne_iter::iter::SourceWords;
+pub use iter::{Held, IntoIter, Iter, Keys, Values};
+use ne_iter::iter::{NonEmptyIter, Source};
 use std::alloc::{AllocError, Global};
 use std::hash::{BuildHasher, BuildHasherDefault, FoldHasher, Hash};
 use std::marker::Model;
 use std::num::NonZeroUsize;
-pub use walks::{IntoIter, Iter, Keys, Values};
 
 /// An index map that holds at least one key. It wraps [`IndexMap`] of the crate `indexmap`.
 ///
@@ -112,13 +113,11 @@ impl<K: Eq + Hash, V, S: BuildHasher> NEIndexMap<K, V, S> {
     /// ```
     pub fn nonempty_iter(&self) -> Iter<'_, K, V>
         ensures entries { result ≡ self.now.entries }
-        ensures shows { KeyWalkShows (deref_pair {K = K} {X = V}) result self.now.entries }
+        ensures lists { ListsEntries (deref_pair {K = K} {X = V}) result self.now.entries }
         ensures unique { IsUnique K.eq self.now }
         ensures nonempty { 0 < index_map_len self.now }
     {
-        Iter {
-            inner: self.inner.iter(),
-        }
+        NonEmptyIter::new(self.inner.iter())
     }
 
     /// Returns a non-empty iterator over the keys, in the map's order.
@@ -129,14 +128,12 @@ impl<K: Eq + Hash, V, S: BuildHasher> NEIndexMap<K, V, S> {
     /// ```
     pub fn keys(&self) -> Keys<'_, K, V>
         ensures keys { result ≡ keys self.now }
-        ensures shows { KeyWalkShows (deref {X = K}) result (keys self.now) }
+        ensures lists { ListsEntries (deref {X = K}) result (keys self.now) }
         ensures found { (q : K) → is_some (get K.eq self.now q) ≡ is_member K.eq result q }
         ensures unique { IsUnique K.eq self.now }
         ensures nonempty { 0 < index_map_len self.now }
     {
-        Keys {
-            inner: self.inner.keys(),
-        }
+        NonEmptyIter::new(self.inner.keys())
     }
 
     /// Returns the number of keys, which is at least 1.
@@ -171,12 +168,10 @@ impl<K: Eq + Hash, V, S: BuildHasher> NEIndexMap<K, V, S> {
     /// ```
     pub fn values(&self) -> Values<'_, K, V>
         ensures values { result ≡ values self.now }
-        ensures shows { KeyWalkShows (deref {X = V}) result (values self.now) }
+        ensures lists { ListsEntries (deref {X = V}) result (values self.now) }
         ensures nonempty { 0 < index_map_len self.now }
     {
-        Values {
-            inner: self.inner.values(),
-        }
+        NonEmptyIter::new(self.inner.values())
     }
 
     /// Returns the first pair.
@@ -503,8 +498,8 @@ impl<K: Eq + Hash, V, S: BuildHasher> NEIndexMap<K, V, S> {
             (λ old pairs new. IsKeyListMapOf K.eq (old.entries ++ pairs) new.entries
             × (hasher_of new ≡ hasher_of old))
             iter self.old self.new result }
-        ensures lists { OnOk result (ExtendsByList (⟦<I as SourceWords>⟧.lists)
-            (MeetsList I.into_iter_gives I.IntoIter.next_gives) iter self.old.entries
+        ensures lists { OnOk result (ExtendsByList (⟦<I as Source>⟧.lists itself)
+            (MeetsList I.into_iter_gives I.IntoIter.next_gives itself) iter self.old.entries
             (λ all. IsKeyListMapOf K.eq all self.new.entries)) }
         ensures hasher { hasher_of self.new ≡ hasher_of self.old }
         ensures unique { IsUnique K.eq self.new }
@@ -532,7 +527,8 @@ impl<K: Eq + Hash, V, S: BuildHasher> NEIndexMap<K, V, S> {
         K: Clone,
         V: Clone,
         S: Clone,
-        ensures clones { IfOk result (IsCloneOfMap K.is_clone V.is_clone self.now) }
+        ensures clones { IfOk result (λ m. IsClone K.is_clone V.is_clone self.now m
+            × KeepsEntries K.is_clone V.is_clone self.now.entries m.entries) }
         ensures unique { IfOk result (IsUnique K.eq) }
         ensures nonempty { IfOk result (λ m. 0 < index_map_len m) }
     {

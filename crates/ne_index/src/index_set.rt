@@ -11,28 +11,28 @@ ghost use Rattle.std.specs.Iterator.{ExtendsWithItems, IsFiniteIterable};
 ghost use Rattle.std.specs.List.{IsDistinct};
 ghost use Rattle.std.specs.Map.Iter.{ShowsInOrder, deref};
 ghost use Rattle.std.specs.Option.{option_copied};
+ghost use Rattle.ne_vec.specs.Lists.{itself};
 ghost use Rattle.indexmap.specs.IndexSet.{contains, difference, get, hasher_of, index_set_len};
 ghost use Rattle.indexmap.specs.IndexSet.{intersection, spare, union, IsDifference, IsDisjoint};
 ghost use Rattle.indexmap.specs.IndexSet.{IsEmpty, IsIntersection, IsSubset, IsUnchanged, IsUnion};
-ghost use Rattle.indexmap.specs.IndexSet.{IsUnique, Updates};
+ghost use Rattle.indexmap.specs.IndexSet.{IsClone, IsUnique, Updates};
 ghost use Rattle.ne_iter.specs.ExtendLists.{ExtendsByList};
-ghost use Rattle.ne_iter.specs.KeyWalks.{KeyWalkShows};
+ghost use Rattle.ne_iter.specs.KeyIterators.{ListsEntries, ListsUnion};
+ghost use Rattle.ne_iter.specs.KeyClones.{KeepsItems};
 ghost use Rattle.ne_iter.specs.SourceLists.{MeetsList};
-ghost use Rattle.ne_index.specs.Clones.{IsCloneOfSet};
 ghost use Rattle.ne_index.specs.KeyListSets.{IsKeyListSetOf};
 ghost use Rattle.ne_index.specs.Puts.{put_in_place, put_item};
-ghost use Rattle.ne_index.specs.UnionWalks.{UnionShows};
 
+mod iter;
 mod traits;
-mod walks;
 
 use indexmap::{IndexSet, set};
-use ne_iter::iter::SourceWords;
+pub use iter::{Held, IntoIter, Iter, Union};
+use ne_iter::iter::{NonEmptyIter, Source};
 use std::alloc::{AllocError, Global};
 use std::hash::{BuildHasher, BuildHasherDefault, FoldHasher, Hash};
 use std::marker::Model;
 use std::num::NonZeroUsize;
-pub use walks::{IntoIter, Iter, Union};
 
 /// An index set that holds at least one item. It wraps [`IndexSet`] of the crate `indexmap`.
 ///
@@ -107,13 +107,11 @@ impl<T: Eq + Hash, S: BuildHasher> NEIndexSet<T, S> {
     /// ```
     pub fn nonempty_iter(&self) -> Iter<'_, T>
         ensures keys { result ≡ self.now.keys }
-        ensures shows { KeyWalkShows (deref {X = T}) result self.now.keys }
+        ensures lists { ListsEntries (deref {X = T}) result self.now.keys }
         ensures unique { IsUnique T.eq self.now }
         ensures nonempty { 0 < index_set_len self.now }
     {
-        Iter {
-            inner: self.inner.iter(),
-        }
+        NonEmptyIter::new(self.inner.iter())
     }
 
     /// Returns the number of items, which is at least 1.
@@ -412,13 +410,11 @@ impl<T: Eq + Hash, S: BuildHasher> NEIndexSet<T, S> {
     pub fn union<'a>(&'a self, other: &'a NEIndexSet<T, S>) -> Union<'a, T, S>
         ensures items { result ≡ union T.eq self.now other.now }
         ensures members { IsUnion T.eq self.now other.now result }
-        ensures shows { UnionShows result (union T.eq self.now other.now) }
+        ensures lists { ListsUnion result (union T.eq self.now other.now) }
         ensures unique { IsDistinct T.eq result }
         ensures nonempty { 0 < length result }
     {
-        Union {
-            inner: self.inner.union(&other.inner),
-        }
+        NonEmptyIter::new(self.inner.union(&other.inner))
     }
 
     /// Creates a set that holds the item `value`, with the hasher `hasher` and room for at least
@@ -488,8 +484,8 @@ impl<T: Eq + Hash, S: BuildHasher> NEIndexSet<T, S> {
             (λ old items new. IsKeyListSetOf T.eq (old.keys ++ items) new.keys
             × (hasher_of new ≡ hasher_of old))
             iter self.old self.new result }
-        ensures lists { OnOk result (ExtendsByList (⟦<I as SourceWords>⟧.lists)
-            (MeetsList I.into_iter_gives I.IntoIter.next_gives) iter self.old.keys
+        ensures lists { OnOk result (ExtendsByList (⟦<I as Source>⟧.lists itself)
+            (MeetsList I.into_iter_gives I.IntoIter.next_gives itself) iter self.old.keys
             (λ all. IsKeyListSetOf T.eq all self.new.keys)) }
         ensures hasher { hasher_of self.new ≡ hasher_of self.old }
         ensures unique { IsUnique T.eq self.new }
@@ -516,7 +512,8 @@ impl<T: Eq + Hash, S: BuildHasher> NEIndexSet<T, S> {
     where
         T: Clone,
         S: Clone,
-        ensures clones { IfOk result (IsCloneOfSet T.is_clone self.now) }
+        ensures clones { IfOk result (λ s. IsClone T.is_clone self.now s
+            × KeepsItems T.is_clone self.now.keys s.keys) }
         ensures unique { IfOk result (IsUnique T.eq) }
         ensures nonempty { IfOk result (λ s. 0 < index_set_len s) }
     {

@@ -1,12 +1,12 @@
 //! Laws of index maps and sets. Each law is the contract of a function that does nothing. A caller
 //! calls the function to use what it ensures.
 ghost use Rattle.std.specs.Prelude.{◌≡◌, ◌↔◌, ◌++◌, List, Ok, Result};
-ghost use Rattle.indexmap.specs.IndexMap.{IndexMap as Entries};
-ghost use Rattle.indexmap.specs.IndexSet.{IndexSet as Keys, IsSameSet};
 ghost use Rattle.ne_vec.specs.declared.Error.{Error};
+ghost use Rattle.indexmap.specs.IndexMap.{IndexMap as Entries, get};
+ghost use Rattle.indexmap.specs.IndexSet.{IndexSet as Keys, IsSameSet};
 ghost use Rattle.ne_iter.specs.Collected.{IsSetOf};
 ghost use Rattle.ne_iter.specs.KeyList.{first_seen, key_list};
-ghost use Rattle.ne_index.specs.SameMap.{IsSameMap};
+ghost use Rattle.ne_iter.specs.SameMap.{IsSameMap};
 
 use crate::{NEIndexMap, NEIndexSet};
 use indexmap::IndexSet;
@@ -25,14 +25,15 @@ pub fn index_sets_come_back<T: Eq + Hash + Drop, S: BuildHasher + Drop>()
 /// Equality of index maps by `==` is symmetric and transitive for all values that implement
 /// `PartialEq`. It ignores the order of the entries.
 pub fn index_map_equality_is_symmetric_and_transitive<K: Eq + Hash, V: PartialEq, S: BuildHasher>()
-    ensures symmetric { (m n : Entries K V S) → IsSameMap K.eq V.eq m n → IsSameMap K.eq V.eq n m }
-    ensures transitive { (m n o : Entries K V S) → IsSameMap K.eq V.eq m n
-        → IsSameMap K.eq V.eq n o → IsSameMap K.eq V.eq m o }
+    ensures symmetric { (m n : Entries K V S) → IsSameMap V.eq (get K.eq m) (get K.eq n)
+        → IsSameMap V.eq (get K.eq n) (get K.eq m) }
+    ensures transitive { (m n o : Entries K V S) → IsSameMap V.eq (get K.eq m) (get K.eq n)
+        → IsSameMap V.eq (get K.eq n) (get K.eq o) → IsSameMap V.eq (get K.eq m) (get K.eq o) }
 {}
 
 /// If each value equals itself, so does each index map.
 pub fn index_map_equality_is_reflexive<K: Eq + Hash, V: Eq, S: BuildHasher>()
-    ensures { (m : Entries K V S) → IsSameMap K.eq V.eq m m }
+    ensures { (m : Entries K V S) → IsSameMap V.eq (get K.eq m) (get K.eq m) }
 {}
 
 /// Equality of index sets by `==` is reflexive, symmetric and transitive. It ignores the order of

@@ -13,8 +13,8 @@ use Rattle.std.proofs.lemmas.List.Elements.{All-contains_itself, All-cons, All-h
 use Rattle.std.proofs.lemmas.List.Elements.{Contains-append_left, Contains-push}
 use Rattle.std.proofs.lemmas.List.MinMax.{IsFirstBest-from_best_of, IsStrictWeakOrder-flip}
 use Rattle.std.proofs.lemmas.Option.{slice_get-get_or}
-use Rattle.ne_iter.specs.Consumers.{AnswersJustWhere, KeepsBetter, less_by}
-use Rattle.ne_iter.specs.Consumers.{IsFirstGreatest, IsFirstLeast}
+use Rattle.ne_iter.specs.Consumers.{ReturnsOnlyWhere, KeepsBetter, less_by, IsFirstGreatest}
+use Rattle.ne_iter.specs.Consumers.{IsFirstLeast}
 
 module _ {V F A : Type 0} (view : A → V) (calls : Shared F (Bor V × (Bor V × Unit {0})) Bool)
     (f : F) where
@@ -34,12 +34,12 @@ module _ {V F A : Type 0} (view : A → V) (calls : Shared F (Bor V × (Bor V ×
       xs first kept (Contains-push [] first)
 
   -- for two of the items zs, f returns whether the second beats the first
-  abbrev pub AnswersAs : (A → A → Bool) → List A → Type 0
-  AnswersAs beats zs = (x y : A) (t : Bool) → Contains zs x → Contains zs y
+  abbrev pub ReturnsAs : (A → A → Bool) → List A → Type 0
+  ReturnsAs beats zs = (x y : A) (t : Bool) → Contains zs x → Contains zs y
       → FnReturnsAtPair calls f (view x) (view y) t → t ≡ beats y x
 
   -- so the best of them is kept
-  best_of-kept : (beats : A → A → Bool) (zs : List A) → AnswersAs beats zs
+  best_of-kept : (beats : A → A → Bool) (zs : List A) → ReturnsAs beats zs
       → (first : A) (xs : List A) (kept : A) → All (Contains zs) (first ∷ xs)
       → FoldsTo (KeepsBetter view calls f) first xs kept → kept ≡ best_of beats first xs
   best_of-kept beats zs answers first [] kept all e = sym e
@@ -65,7 +65,7 @@ module _ {V F A : Type 0} (view : A → V) (calls : Shared F (Bor V × (Bor V ×
     (f : F) (less : A → A → Bool) (order : IsStrictWeakOrder less) where
   -- if f returns whether the next item is less, the first least item is kept
   pub IsFirstLeast-kept : (first : A) (xs : List A) (kept : A)
-      → AnswersAs view calls f less (first ∷ xs)
+      → ReturnsAs view calls f less (first ∷ xs)
       → FoldsTo (KeepsBetter view calls f) first xs kept → IsFirstLeast less (first ∷ xs) kept
   IsFirstLeast-kept first xs kept answers turns =
       IsFirstLeast-best_of less order first xs kept
@@ -76,7 +76,7 @@ module _ {V F A : Type 0} (view : A → V) (calls : Shared F (Bor V × (Bor V ×
     (f : F) (less : A → A → Bool) (order : IsStrictWeakOrder less) where
   -- if f returns whether the next item is greater, the first greatest item is kept
   pub IsFirstGreatest-kept : (first : A) (xs : List A) (kept : A)
-      → AnswersAs view calls f (λ x y. less y x) (first ∷ xs)
+      → ReturnsAs view calls f (λ x y. less y x) (first ∷ xs)
       → FoldsTo (KeepsBetter view calls f) first xs kept → IsFirstGreatest less (first ∷ xs) kept
   IsFirstGreatest-kept =
       IsFirstLeast-kept view calls f (λ x y. less y x) (IsStrictWeakOrder-flip less order)
@@ -87,14 +87,14 @@ pub less_by-from_partial_lt : {A : Type 0} {C : A → A → Option Ordering} {R 
 less_by-from_partial_lt a x y t e = e ∙ ap (is_some_and is_lt) (a x y)
 
 -- each call of f is a call of h, and returns whether the result of h is the one meant
-pub AnswersAs-through : {F H A : Type 0} (calls : Shared F (Bor A × (Bor A × Unit {0})) Bool)
+pub ReturnsAs-through : {F H A : Type 0} (calls : Shared F (Bor A × (Bor A × Unit {0})) Bool)
     (f : F) (through : Shared H (Bor A × (Bor A × Unit {0})) Ordering) (h : H) (zs : List A)
     (meant : Ordering → Bool) (test : A → A → Bool)
     → ((v w : Bor A) (t : Bool) → calls.post f (v, (w, tt)) t
     → (r : Ordering) × through.post h (v, (w, tt)) r × (t ≡ meant r))
-    → AnswersJustWhere through h zs meant test
-    → AnswersAs (λ x. x) calls f (λ x y. test y x) zs
-AnswersAs-through calls f through h zs meant test each answers x y t a b says =
+    → ReturnsOnlyWhere through h zs meant test
+    → ReturnsAs (λ x. x) calls f (λ x y. test y x) zs
+ReturnsAs-through calls f through h zs meant test each answers x y t a b says =
     let behind = each says.first says.second t says.says.met in
     let at : FnReturnsAtPair through h x y behind.0 = record {
       first = says.first;

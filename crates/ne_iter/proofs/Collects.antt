@@ -1,21 +1,19 @@
 -- What std's collecting into maps and sets makes from a source that has an item.
-use mathlib.Core.Path.{fun_ext}
-use Rattle.std.proofs.Common.{◌≡◌, ◌<◌, ◌||◌, Bool, true, List, [], ◌∷◌, length}
-use Rattle.std.proofs.Common.{arith, is_some, sym, ap, subst, ◌∙◌}
-use Rattle.std.proofs.Common.{Option, None}
+use Rattle.std.specs.BTreeMap as tree
+use Rattle.std.specs.BTreeSet as tree_set
+use Rattle.std.specs.HashMap as hash
+use Rattle.std.specs.HashSet as hash_set
+use Rattle.std.proofs.Common.{◌≡◌, ◌<◌, ◌||◌, Bool, true, List, [], ◌∷◌, length, arith, is_some}
+use Rattle.std.proofs.Common.{sym, ap, subst, ◌∙◌, Option, None}
 use Rattle.std.proofs.lemmas.Map.Entries.{length-keys_of}
 use Rattle.std.proofs.lemmas.Map.Keys.{IsDistinct-from_sorted}
 use Rattle.std.proofs.lemmas.Map.Made.{is_some-lookup, is_some-update_all}
 use Rattle.std.proofs.lemmas.Result.{IfOk-weaker}
 use Rattle.std.specs.Prelude.{⊤, Result, IfOk}
 use Rattle.std.specs.BTreeMap.{BTreeMap, IsOrdered, btree_map_len}
-use Rattle.std.specs.BTreeMap as tree
 use Rattle.std.specs.BTreeSet.{BTreeSet, IsOrdered as AreOrdered, btree_set_len}
-use Rattle.std.specs.BTreeSet as tree_set
 use Rattle.std.specs.HashMap.{HashMap, hash_map_len}
-use Rattle.std.specs.HashMap as hash
 use Rattle.std.specs.HashSet.{HashSet, hash_set_len}
-use Rattle.std.specs.HashSet as hash_set
 use Rattle.std.specs.Cmp.{IsEquivalence, IsTotalOrder, eq_by_cmp_equiv}
 use Rattle.std.specs.Iterator.{DrainsIf}
 use Rattle.std.specs.List.{IsDistinct}
@@ -27,6 +25,7 @@ use Rattle.ne_iter.specs.Collected.{last_value, IsMapOf, IsSetOf}
 use Rattle.ne_iter.specs.CollectedLaws.{option_or-none, some_member, update_all-last_value}
 use Rattle.ne_iter.specs.SourceLaws.{some_item}
 use Rattle.ne_iter.specs.Sources.{IsNonEmpty, Reads, SameLists}
+use mathlib.Core.Path.{fun_ext}
 
 -- what was made from the items that the source's iterator gave to the end
 module _ {U S V T A : Type 0} {becomes : U → S → Type 0} {steps : S → Option A → S → Type 0}

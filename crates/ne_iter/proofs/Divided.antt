@@ -8,7 +8,7 @@ use Rattle.std.specs.Fn.{Mut}
 use Rattle.std.specs.Iterator.{ActsAsAt, Drains}
 use Rattle.std.specs.List.{AllByRecursion}
 use Rattle.ne_vec.specs.Divisions.{concat, IsRun, IsDivision, by_first}
-use Rattle.ne_iter.specs.Calls.{ShownEach}
+use Rattle.ne_iter.specs.Calls.{CallsEachAt}
 use Rattle.ne_iter.specs.Keys.{items_of, same_key, DividesByKey}
 use Rattle.ne_iter.specs.GroupingRuns.{IsOver, StandsAt, HasRead}
 use Rattle.ne_iter.specs.GroupingLaws.{nil_mapped}
@@ -42,7 +42,7 @@ module _ {S K A F : Type 0} (steps : S → Option A → S → Type 0) (asks : Mu
     (eq : K → K → Bool) (s : S) (f : F) where
   pub all_drained : (rs : List (List A)) (g : Grouping S K A F) → HasRead steps asks eq s f rs g
       → IsOver g
-      → (ps : List (A × K)) × Drains steps s (items_of ps) × ShownEach asks f ps g.closure
+      → (ps : List (A × K)) × Drains steps s (items_of ps) × CallsEachAt asks f ps g.closure
       × DividesByKey eq ps rs
   all_drained rs g read over =
       let stands : StandsAt steps asks eq Ended s read.drawn g.source read.runs = subst
@@ -100,16 +100,16 @@ module _ {A K F : Type 0} (asks : Mut F (Bor A × Unit {0}) K) (eq : K → K →
   keyed_alike [] x = refl
   keyed_alike (y ∷ r) x = refl
 
-  pub shown_keyed : (f : F) (ps : List (A × K)) (g : F) → ActsAsAt asks f h → ShownEach asks f ps g
+  pub keyed_at : (f : F) (ps : List (A × K)) (g : F) → ActsAsAt asks f h → CallsEachAt asks f ps g
       → ps ≡ map keyed (items_of ps)
-  shown_keyed f [] g acts shown = refl
-  shown_keyed f (p ∷ ps) g acts shown =
+  keyed_at f [] g acts shown = refl
+  keyed_at f (p ∷ ps) g acts shown =
       let one = acts p.0 p.1 shown.0 shown.1 in
       ap (λ k. (p.0, k) ∷ ps) one.1 ∙ ap (λ l. keyed p.0 ∷ l)
-      (shown_keyed shown.0 ps g (subst (λ q. ActsAsAt asks q h) (sym one.0) acts) shown.2)
+      (keyed_at shown.0 ps g (subst (λ q. ActsAsAt asks q h) (sym one.0) acts) shown.2)
 
   pub divided_by_function : (f : F) (ps : List (A × K)) (rs : List (List A)) (g : F)
-      (others : List (List A)) → ActsAsAt asks f h → ShownEach asks f ps g → DividesByKey eq ps rs
+      (others : List (List A)) → ActsAsAt asks f h → CallsEachAt asks f ps g → DividesByKey eq ps rs
       → IsDivision (by_first (λ a b. eq (h a) (h b))) (items_of ps) others
       → ((xs : List (A × K)) (rs others : List (List (A × K)))
       → IsDivision (by_first (same_key eq)) xs rs
@@ -119,6 +119,6 @@ module _ {A K F : Type 0} (asks : Mut F (Bor A × Unit {0}) K) (eq : K → K →
   divided_by_function f ps rs g others acts shown d there unique mapped =
       let same = unique ps d.0 (map (map keyed) others) d.1
       (subst (λ l. IsDivision (by_first (same_key eq)) l (map (map keyed) others))
-      (sym (shown_keyed f ps g acts shown)) mapped) in
+      (sym (keyed_at f ps g acts shown)) mapped) in
       subst (IsDivision (by_first (λ a b. eq (h a) (h b))) (items_of ps))
       (sym (d.2 ∙ (ap (map items_of) same ∙ runs_of_keyed others))) there

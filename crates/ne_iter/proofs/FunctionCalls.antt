@@ -1,21 +1,12 @@
 -- What the calls of a closure return if it acts as a function.
-use Rattle.std.proofs.Common.{arith, sym, subst, ap}
-use Rattle.std.specs.Prelude.{Bool, false, zero, suc, ◌≡◌, List, [], ◌∷◌, map, refl}
+use Rattle.std.proofs.Common.{sym, subst, ap}
+use Rattle.std.specs.Prelude.{◌≡◌, List, [], ◌∷◌, map, refl}
 use Rattle.std.specs.Borrow.{Bor}
 use Rattle.std.specs.Fn.{Mut}
 use Rattle.std.specs.Iterator.{ActsAs, ActsAsAt, ActsAsOnTwo, FoldTurn}
-use Rattle.std.specs.List.{AllByRecursion, All, FoldsTo, fold}
-use Rattle.ne_iter.specs.Calls.{AnswersEach, AnswersEachAt, Calls, Folds, ShownEach}
-use Rattle.ne_iter.specs.Gives.{FailsFirst}
+use Rattle.std.specs.List.{AllByRecursion, FoldsTo, fold}
+use Rattle.ne_iter.specs.Calls.{ReturnsEach, ReturnsEachAt, Calls, Folds, CallsEachAt}
 use Rattle.ne_iter.specs.Keys.{items_of}
-use Rattle.ne_iter.proofs.ListFronts.{FailsTest}
-
-pub All-from_recursion : {A : Type 0} (P : A → Type 0) (xs : List A) → AllByRecursion P xs
-    → All P xs
-All-from_recursion P [] h k d within = absurd (omega (arith, within))
-All-from_recursion P (x ∷ xs) h zero d within = h.0
-All-from_recursion P (x ∷ xs) h (suc k) d within =
-    All-from_recursion P xs h.1 k d (omega (arith, within))
 
 pub function_values : {F A B : Type 0} (calls : Mut F (A × Unit {0}) B) (f : F) (h : A → B)
     (xs : List A) (ys : List B) (g : F) → ActsAs calls f h → Calls calls f xs ys g
@@ -29,33 +20,33 @@ function_values calls f h (x ∷ xs) (y ∷ ys) g acts (q, call, rest) =
     (subst (λ q. Calls calls q xs ys g) one.0 rest) in
     (let a = one.1 in let b = more.0 in cc, more.1)
 
-pub shown_values : {F A B : Type 0} (calls : Mut F (Bor A × Unit {0}) B) (f : F) (h : A → B)
-    (ps : List (A × B)) (g : F) → ActsAsAt calls f h → ShownEach calls f ps g
+pub values_at : {F A B : Type 0} (calls : Mut F (Bor A × Unit {0}) B) (f : F) (h : A → B)
+    (ps : List (A × B)) (g : F) → ActsAsAt calls f h → CallsEachAt calls f ps g
     → (ps ≡ map (λ x. (x, h x)) (items_of ps)) × (g ≡ f)
-shown_values calls f h [] g acts e = (refl, sym e)
-shown_values calls f h ((x, y) ∷ ps) g acts (q, call, rest) =
+values_at calls f h [] g acts e = (refl, sym e)
+values_at calls f h ((x, y) ∷ ps) g acts (q, call, rest) =
     let one = acts x y q call in
-    let more = shown_values calls f h ps g acts (subst (λ q. ShownEach calls q ps g) one.0 rest) in
+    let more = values_at calls f h ps g acts (subst (λ q. CallsEachAt calls q ps g) one.0 rest) in
     (let a = one.1 in let b = more.0 in cc, more.1)
 
-pub same_answers : {F A B : Type 0} (calls : Mut F (A × Unit {0}) B) (f : F) (h : A → B) (y : B)
-    (xs : List A) (g : F) → ActsAs calls f h → AnswersEach calls y f xs g
+pub same_results : {F A B : Type 0} (calls : Mut F (A × Unit {0}) B) (f : F) (h : A → B) (y : B)
+    (xs : List A) (g : F) → ActsAs calls f h → ReturnsEach calls y f xs g
     → AllByRecursion (λ x. h x ≡ y) xs × (g ≡ f)
-same_answers calls f h y [] g acts e = (tt, sym e)
-same_answers calls f h y (x ∷ xs) g acts (q, call, rest) =
+same_results calls f h y [] g acts e = (tt, sym e)
+same_results calls f h y (x ∷ xs) g acts (q, call, rest) =
     let one = acts x y q call in
-    let more = same_answers calls f h y xs g acts
-    (subst (λ q. AnswersEach calls y q xs g) one.0 rest) in
+    let more = same_results calls f h y xs g acts
+    (subst (λ q. ReturnsEach calls y q xs g) one.0 rest) in
     ((sym one.1, more.0), more.1)
 
-pub same_answers_at : {F A B : Type 0} (calls : Mut F (Bor A × Unit {0}) B) (f : F) (h : A → B)
-    (y : B) (xs : List A) (g : F) → ActsAsAt calls f h → AnswersEachAt calls y f xs g
+pub same_results_at : {F A B : Type 0} (calls : Mut F (Bor A × Unit {0}) B) (f : F) (h : A → B)
+    (y : B) (xs : List A) (g : F) → ActsAsAt calls f h → ReturnsEachAt calls y f xs g
     → AllByRecursion (λ x. h x ≡ y) xs × (g ≡ f)
-same_answers_at calls f h y [] g acts e = (tt, sym e)
-same_answers_at calls f h y (x ∷ xs) g acts (q, call, rest) =
+same_results_at calls f h y [] g acts e = (tt, sym e)
+same_results_at calls f h y (x ∷ xs) g acts (q, call, rest) =
     let one = acts x y q call in
-    let more = same_answers_at calls f h y xs g acts
-    (subst (λ q. AnswersEachAt calls y q xs g) one.0 rest) in
+    let more = same_results_at calls f h y xs g acts
+    (subst (λ q. ReturnsEachAt calls y q xs g) one.0 rest) in
     ((sym one.1, more.0), more.1)
 
 pub folded_value : {F A B : Type 0} (calls : Mut F (B × (A × Unit {0})) B) (f : F)
@@ -68,9 +59,3 @@ folded_value {F = F} {B = B} calls f h init r (x ∷ xs) g acts (q, call, rest) 
     let from_next = subst (λ a. FoldsTo {P = F × B} (FoldTurn calls) (f, a) xs (g, r)) one.1
     from_f in
     folded_value calls f h (h init x) r xs g acts from_next
-
--- a first item for which the test may return false doesn't pass
-pub fails_test : {F A : Type 0} (calls : Mut F (Bor A × Unit {0}) Bool) (f : F) (test : A → Bool)
-    (ys : List A) → ActsAsAt calls f test → FailsFirst calls f ys → FailsTest test ys
-fails_test calls f test [] acts h = tt
-fails_test calls f test (y ∷ ys) acts (q, call) = sym (acts y false q call).1

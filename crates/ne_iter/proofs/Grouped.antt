@@ -10,11 +10,11 @@ use Rattle.std.specs.Iterator.{ActsAsAt, DrainsIf, Yields}
 use Rattle.std.specs.List.{FoldsTo, AllByRecursion}
 use Rattle.std.specs.declared.alloc.AllocError.{AllocError}
 use Rattle.ne_vec.specs.Divisions.{IsDivision, by_first}
-use Rattle.ne_iter.specs.Calls.{ShownEach}
-use Rattle.ne_iter.specs.Gives.{HasRuns, and_held}
+use Rattle.ne_iter.specs.Calls.{CallsEachAt}
+use Rattle.ne_iter.specs.GroupBy.{HasRuns, and_held}
 use Rattle.ne_iter.specs.Keys.{items_of, same_key, DividesByKey, IsDividedBy}
-use Rattle.ne_iter.specs.GroupingRuns.{IsOver, StandsAt, HasRead, GivesRun, GroupsRuns, AnswersThen}
-use Rattle.ne_iter.specs.GroupingRuns.{AnswersOn}
+use Rattle.ne_iter.specs.GroupingRuns.{IsOver, StandsAt, HasRead, GivesRun, GroupsRuns, ReturnsThen}
+use Rattle.ne_iter.specs.GroupingRuns.{ReturnsOn}
 use Rattle.ne_iter.specs.GroupingLaws.{fresh_grouping, nil_mapped}
 use Rattle.ne_iter.specs.Grouping.{Grouping, Ahead, Unread, Held, Ended}
 use Rattle.ne_iter.specs.Sources.{Reads}
@@ -32,18 +32,18 @@ module _ {S K A F : Type 0} (steps : S → Option A → S → Type 0) (asks : Mu
       let more = none_ever_after calls.0 h answers (subst IsOver (sym step.1) over) calls.2 in
       (more.0, (step.0, more.1))
 
-  pub answers_on : (s : S) (f : F) (done : List (List A))
+  pub returns_on : (s : S) (f : F) (done : List (List A))
       (answers : List (Option (Result (List A) AllocError))) (g h : Grouping S K A F)
       → HasRead steps asks eq s f done g
-      → FoldsTo (GivesRun steps asks eq) g answers h → AnswersOn steps asks eq s f done answers h
-  answers_on s f done [] g h read calls = record {
+      → FoldsTo (GivesRun steps asks eq) g answers h → ReturnsOn steps asks eq s f done answers h
+  returns_on s f done [] g h read calls = record {
     runs = [];
     later = [];
     are_all = refl;
     ended = subst (λ l. HasRead steps asks eq s f l h) (sym (append-nil done))
         (subst (HasRead steps asks eq s f done) calls read);
   }
-  answers_on s f done (None ∷ answers) g h read calls =
+  returns_on s f done (None ∷ answers) g h read calls =
       let first = calls.1 in
       let more = none_ever_after calls.0 h answers first.stops calls.2 in record {
         runs = [];
@@ -65,16 +65,16 @@ module _ {S K A F : Type 0} (steps : S → Option A → S → Type 0) (asks : Mu
           let same = sym (calls.1.over over).1 in
           stays calls.0 h answers (subst IsOver same over)
           (subst (HasRead steps asks eq s f done) same read) calls.2
-  answers_on s f done (Some (Ok run) ∷ answers) g h read calls =
-      let more = answers_on s f (done ++ run ∷ []) answers calls.0 h (calls.1.reads s f done read)
+  returns_on s f done (Some (Ok run) ∷ answers) g h read calls =
+      let more = returns_on s f (done ++ run ∷ []) answers calls.0 h (calls.1.reads s f done read)
       calls.2 in record {
         runs = run ∷ more.runs;
         later = more.later;
         are_all = ap (λ l. Some (Ok run) ∷ l) more.are_all;
-        ended = subst (λ l. AnswersThen steps asks eq s f l more.later h)
+        ended = subst (λ l. ReturnsThen steps asks eq s f l more.later h)
             (append_assoc done (run ∷ []) more.runs) more.ended;
       }
-  answers_on s f done (Some (Err e) ∷ answers) g h read calls =
+  returns_on s f done (Some (Err e) ∷ answers) g h read calls =
       let more = none_ever_after calls.0 h answers calls.1.stops calls.2 in record {
         runs = [];
         later = Some (Err e) ∷ answers;
@@ -136,7 +136,7 @@ module _ {S K A F : Type 0} (steps : S → Option A → S → Type 0) (asks : Mu
       (f : F) where
     has_runs : (a : Ahead K A) (whole : Bool) (rs : List (List A)) (drawn : List (A × K))
         (runs : List (List (A × K))) (g : F) (t : S) → StandsAt steps asks eq a s drawn t runs
-        → rs ≡ map items_of runs → ShownEach asks f drawn g → (whole ≡ true → a ≡ Ended)
+        → rs ≡ map items_of runs → CallsEachAt asks f drawn g → (whole ≡ true → a ≡ Ended)
         → HasRuns (Reads becomes steps) asks eq whole source f rs
     has_runs Unread whole rs drawn runs g t stands e asked over = record {
       drawn = drawn;
@@ -226,7 +226,7 @@ module _ {S K A F : Type 0} (steps : S → Option A → S → Type 0) (asks : Mu
   -- the runs that came to the end, if a closure that acts as a function gives the runs by it
   pub runs_grouped : (g : Grouping S K A F) → g.ahead ≡ Unread
       → ((eq : K → K → Bool) (h : A → K) (ps : List (A × K)) (rs : List (List A)) (f : F)
-      → ActsAsAt asks g.closure h → ShownEach asks g.closure ps f → DividesByKey eq ps rs
+      → ActsAsAt asks g.closure h → CallsEachAt asks g.closure ps f → DividesByKey eq ps rs
       → IsDivision (by_first (λ x y. eq (h x) (h y))) (items_of ps) rs)
       → GroupsRuns steps asks eq g
   unfolding IsDividedBy

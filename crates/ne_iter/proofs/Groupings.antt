@@ -8,7 +8,7 @@ use Rattle.std.specs.Borrow.{Bor}
 use Rattle.std.specs.Fn.{Mut, CalledAt}
 use Rattle.std.specs.Iterator.{Yields}
 use Rattle.ne_vec.specs.Divisions.{IsDivision, by_first}
-use Rattle.ne_iter.specs.Calls.{ShownEach}
+use Rattle.ne_iter.specs.Calls.{CallsEachAt}
 use Rattle.ne_iter.specs.Keys.{items_of, same_key}
 use Rattle.ne_iter.specs.GroupingRuns.{StandsAt, HasRead}
 use Rattle.ne_iter.specs.Grouping.{Grouping, Ahead, Unread, Held, Ended}
@@ -45,7 +45,7 @@ module _ {S K A F : Type 0} (steps : S → Option A → S → Type 0) (asks : Mu
     pub first : A
     pub later : List (A × K)
     pub answered : rs ≡ map items_of runs
-    pub asked : ShownEach asks f drawn g
+    pub asked : CallsEachAt asks f drawn g
     pub came : Yields steps s (items_of drawn) t
     pub division : IsDivision (by_first (same_key eq)) drawn (runs ++ ((first, k) ∷ later) ∷ [])
     pub is : run ≡ items_of ((first, k) ∷ later)
@@ -58,7 +58,7 @@ module _ {S K A F : Type 0} (steps : S → Option A → S → Type 0) (asks : Mu
     open_first g x k t f' h e step call =
         let stands : StandsAt steps asks eq Unread s h.drawn g.source h.runs = subst
         (λ a. StandsAt steps asks eq a s h.drawn g.source h.runs) e h.stands in
-        let fresh : ShownEach asks f [] g.closure = subst (λ l. ShownEach asks f l g.closure)
+        let fresh : CallsEachAt asks f [] g.closure = subst (λ l. CallsEachAt asks f l g.closure)
         stands.0 h.asked in
         record {
           drawn = (x, k) ∷ [];
@@ -155,7 +155,7 @@ module _ {S K A F : Type 0} (steps : S → Option A → S → Type 0) (asks : Mu
       drawn = o.drawn;
       runs = o.runs ++ ((o.first, k) ∷ o.later) ∷ [];
       answered = one_run_more k run o.runs o.first o.later o.answered o.is;
-      asked = subst (λ q. ShownEach asks f o.drawn q) same o.asked;
+      asked = subst (λ q. CallsEachAt asks f o.drawn q) same o.asked;
       stands = subst (λ a. StandsAt steps asks eq a s o.drawn h.source
           (o.runs ++ ((o.first, k) ∷ o.later) ∷ [])) (sym e) ((t, o.came, step), o.division);
     }

@@ -1,10 +1,10 @@
--- What is at which place in a list with separators.
+-- The items of a list with separators, by their indices.
 use Rattle.std.proofs.Common.{rules, arith, subst, ap}
 use Rattle.std.specs.Prelude.{◌≡◌, ℕ, zero, suc, ◌+◌, ◌-◌, ◌*◌, List, [], ◌∷◌, length, slice_get}
 use Rattle.std.specs.Prelude.{Some, IsSomeAnd, refl, true, Result, Ok, Err, is_ok}
 use Rattle.std.specs.List.{list_all}
 use Rattle.std.proofs.lemmas.Option.{none-some}
-use Rattle.ne_iter.specs.Interspersed.{Interspersed}
+use Rattle.ne_iter.specs.Intersperse.{Interspersed}
 
 two_more : (i : ℕ) → 2 * suc i ≡ suc (suc (2 * i))
 two_more i = omega arith

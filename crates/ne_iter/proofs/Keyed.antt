@@ -7,7 +7,7 @@ use Rattle.std.specs.Fn.{Called, CalledAt, FnReturnsAtPair, Mut, Shared, Takes, 
 use Rattle.std.specs.Iterator.{CallableOnAll, CallableOnAllAt}
 use Rattle.std.specs.List.{FoldsTo}
 use Rattle.ne_iter.specs.Consumers.{KeepsBetter}
-use Rattle.ne_iter.specs.Calls.{Calls, ShownEach}
+use Rattle.ne_iter.specs.Calls.{Calls, CallsEachAt}
 
 -- an item with its key, from the key with its item
 abbrev pub keyed : {A B : Type 0} → B × A → A × B
@@ -20,14 +20,14 @@ module _ {A B F G : Type 0} (asks : Mut F (Bor A × Unit {0}) B)
     (each : (f : G) (x : A) (p : B × A) (g : G) → Called pairs f (x, tt) p g
     → (x ≡ p.1) × CalledAt asks (asked f) x p.0 (asked g)) where
   -- the pairs are made of the items that came and the keys returned for them
-  pub ShownEach-pairs : (f : G) (xs : List A) (ps : List (B × A)) (g : G) → Calls pairs f xs ps g
-      → (xs ≡ map (λ p. p.0) (map keyed ps)) × ShownEach asks (asked f) (map keyed ps) (asked g)
-  ShownEach-pairs f [] [] g e = (refl, ap asked e)
-  ShownEach-pairs f [] (p ∷ ps) g e = absurd e
-  ShownEach-pairs f (x ∷ xs) [] g e = absurd e
-  ShownEach-pairs f (x ∷ xs) (p ∷ ps) g (h, one, rest) =
+  pub CallsEachAt-pairs : (f : G) (xs : List A) (ps : List (B × A)) (g : G) → Calls pairs f xs ps g
+      → (xs ≡ map (λ p. p.0) (map keyed ps)) × CallsEachAt asks (asked f) (map keyed ps) (asked g)
+  CallsEachAt-pairs f [] [] g e = (refl, ap asked e)
+  CallsEachAt-pairs f [] (p ∷ ps) g e = absurd e
+  CallsEachAt-pairs f (x ∷ xs) [] g e = absurd e
+  CallsEachAt-pairs f (x ∷ xs) (p ∷ ps) g (h, one, rest) =
       let first = each f x p h one in
-      let more = ShownEach-pairs h xs ps g rest in
+      let more = CallsEachAt-pairs h xs ps g rest in
       let at = subst (λ y. CalledAt asks (asked f) y p.0 (asked h)) first.0 first.1 in
       ((let a = first.0 in let b = more.0 in cc), (asked h, at, more.1))
 

@@ -5,23 +5,21 @@ use Rattle.std.proofs.lemmas.List.Elements.{All-map}
 use Rattle.std.proofs.lemmas.Option.{get_or_from_slice_get, slice_get-get_or, slice_get-map}
 use Rattle.std.proofs.lemmas.Option.{same_Some}
 use Rattle.std.specs.Prelude.{◌≡◌, ℕ, zero, suc, ◌<◌, Bool, false, true, List, [], ◌∷◌, length, map}
-use Rattle.std.specs.Prelude.{slice_get, All, Contains, Option, None, Some, IfSome, IsSomeAnd}
-use Rattle.std.specs.Prelude.{refl}
+use Rattle.std.specs.Prelude.{slice_get, All, Contains, Option, None, Some, IfSome, IsSomeAnd, refl}
 use Rattle.std.specs.Option.{option_map}
 use Rattle.std.specs.Borrow.{Bor}
 use Rattle.std.specs.Fn.{CalledAt, Mut}
 use Rattle.std.specs.Iterator.{ActsAsAt}
 use Rattle.std.specs.Iterator.Runs.{AnyItem, CallKeepsClosure}
-use Rattle.ne_vec.specs.Fronts.{Lists, mark}
-use Rattle.ne_vec.specs.FrontLaws.{marked}
+use Rattle.ne_vec.specs.Lists.{Lists, list_trigger}
+use Rattle.ne_vec.specs.ListLaws.{triggered}
 use Rattle.ne_iter.specs.Consumers.{IsFirstLeast, NoKeyBeats}
-use Rattle.ne_iter.specs.Calls.{ShownEach}
+use Rattle.ne_iter.specs.Calls.{CallsEachAt}
 use Rattle.ne_iter.specs.Keys.{items_of}
-use Rattle.ne_iter.specs.Sources.{Reads}
-use Rattle.ne_iter.specs.SourceRuns.{RunsWhole}
+use Rattle.ne_iter.specs.Sources.{Reads, RunsWhole}
 use Rattle.ne_iter.proofs.Extremes.{best_is}
-use Rattle.ne_iter.proofs.FunctionCalls.{shown_values}
-use Rattle.ne_iter.proofs.ReadLists.{of_read}
+use Rattle.ne_iter.proofs.FunctionCalls.{values_at}
+use Rattle.ne_iter.proofs.SourceLists.{of_read}
 use Rattle.ne_iter.proofs.Traced.{unbeaten_at, whole_run_of}
 
 -- at each place of a list paired with its values is an item and its value
@@ -43,7 +41,7 @@ among ps m k place within here = (
 
 -- if no call changes f, it was called for each item as it is
 called_at : {A B F : Type 0} (calls : Mut F (Bor A × Unit {0}) B) (f : F)
-    → CallKeepsClosure calls f → (ps : List (A × B)) (g : F) → ShownEach calls f ps g
+    → CallKeepsClosure calls f → (ps : List (A × B)) (g : F) → CallsEachAt calls f ps g
     → (i : ℕ) (p : A × B) → slice_get ps i ≡ Some p → CalledAt calls f p.0 p.1 f
 called_at calls f keeps [] g shown i p here = let e = here in cc
 called_at calls f keeps ((x, y) ∷ ps) g (q, call, rest) zero p here =
@@ -52,16 +50,16 @@ called_at calls f keeps ((x, y) ∷ ps) g (q, call, rest) zero p here =
     (subst (CalledAt calls f x y) same call)
 called_at calls f keeps ((x, y) ∷ ps) g (q, call, rest) (suc i) p here =
     let same = keeps (call.shown, tt) y q call.called in
-    called_at calls f keeps ps g (subst (λ q. ShownEach calls q ps g) same rest) i p here
+    called_at calls f keeps ps g (subst (λ q. CallsEachAt calls q ps g) same rest) i p here
 
 module _ {A B F : Type 0} (calls : Mut F (Bor A × Unit {0}) B) (f : F) (beats : B → B → Bool)
-    (ps : List (A × B)) (m : A) (k : B) (g : F) (shown : ShownEach calls f ps g)
+    (ps : List (A × B)) (m : A) (k : B) (g : F) (shown : CallsEachAt calls f ps g)
     (best : IsFirstLeast (λ p q. beats p.1 q.1) ps (m, k)) where
   module _ (h : A → B) (acts : ActsAsAt calls f h) where
     -- the key of each pair is the function's value at its item
     keyed : (i : ℕ) (p : A × B) → slice_get ps i ≡ Some p → p.1 ≡ h p.0
     keyed i p here =
-        let all = (shown_values calls f h ps g acts shown).0 in
+        let all = (values_at calls f h ps g acts shown).0 in
         pair_at h (items_of ps) i p (ap (λ l. slice_get l i) (sym all) ∙ here)
 
     unbeaten : All (λ y. beats y (h m) ≡ false) (map h (items_of ps))
@@ -81,12 +79,13 @@ module _ {A B F : Type 0} (calls : Mut F (Bor A × Unit {0}) B) (f : F) (beats :
   -- If no key beats the key of an item, the item is in the list that the source gives. If the keys
   -- are also a function's values, no value at an item beats the value at this one.
   pub has_best_key : {U S : Type 0} (becomes : U → S → Type 0) (steps : S → Option A → S → Type 0)
-      (u : U) (xs : List A) → Lists becomes steps u xs → Reads becomes steps true u (items_of ps)
-      → (mark u xs ≡ 0) × (Contains xs m × ((h : A → B) → ActsAsAt calls f h
+      (u : U) (xs : List A) → Lists becomes steps (λ x. x) u xs
+      → Reads becomes steps true u (items_of ps)
+      → (list_trigger u xs ≡ 0) × (Contains xs m × ((h : A → B) → ActsAsAt calls f h
       → (map h xs ≡ map h xs) × All (λ y. beats y (h m) ≡ false) (map h xs)))
   has_best_key becomes steps u xs lists read =
       let of_all = of_read becomes steps u xs lists in (
-        marked u xs,
+        triggered u xs,
         (
           of_all (λ l. Contains l m) (items_of ps) read
               (among ps m k best.0 best.1.0 best.2),

@@ -4,7 +4,7 @@ use Rattle.std.proofs.Common.{subst}
 use Rattle.std.specs.Prelude.{◌≡◌, true, false, List, [], ◌∷◌, ◌++◌, Option, Some, None, refl}
 use Rattle.std.specs.Iterator.{Yields}
 use Rattle.ne_iter.specs.Sources.{Reads}
-use Rattle.ne_iter.proofs.JoinedRuns.{Yields-append}
+use Rattle.ne_iter.proofs.Runs.{Yields-append}
 
 -- the first item, followed by those of the loop so far
 pub Yields-first : {S A : Type 0} (steps : S → Option A → S → Type 0) (it : S) (first : A)

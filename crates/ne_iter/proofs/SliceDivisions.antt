@@ -5,8 +5,7 @@ use Rattle.std.specs.Fn.{Shared}
 use Rattle.std.specs.Iterator.{Yields}
 use Rattle.ne_vec.specs.Divisions.{IsDivision}
 use Rattle.ne_vec.specs.SliceRuns.{Cutting, ActsAsAtPair, CutsRun}
-use Rattle.ne_iter.specs.Gives.{GivesList}
-use Rattle.ne_iter.specs.Sources.{Reads}
+use Rattle.ne_iter.specs.Sources.{ReadsList, Reads}
 use Rattle.ne_iter.proofs.Groupings.{division_of_none}
 
 module _ {A F : Type 0} (calls : Shared F (Bor A × (Bor A × Unit {0})) Bool)
@@ -23,12 +22,12 @@ module _ {A F : Type 0} (calls : Shared F (Bor A × (Bor A × Unit {0})) Bool)
   reads_runs = Reads (λ c it. (0 < length c.left) × (it ≡ c)) (CutsRun calls place)
 
   pub gives_division : (s : Cutting A F) (same : A → A → Bool) → ActsAsAtPair calls s.closure same
-      → (rs : List (List A)) × IsDivision (place same) s.left rs × GivesList reads_runs s rs
+      → (rs : List (List A)) × IsDivision (place same) s.left rs × ReadsList reads_runs s rs
   gives_division s same acts =
       let whole = exists (place same) s.left in
       (whole.0, whole.1, gives whole.0 whole.1)
     where
-      gives : (rs : List (List A)) → IsDivision (place same) s.left rs → GivesList reads_runs s rs
+      gives : (rs : List (List A)) → IsDivision (place same) s.left rs → ReadsList reads_runs s rs
       gives rs divides whole ys reads =
           let t = reads.given.0 in
           let from_s = λ (q : Cutting A F). Yields (CutsRun calls place) q ys t in

@@ -1,15 +1,14 @@
 -- What a source reads, as a run in std's terms.
 use Rattle.std.proofs.Common.{refl, subst, sym, ap, arith}
 use Rattle.std.proofs.iter.runs.Made.{run, took}
-use Rattle.std.proofs.lemmas.Option.{slice_get_within, slice_get-get_or, get_or_from_slice_get}
-use Rattle.std.specs.Prelude.{◌≡◌, ℕ, zero, suc, ◌<◌, Bool, true, false, List, [], ◌∷◌, length, map}
-use Rattle.std.specs.Prelude.{Contains}
-use Rattle.std.specs.Prelude.{Option, Some, None, IsSomeAnd, IfSome, slice_get, slice_index_or}
+use Rattle.std.proofs.lemmas.Option.{slice_get_within, get_or_from_slice_get}
+use Rattle.std.specs.Prelude.{zero, suc, ◌<◌, [], ◌∷◌, map, ◌≡◌, ℕ, Bool, true, false, List, length}
+use Rattle.std.specs.Prelude.{Contains, Option, Some, None, IsSomeAnd, IfSome, slice_get}
+use Rattle.std.specs.Prelude.{slice_index_or}
+use Rattle.std.specs.Option.{option_map}
 use Rattle.std.specs.Iterator.Runs.{Run, AllItems, AnyItem}
 use Rattle.std.specs.List.{IsFirstBest}
-use Rattle.std.specs.Option.{option_map}
-use Rattle.ne_iter.specs.Sources.{Reads}
-use Rattle.ne_iter.specs.SourceRuns.{RunsSome, RunsWhole, BeginsRuns}
+use Rattle.ne_iter.specs.Sources.{Reads, RunsSome, RunsWhole, BeginsRuns}
 
 module _ {U S A : Type 0} {becomes : U → S → Type 0} {steps : S → Option A → S → Type 0} {u : U}
     {xs : List A} where
@@ -51,21 +50,6 @@ module _ {A : Type 0} (beats : A → A → Bool) (xs : List A) (m : A) (place : 
       ),
     ),
   )
-
--- an item of a list is an item of a run that gave the list
-pub whole_run_with : {U S A : Type 0} {becomes : U → S → Type 0} {steps : S → Option A → S → Type 0}
-    {u : U} {xs : List A} → Reads becomes steps true u xs → (P : List A → Type 0) → P xs → (m : A)
-    → Contains xs m → RunsWhole becomes steps u (λ p. AnyItem p (λ x. x ≡ m) × P p.items)
-whole_run_with {xs = xs} h P k m there =
-    whole_run_of h (λ p. AnyItem p (λ x. x ≡ m) × P p.items) (
-      (
-        there.0,
-        there.1,
-        subst (λ o. IsSomeAnd o (λ x. x ≡ m))
-            (sym (slice_get-get_or xs there.0 m there.1)) there.2,
-      ),
-      k,
-    )
 
 -- a mapped list, place by place
 pub indexes : {A B : Type 0} (xs : List A) (v : A → B) → (length (map v xs) ≡ length xs)

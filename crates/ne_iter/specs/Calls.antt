@@ -15,17 +15,18 @@ Calls {F = F} calls f (x ∷ xs) (y ∷ ys) g = (h : F) × Called calls f (x, tt
     × Calls calls h xs ys g
 
 -- f, called with references to the items of ps, may return the second parts of ps, and is then g.
-abbrev pub ShownEach : {F A B : Type 0} → Mut F (Bor A × Unit {0}) B → F → List (A × B) → F → Type 0
-ShownEach calls f ps g = FoldsTo (λ p x q. CalledAt calls p x.0 x.1 q) f ps g
+abbrev pub CallsEachAt : {F A B : Type 0} → Mut F (Bor A × Unit {0}) B → F → List (A × B) → F → Type
+    0
+CallsEachAt calls f ps g = FoldsTo (λ p x q. CalledAt calls p x.0 x.1 q) f ps g
 
 -- f, called with the items of xs, may return y each time, and is then g.
-abbrev pub AnswersEach : {F A B : Type 0} → Mut F (A × Unit {0}) B → B → F → List A → F → Type 0
-AnswersEach calls y f xs g = FoldsTo (λ p x q. Called calls p (x, tt) y q) f xs g
+abbrev pub ReturnsEach : {F A B : Type 0} → Mut F (A × Unit {0}) B → B → F → List A → F → Type 0
+ReturnsEach calls y f xs g = FoldsTo (λ p x q. Called calls p (x, tt) y q) f xs g
 
 -- f, called with references to the items of xs, may return y each time, and is then g.
-abbrev pub AnswersEachAt : {F A B : Type 0} → Mut F (Bor A × Unit {0}) B → B → F → List A → F
+abbrev pub ReturnsEachAt : {F A B : Type 0} → Mut F (Bor A × Unit {0}) B → B → F → List A → F
     → Type 0
-AnswersEachAt calls y f xs g = FoldsTo (λ p x q. CalledAt calls p x y q) f xs g
+ReturnsEachAt calls y f xs g = FoldsTo (λ p x q. CalledAt calls p x y q) f xs g
 
 -- f, called with the total so far and the next item of xs, may take the total from init to r, and
 -- is then g.

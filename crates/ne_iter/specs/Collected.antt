@@ -30,8 +30,8 @@ values_or_first_err (Err e ∷ rs) = Err e
 
 module _ {T V : Type 0} (collected : List T → V → Type 0) (is_complete : V → Bool) where
   -- The items make v; if v is not complete, the first of them do.
-  abbrev pub FrontMakes : List T → V → Type 0
-  FrontMakes items v = MatchBool (is_complete v) (collected items v)
+  abbrev pub PrefixMakes : List T → V → Type 0
+  PrefixMakes items v = MatchBool (is_complete v) (collected items v)
       ((front : List T) × (more : List T) × (items ≡ front ++ more) × collected front v)
 
   -- `Ok` of what the values make if each item is `Ok`; otherwise the first `Err`. The items end
@@ -39,6 +39,6 @@ module _ {T V : Type 0} (collected : List T → V → Type 0) (is_complete : V �
   abbrev pub ResultsMake : {E : Type 0} → List (Result T E) → Result V E → Type 0
   ResultsMake {E} items result = MatchResult result
       (λ v. (values : List T) × (items ≡ map Ok values)
-      × (values_or_first_err items ≡ Ok values) × FrontMakes values v)
+      × (values_or_first_err items ≡ Ok values) × PrefixMakes values v)
       (λ e. (values : List T) × (items ≡ map Ok values ++ Err e ∷ [])
       × ((more : List (Result T E)) → values_or_first_err (items ++ more) ≡ Err e))

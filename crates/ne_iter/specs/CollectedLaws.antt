@@ -1,6 +1,5 @@
 -- Pairs or items that are inserted in turn, one or many, into an earlier map or set make the map or
 -- set of all of them. The crates of maps and sets use these lemmas.
-use mathlib.Core.Path.{fun_ext}
 use Rattle.std.proofs.Common.{◌≡◌, ◌<◌, length, arith, is_some, true≢false, Bool, true, false, cond}
 use Rattle.std.proofs.Common.{◌||◌, List, [], ◌∷◌, ◌++◌, reverse, refl, sym, ap, subst, ◌∙◌}
 use Rattle.std.proofs.Common.{append_assoc, append-nil, Option, None, Some}
@@ -14,6 +13,7 @@ use Rattle.std.specs.Option.{option_or}
 use Rattle.std.specs.Set.{is_member}
 use Rattle.ne_iter.specs.Collected.{last_value, IsMapOf, IsSetOf}
 use Rattle.ne_iter.specs.KeyList.{first_seen}
+use mathlib.Core.Path.{fun_ext}
 
 pub lookup-append : {K V : Type 0} (test : K → Bool) (es fs : List (K × V))
     → lookup test (es ++ fs) ≡ option_or (lookup test es) (lookup test fs)
@@ -129,11 +129,19 @@ module _ {K : Type 0} (eq : K → K → Bool) where
   unfolding IsDistinct
   IsDistinct-one k = (tt, tt)
 
-  pub map_of-one : {V : Type 0} (p : K × V) → IsMapOf eq (p ∷ []) (p ∷ [])
-  map_of-one p = (IsDistinct-one p.0, λ q. refl)
+  pub map_of-one : {V : Type 0} (p : K × V) (es : List (K × V)) → es ≡ p ∷ []
+      → IsMapOf eq (p ∷ []) es × (0 < length es)
+  map_of-one p es is = (
+    subst (IsMapOf eq (p ∷ [])) (sym is) (IsDistinct-one p.0, λ q. refl),
+    subst (λ l. 0 < length l) (sym is) (omega arith),
+  )
 
-  pub set_of-one : (x : K) → IsSetOf eq (x ∷ []) (x ∷ [])
-  set_of-one x = (IsDistinct-one x, λ q. refl)
+  pub set_of-one : (x : K) (ks : List K) → ks ≡ x ∷ []
+      → IsSetOf eq (x ∷ []) ks × (0 < length ks)
+  set_of-one x ks is = (
+    subst (IsSetOf eq (x ∷ [])) (sym is) (IsDistinct-one x, λ q. refl),
+    subst (λ l. 0 < length l) (sym is) (omega arith),
+  )
 
 list_any-append : {K : Type 0} (t : K → Bool) (xs : List K) (y : K)
     → list_any t (xs ++ y ∷ []) ≡ (t y || list_any t xs)

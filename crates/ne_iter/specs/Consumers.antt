@@ -1,82 +1,17 @@
--- The results of the methods that use a source up. Each is stated for a list that the source may
--- give, to the end or up to the item that decided.
-use Rattle.std.specs.Prelude.{◌≡◌, ℕ, ◌≤◌, Bool, true, false, cond, List, [], ◌∷◌, ◌++◌, length}
-use Rattle.std.specs.Prelude.{map, Option, Some, MatchOption, slice_get}
-use Rattle.std.specs.Bool.{MatchBool}
+-- The results of the methods that pick an item of all that a source yields.
+use Rattle.std.specs.Prelude.{◌≡◌, ℕ, Bool, true, false, cond, List, length, map, Option, Some}
+use Rattle.std.specs.Prelude.{slice_get}
 use Rattle.std.specs.Borrow.{Bor}
 use Rattle.std.specs.Cmp.{IsStrictWeakOrder}
-use Rattle.std.specs.Fn.{Called, CalledAt, Mut, Shared, FnReturnsAtPair}
+use Rattle.std.specs.Fn.{CalledAt, Mut, Shared, FnReturnsAtPair}
 use Rattle.std.specs.Iterator.{ActsAsAt, Yields}
-use Rattle.std.specs.Iterator.Runs.{AllItems, CallKeepsClosure, Run}
+use Rattle.std.specs.Iterator.Runs.{AllItems, AnyItem, CallKeepsClosure, Run}
 use Rattle.std.specs.List.{All, IsFirstBest, Contains}
 use Rattle.std.specs.Ordering.{is_gt, is_lt}
 use Rattle.std.specs.declared.cmp.Ordering.{Ordering}
-use Rattle.ne_iter.specs.Calls.{AnswersEach, AnswersEachAt, Folds, ShownEach}
+use Rattle.ne_vec.specs.Lists.{Naming}
+use Rattle.ne_iter.specs.Calls.{CallsEachAt}
 use Rattle.ne_iter.specs.Keys.{items_of}
-
-module _ {U A : Type 0} (reads : Bool → U → List A → Type 0) where
-  -- After the items xs an item came, and f returned y for it.
-  pub record StopsAtItem {F : Type 0} (calls : Mut F (A × Unit {0}) Bool) (y : Bool) (source : U)
-      (xs : List A) (f : F) : Type 0 where
-    pub item : A
-    pub f_then : F
-    pub read : reads false source (xs ++ item ∷ [])
-    pub called : Called calls f (item, tt) y f_then
-
-  -- `all`: f returned true for the items. If the result is `true`, the source then ended; if it is
-  -- `false`, f returned false for the next item.
-  pub record TellsAll {F : Type 0} (calls : Mut F (A × Unit {0}) Bool) (source : U) (f : F)
-      (result : Bool) : Type 0 where
-    pub items : List A
-    pub f_then : F
-    pub passed : AnswersEach calls true f items f_then
-    pub decided : MatchBool result (reads true source items)
-        (StopsAtItem calls false source items f_then)
-
-  -- `any`: f returned false for the items. If the result is `true`, f returned true for the next
-  -- item; if it is `false`, the source then ended.
-  pub record TellsAny {F : Type 0} (calls : Mut F (A × Unit {0}) Bool) (source : U) (f : F)
-      (result : Bool) : Type 0 where
-    pub items : List A
-    pub f_then : F
-    pub failed : AnswersEach calls false f items f_then
-    pub decided : MatchBool result (StopsAtItem calls true source items f_then)
-        (reads true source items)
-
-  -- `find`: f returned false for the items. Then either the source ended, or the result came, and f
-  -- returned true for it.
-  pub record FindsFirst {F : Type 0} (calls : Mut F (Bor A × Unit {0}) Bool) (source : U) (f : F)
-      (result : Option A) : Type 0 where
-    pub items : List A
-    pub f_then : F
-    pub failed : AnswersEachAt calls false f items f_then
-    pub decided : MatchOption result (reads true source items)
-        (λ x. (g : F) × reads false source (items ++ x ∷ []) × CalledAt calls f_then x true g)
-
-  -- `nth`: the item after n others, or `None` if the source ended after at most n items.
-  abbrev pub GivesNth : U → ℕ → Option A → Type 0
-  GivesNth source n result = (xs : List A)
-      × MatchOption result (reads true source xs × (length xs ≤ n))
-      (λ x. reads false source (xs ++ x ∷ []) × (length xs ≡ n))
-
-  -- `fold`: f, called with the total so far and the next item, took the total from init to the
-  -- result.
-  pub record FoldsAll {B F : Type 0} (calls : Mut F (B × (A × Unit {0})) B) (source : U) (f : F)
-      (init result : B) : Type 0 where
-    pub items : List A
-    pub f_then : F
-    pub read : reads true source items
-    pub folded : Folds calls f init items result f_then
-
-  -- `reduce`: f, called with the total so far and the next item, took the total from the first item
-  -- to the result.
-  pub record ReducesAll {F : Type 0} (calls : Mut F (A × (A × Unit {0})) A) (source : U) (f : F)
-      (result : A) : Type 0 where
-    pub first : A
-    pub others : List A
-    pub f_then : F
-    pub read : reads true source (first ∷ others)
-    pub folded : Folds calls f first others result f_then
 
 -- x is less than y, by cmp.
 abbrev pub less_by : {A : Type 0} → (A → A → Ordering) → A → A → Bool
@@ -110,9 +45,9 @@ module _ {A : Type 0} where
 
   -- For any two items x and y of xs, what f returns is `meant` if and only if `test x y`. `meant`
   -- is `is_lt` for `Less` or `is_gt` for `Greater`.
-  abbrev pub AnswersJustWhere : {F : Type 0} → Shared F (Bor A × (Bor A × Unit {0})) Ordering → F
+  abbrev pub ReturnsOnlyWhere : {F : Type 0} → Shared F (Bor A × (Bor A × Unit {0})) Ordering → F
       → List A → (Ordering → Bool) → (A → A → Bool) → Type 0
-  AnswersJustWhere calls f xs meant test = (x y : A) (r : Ordering) → Contains xs x → Contains xs y
+  ReturnsOnlyWhere calls f xs meant test = (x y : A) (r : Ordering) → Contains xs x → Contains xs y
       → FnReturnsAtPair calls f x y r → meant r ≡ test x y
 
   -- `max_by`: m is an item of xs. If f returns `Less` exactly as a total preorder does, m is the
@@ -120,14 +55,14 @@ module _ {A : Type 0} where
   abbrev pub PicksGreatest : {F : Type 0} → Shared F (Bor A × (Bor A × Unit {0})) Ordering → F
       → List A → A → Type 0
   PicksGreatest calls f xs m = Contains xs m × ((less : A → A → Bool) → IsStrictWeakOrder less
-      → AnswersJustWhere calls f xs is_lt less → IsFirstGreatest less xs m)
+      → ReturnsOnlyWhere calls f xs is_lt less → IsFirstGreatest less xs m)
 
   -- `min_by`: m is an item of xs. If f returns `Greater` exactly as a total preorder does, m is the
   -- first least item.
   abbrev pub PicksLeast : {F : Type 0} → Shared F (Bor A × (Bor A × Unit {0})) Ordering → F → List A
       → A → Type 0
   PicksLeast calls f xs m = Contains xs m × ((less : A → A → Bool) → IsStrictWeakOrder less
-      → AnswersJustWhere calls f xs is_gt (λ x y. less y x) → IsFirstLeast less xs m)
+      → ReturnsOnlyWhere calls f xs is_gt (λ x y. less y x) → IsFirstLeast less xs m)
 
 -- `max_by_key` and `min_by_key`: `best` says that the result, with its key, is the best of the
 -- items that the source gave to the end, where each item has the key that f returned for it. f was
@@ -139,7 +74,7 @@ pub record PicksByKey {U A K F : Type 0} (reads : Bool → U → List A → Type
   pub key : K
   pub f_then : F
   pub read : reads true source (items_of keyed)
-  pub shown : ShownEach calls f keyed f_then
+  pub shown : CallsEachAt calls f keyed f_then
   pub is_best : best keyed (result, key)
 
 module _ {U A K F : Type 0} (reads : Bool → U → List A → Type 0)
@@ -160,15 +95,22 @@ module _ {U A K F : Type 0} (reads : Bool → U → List A → Type 0)
 module _ {A K F : Type 0} (calls : Mut F (Bor A × Unit {0}) K) (cmp : K → K → Ordering) (f : F)
     (xs : List A) (m : A) where
   abbrev pub HasGreatestKey : Type 0
-  HasGreatestKey = Contains xs m × ((h : A → K) → ActsAsAt calls f h → (map h xs ≡ map h xs)
-      × All (λ k. less_by cmp (h m) k ≡ false) (map h xs))
+  HasGreatestKey = Contains xs m × ((h : A → K) → ActsAsAt calls f h
+      → Naming (map h xs) (All (λ k. less_by cmp (h m) k ≡ false)))
 
   abbrev pub HasLeastKey : Type 0
-  HasLeastKey = Contains xs m × ((h : A → K) → ActsAsAt calls f h → (map h xs ≡ map h xs)
-      × All (λ k. less_by cmp k (h m) ≡ false) (map h xs))
+  HasLeastKey = Contains xs m × ((h : A → K) → ActsAsAt calls f h
+      → Naming (map h xs) (All (λ k. less_by cmp k (h m) ≡ false)))
 
 -- If no call changes f, no item of the run has a key that beats the key of m.
 abbrev pub NoKeyBeats : {S A K F : Type 0} {steps : S → Option A → S → Type 0} → Run steps
     → Mut F (Bor A × Unit {0}) K → F → (K → K → Bool) → A → Type 0
 NoKeyBeats {K = K} p calls f beats m = CallKeepsClosure calls f → (k : K) × CalledAt calls f m k f
     × AllItems p (λ x. (j : K) × CalledAt calls f x j f × (beats j k ≡ false))
+
+-- For the automatic proof, of a run whose best item is m: m is one of its items, none of them beats
+-- m, and m is contained in each list that equals its items.
+abbrev pub IsBestOfRun : {S A : Type 0} {steps : S → Option A → S → Type 0} → Run steps
+    → (A → A → Bool) → A → Type 0
+IsBestOfRun {A = A} p beats m = AnyItem p (λ x. x ≡ m) × AllItems p (λ x. beats x m ≡ false)
+    × ((xs : List A) → p.items ≡ xs → Contains xs m)

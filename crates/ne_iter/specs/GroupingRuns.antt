@@ -8,7 +8,8 @@ use Rattle.std.specs.Iterator.{ActsAsAt, Yields, YieldsThen, Count, IsFinite, at
 use Rattle.std.specs.Iterator.Runs.{EachRunFrom, SomeRun}
 use Rattle.std.specs.declared.alloc.AllocError.{AllocError}
 use Rattle.ne_vec.specs.Divisions.{IsDivision, by_first}
-use Rattle.ne_iter.specs.Calls.{ShownEach}
+use Rattle.ne_vec.specs.Lists.{Naming}
+use Rattle.ne_iter.specs.Calls.{CallsEachAt}
 use Rattle.ne_iter.specs.Keys.{items_of, same_key, IsDividedBy}
 use Rattle.ne_iter.specs.Grouping.{Grouping, Ahead, Unread, Held, Ended}
 
@@ -35,7 +36,7 @@ module _ {S K A F : Type 0} (steps : S → Option A → S → Type 0) (asks : Mu
     pub drawn : List (A × K)
     pub runs : List (List (A × K))
     pub answered : rs ≡ map items_of runs
-    pub asked : ShownEach asks f drawn g.closure
+    pub asked : CallsEachAt asks f drawn g.closure
     pub stands : StandsAt g.ahead s drawn g.source runs
 
   -- One call of `next` returns r, and takes the grouping from g to h.
@@ -53,23 +54,23 @@ module _ {S K A F : Type 0} (steps : S → Option A → S → Type 0) (asks : Mu
   -- What a grouping that had returned the runs rs returned next, and what it is now. There are
   -- three cases: nothing yet; or `None`; or an `Err`, and it was k before. After `None` and after
   -- an `Err` it returns only `None`.
-  abbrev pub AnswersThen : S → F → List (List A) → List (Option (Result (List A) AllocError))
+  abbrev pub ReturnsThen : S → F → List (List A) → List (Option (Result (List A) AllocError))
       → Grouping S K A F → Type 0
-  AnswersThen s f rs [] h = HasRead s f rs h
-  AnswersThen s f rs (None ∷ more) h = HasRead s f rs h × IsOver h
+  ReturnsThen s f rs [] h = HasRead s f rs h
+  ReturnsThen s f rs (None ∷ more) h = HasRead s f rs h × IsOver h
       × AllByRecursion (λ a. a ≡ None) more
-  AnswersThen s f rs (Some (Ok run) ∷ more) h = ⊥
-  AnswersThen s f rs (Some (Err e) ∷ more) h = ((k : Grouping S K A F) × HasRead s f rs k)
+  ReturnsThen s f rs (Some (Ok run) ∷ more) h = ⊥
+  ReturnsThen s f rs (Some (Err e) ∷ more) h = ((k : Grouping S K A F) × HasRead s f rs k)
       × IsOver h × AllByRecursion (λ a. a ≡ None) more
 
   -- A grouping that had returned the runs `done` returned `answers` next, and is now h.
-  pub record AnswersOn (s : S) (f : F) (done : List (List A))
+  pub record ReturnsOn (s : S) (f : F) (done : List (List A))
       (answers : List (Option (Result (List A) AllocError))) (h : Grouping S K A F) : Type 0 where
     pub runs : List (List A)
     -- what it returned after the runs
     pub later : List (Option (Result (List A) AllocError))
     pub are_all : answers ≡ map (λ run. Some (Ok run)) runs ++ later
-    pub ended : AnswersThen s f (done ++ runs) later h
+    pub ended : ReturnsThen s f (done ++ runs) later h
 
 -- A grouping that is not over needs a source that can be read and ends, and a closure that can be
 -- called with each item that the source may give.
@@ -94,6 +95,6 @@ abbrev pub GroupsRuns : {S K A F : Type 0} → (S → Option A → S → Type 0)
     → Mut F (Bor A × Unit {0}) K → (K → K → Bool) → Grouping S K A F → Type 0
 GroupsRuns {K = K} {A = A} steps asks eq g = EachRunFrom (GivesRun steps asks eq) g (λ p.
     (rs : List (List A)) → p.items ≡ map Ok rs → p.whole ≡ true
-    → (map {B = Result (List A) AllocError} Ok rs ≡ map Ok rs)
-    × SomeRun steps g.source (λ q. (q.whole ≡ true)
-    × ((h : A → K) → ActsAsAt asks g.closure h → IsDividedBy h eq q.items rs)))
+    → Naming (map {B = Result (List A) AllocError} Ok rs)
+    (λ _. SomeRun steps g.source (λ q. (q.whole ≡ true)
+    × ((h : A → K) → ActsAsAt asks g.closure h → IsDividedBy h eq q.items rs))))

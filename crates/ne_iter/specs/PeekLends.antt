@@ -1,8 +1,8 @@
 -- The value of a `Peekable` after a mutable borrow of its first item has ended.
 use Rattle.std.specs.Borrow.{Lends, MutBor, Fml, RattleType}
-use Rattle.ne_iter.specs.declared.iter.peek.Peekable.{Peekable}
-use Rattle.ne_iter.specs.Peeks.{with_first}
-use Rattle.ne_iter.specs.contracts.iter.peek.Peekable.{the_row}
+use Rattle.ne_iter.specs.declared.iter.peekable.Peekable.{Peekable}
+use Rattle.ne_iter.specs.Peekable.{with_first}
+use Rattle.ne_iter.specs.contracts.iter.peekable.Peekable.{the_row}
 
 -- once the borrow r ends, the first item is the last value written through r
 abbrev pub lends_first : (I X : RattleType) → MutBor (Peekable I.Denot X.Denot) → MutBor X.Denot

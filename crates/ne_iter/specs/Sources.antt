@@ -1,6 +1,8 @@
--- What a source of items may give, and the two laws of sources.
-use Rattle.std.specs.Prelude.{◌≡◌, Bool, true, List, Option, Some, None}
+-- What a source of items may yield, and the two laws of sources.
+use Rattle.std.specs.Prelude.{◌≡◌, Bool, true, List, Option, Some, None, map, ◌+◌, ◌∷◌}
 use Rattle.std.specs.Iterator.{Count, DrainsIf, MakesProgress}
+use Rattle.std.specs.Iterator.Runs.{EachRunFrom, Run, SomeRun, WholeRun}
+use Rattle.ne_vec.specs.Lists.{IsPrefix}
 
 -- The source u may give the items xs first, in this order; if whole is true, it may then end.
 -- `becomes` is the `into_iter_gives` of the source, and `steps` the `next_gives` of its iterator.
@@ -9,6 +11,11 @@ pub record Reads {U S A : Type 0} (becomes : U → S → Type 0) (steps : S → 
   pub it : S
   pub made : becomes u it
   pub given : DrainsIf steps (whole ≡ true) it xs
+
+-- P holds for whatever the source may yield, so far or to its end.
+abbrev pub EachReading : {U A : Type 0} → (Bool → U → List A → Type 0) → U
+    → (Bool → List A → Type 0) → Type 0
+EachReading {A = A} reads u P = (whole : Bool) (xs : List A) → reads whole u xs → P whole xs
 
 -- The first call of the iterator returns an item, in every case.
 abbrev pub HasFirst : {S A : Type 0} → (S → Option A → S → Type 0) → S → Type 0
@@ -32,3 +39,34 @@ abbrev pub DrawsFirst : {U S A : Type 0} → (U → S → Type 0) → (S → Opt
     → (S → Type 0) → (S → Count) → U → A → S → Type 0
 DrawsFirst {S = S} becomes steps can left u x rest = (it : S) × becomes u it
     × steps it (Some x) rest × MakesProgress can left it (Some x) rest
+
+-- P holds for an iterator that the source u becomes.
+abbrev pub Becomes : {U S : Type 0} → (U → S → Type 0) → U → (S → Type 0) → Type 0
+Becomes {S = S} becomes u P = (it : S) × becomes u it × P it
+
+module _ {U S A : Type 0} (becomes : U → S → Type 0) (steps : S → Option A → S → Type 0)
+    (u : U) (P : Run steps → Type 0) where
+  -- P holds for some run of such an iterator.
+  abbrev pub RunsSome : Type 0
+  RunsSome = Becomes becomes u (λ it. SomeRun steps it P)
+
+  -- P holds for some run that continued to `None`.
+  abbrev pub RunsWhole : Type 0
+  RunsWhole = Becomes becomes u (λ it. WholeRun steps it P)
+
+-- If `it` returned x and became `rest`, each run of `rest` with x before it is a run of `it`.
+abbrev pub BeginsRuns : {S A : Type 0} → (S → Option A → S → Type 0) → A → S → S → Type 0
+BeginsRuns steps x rest it = EachRunFrom steps rest (λ p.
+    SomeRun steps it (λ q. (q.whole ≡ p.whole) × (q.len ≡ p.len + 1) × (q.items ≡ x ∷ p.items)))
+
+-- The source u gives the list xs and no other: what it reads are the first items of xs, and what it
+-- gives to the end is all of xs.
+abbrev pub ReadsList : {U A : Type 0} → (Bool → U → List A → Type 0) → U → List A → Type 0
+ReadsList {A = A} reads u xs = (whole : Bool) (ys : List A) → reads whole u ys
+    → IsPrefix whole xs ys
+
+-- The source u gives items of which `view` makes the list xs, and no other.
+abbrev pub ReadsListThrough : {U A B : Type 0} → (Bool → U → List A → Type 0) → (A → B) → U → List B
+    → Type 0
+ReadsListThrough {A = A} reads view u xs =
+    (whole : Bool) (ys : List A) → reads whole u ys → IsPrefix whole xs (map view ys)

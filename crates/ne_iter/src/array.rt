@@ -76,7 +76,7 @@ pub struct ArrayNonEmptyIterator<T, const N: usize> {
 }
 
 impl<T: Drop, const N: usize> IntoIterator for ArrayNonEmptyIterator<T, N> {
-    ghost use Rattle.ne_iter.specs.Parts.{array_items};
+    ghost use Rattle.ne_iter.specs.Arrays.{array_items};
 
     type Item = T;
 
@@ -99,16 +99,15 @@ where
     [T; N]: NonEmptyArray<N>,
 {
     ghost use Rattle.std.proofs.Common.{refl, subst};
-    ghost use Rattle.ne_vec.specs.Fronts.{Listed};
+    ghost use Rattle.ne_vec.specs.Lists.{Listed};
     ghost use Rattle.ne_iter.specs.SourceLaws.{SameLists-through};
-    ghost use Rattle.ne_iter.specs.ArrayLaws.{array_gives};
-    ghost use Rattle.ne_iter.specs.Parts.{array_items};
+    ghost use Rattle.ne_iter.specs.Arrays.{array_gives, array_items};
 
     type IntoNEIter = ArrayNonEmptyIterator<T, N>;
 
     ghost into_nonempty_iter_gives = { λ a s. (array_items s ≡ a)
         × Listed (⟦<ArrayNonEmptyIterator<T, N> as IntoIterator>⟧.into_iter_gives)
-        (⟦<array::IntoIter<T, N> as Iterator>⟧.next_gives) s a };
+        (⟦<array::IntoIter<T, N> as Iterator>⟧.next_gives) (λ x. x) s a };
 
     ghost same_lists = { SameLists-through (⟦<[T; N] as IntoIterator>⟧.into_iter_gives)
         (⟦<array::IntoIter<T, N> as Iterator>⟧.next_gives)
@@ -134,22 +133,22 @@ where
     [T; N]: NonEmptyArray<N>,
 {
     ghost use Rattle.std.proofs.Common.{refl, subst, sym, ap, ◌∙◌};
-    ghost use Rattle.ne_vec.specs.WalkFronts.{WalkShows};
-    ghost use Rattle.ne_vec.specs.WalkLaws.{walk_shows};
+    ghost use Rattle.ne_vec.specs.Iterators.{ListsItems};
+    ghost use Rattle.ne_vec.specs.IteratorLaws.{lists_items};
     ghost use Rattle.ne_iter.specs.SourceLaws.{SameLists-through};
 
     type IntoNEIter = slice::Iter<'a, T>;
 
     ghost into_nonempty_iter_gives = { λ a s. (s ≡ a.now) × (length a.now ≡ N)
-        × WalkShows s a.now };
+        × ListsItems s a.now };
 
     ghost same_lists = { SameLists-through (⟦<&'a [T; N] as IntoIterator>⟧.into_iter_gives)
         (⟦<std::slice::Iter<'a, T> as Iterator>⟧.next_gives)
-        (λ a s. (s ≡ a.now) × (length a.now ≡ N) × WalkShows s a.now)
+        (λ a s. (s ≡ a.now) × (length a.now ≡ N) × ListsItems s a.now)
         (⟦<slice::Iter<'a, T> as IntoIterator>⟧.into_iter_gives)
         (λ a it made. (
           a.now,
-          (refl, sym (ap length made.0) ∙ made.3, walk_shows a.now a.now refl),
+          (refl, sym (ap length made.0) ∙ made.3, lists_items a.now a.now refl),
           (
             subst (λ n. 0 < n) (sym made.3 ∙ ap length made.0)
                 ⟦<[T; N] as NonEmptyArray<N>>⟧.has_item,

@@ -1,34 +1,47 @@
 //! Sources that give at least one item: the traits, and the adapters that keep a source non-empty.
 ghost use Rattle.std.specs.Prelude.{◌≡◌, ◌∷◌, []};
-ghost use Rattle.ne_iter.specs.Parts.{once_item};
-ghost use Rattle.ne_iter.specs.Gives.{GivesList};
+ghost use Rattle.ne_iter.specs.Once.{once_item};
 
-mod adapters;
 mod best;
-mod cloned;
+pub(crate) mod chain;
+pub(crate) mod cloned;
 mod collected;
-mod flatten;
-mod group_by;
+pub(crate) mod copied;
+pub(crate) mod enumerate;
+pub(crate) mod flat_map;
+pub(crate) mod flatten;
+pub(crate) mod group_by;
+mod held;
 mod intersperse;
+pub(crate) mod map;
 mod non_empty;
-mod one_item;
-mod peek;
-mod scan;
+pub(crate) mod one_item;
+pub(crate) mod peekable;
+pub(crate) mod scan;
 mod sources;
+pub(crate) mod take;
 mod try_into;
+pub(crate) mod zip;
 
-pub use adapters::{Chain, Enumerate, Map, Take, Zip};
-pub use cloned::{Cloned, ClonedIter, Copied};
+pub use chain::Chain;
+pub use cloned::{Cloned, ClonedIter};
 pub use collected::FromNonEmptyIterator;
-pub use flatten::{FlatMap, Flatten};
+pub use copied::Copied;
+pub use enumerate::Enumerate;
+pub use flat_map::FlatMap;
+pub use flatten::Flatten;
 pub use group_by::{GroupBy, NEGroupBy};
+pub use held::{ClonedIterator, HeldIterator, NonEmptyIter};
 pub use intersperse::{Intersperse, RawIntersperse};
+pub use map::Map;
 pub use non_empty::NonEmptyIterator;
 pub use one_item::Once;
-pub use peek::Peekable;
+pub use peekable::Peekable;
 pub use scan::{Scan, ScanIter};
-pub use sources::{IntoNonEmptyIterator, SourceWords};
-pub use try_into::{IntoIteratorExt, LooksAhead, NonEmptyIterAdapter};
+pub use sources::{IntoNonEmptyIterator, Source};
+pub use take::Take;
+pub use try_into::{IntoIteratorExt, NonEmptyIterAdapter, PeeksAhead};
+pub use zip::Zip;
 
 /// Returns a source of one item, `value`.
 ///
@@ -37,8 +50,7 @@ pub use try_into::{IntoIteratorExt, LooksAhead, NonEmptyIterAdapter};
 /// ```
 pub fn once<T: Drop>(value: T) -> Once<T>
     ensures holds { once_item result ≡ value }
-    ensures gives { GivesList (⟦<Once<T> as SourceWords>⟧.reads) result (value ∷ []) }
-    ensures lists { ⟦<Once<T> as SourceWords>⟧.gives_items result (value ∷ []) }
+    ensures lists { ⟦<Once<T> as Source>⟧.yields_items result (value ∷ []) }
 {
     Once { item: value }
 }

@@ -6,20 +6,20 @@ use ne_vec::{NESlice, slice};
 impl<'a, T> IntoNonEmptyIterator for NESlice<'a, T> {
     ghost use Rattle.std.specs.Prelude.{◌≡◌};
     ghost use Rattle.std.proofs.Common.{refl, subst};
-    ghost use Rattle.ne_vec.specs.WalkFronts.{WalkShows};
-    ghost use Rattle.ne_vec.specs.WalkLaws.{walk_shows};
+    ghost use Rattle.ne_vec.specs.Iterators.{ListsItems};
+    ghost use Rattle.ne_vec.specs.IteratorLaws.{lists_items};
     ghost use Rattle.ne_iter.specs.SourceLaws.{SameLists-through};
 
     type IntoNEIter = slice::Iter<'a, T>;
 
-    ghost into_nonempty_iter_gives = { λ v s. (s ≡ v) × WalkShows s v };
+    ghost into_nonempty_iter_gives = { λ v s. (s ≡ v) × ListsItems s v };
 
     ghost same_lists = { SameLists-through
         (⟦<NESlice<'a, T> as IntoIterator>⟧.into_iter_gives)
         (⟦<std::slice::Iter<'a, T> as Iterator>⟧.next_gives)
-        (λ v s. (s ≡ v) × WalkShows s v)
+        (λ v s. (s ≡ v) × ListsItems s v)
         (⟦<slice::Iter<'a, T> as IntoIterator>⟧.into_iter_gives)
-        (λ v it made. (v, (refl, walk_shows v v refl), made))
+        (λ v it made. (v, (refl, lists_items v v refl), made))
         (λ v s it same made.
         subst (λ xs. ⟦<slice::Iter<'a, T> as IntoIterator>⟧.into_iter_gives xs it) same.0 made) };
 
@@ -31,20 +31,20 @@ impl<'a, T> IntoNonEmptyIterator for NESlice<'a, T> {
 impl<'a, T> IntoNonEmptyIterator for &'a NESlice<'a, T> {
     ghost use Rattle.std.specs.Prelude.{◌≡◌};
     ghost use Rattle.std.proofs.Common.{refl, subst};
-    ghost use Rattle.ne_vec.specs.WalkFronts.{WalkShows};
-    ghost use Rattle.ne_vec.specs.WalkLaws.{walk_shows};
+    ghost use Rattle.ne_vec.specs.Iterators.{ListsItems};
+    ghost use Rattle.ne_vec.specs.IteratorLaws.{lists_items};
     ghost use Rattle.ne_iter.specs.SourceLaws.{SameLists-through};
 
     type IntoNEIter = slice::Iter<'a, T>;
 
-    ghost into_nonempty_iter_gives = { λ v s. (s ≡ v.now) × WalkShows s v.now };
+    ghost into_nonempty_iter_gives = { λ v s. (s ≡ v.now) × ListsItems s v.now };
 
     ghost same_lists = { SameLists-through
         (⟦<&'a NESlice<'a, T> as IntoIterator>⟧.into_iter_gives)
         (⟦<std::slice::Iter<'a, T> as Iterator>⟧.next_gives)
-        (λ v s. (s ≡ v.now) × WalkShows s v.now)
+        (λ v s. (s ≡ v.now) × ListsItems s v.now)
         (⟦<slice::Iter<'a, T> as IntoIterator>⟧.into_iter_gives)
-        (λ v it made. (v.now, (refl, walk_shows v.now v.now refl), made))
+        (λ v it made. (v.now, (refl, lists_items v.now v.now refl), made))
         (λ v s it same made.
         subst (λ xs. ⟦<slice::Iter<'a, T> as IntoIterator>⟧.into_iter_gives xs it) same.0 made) };
 
@@ -54,16 +54,15 @@ impl<'a, T> IntoNonEmptyIterator for &'a NESlice<'a, T> {
 }
 
 impl<'a, T> NonEmptyIterator for slice::Iter<'a, T> {
-    ghost use Rattle.ne_iter.specs.FirstItemLaws.{HasFirst-walk};
-    ghost use Rattle.ne_iter.specs.Views.{referenced};
+    ghost use Rattle.ne_vec.specs.Lists.{referenced};
+    ghost use Rattle.ne_iter.specs.FirstItemLaws.{HasFirst-iter};
 
     ghost item_view = { referenced };
 
-    ghost not_empty = { λ s it made. HasFirst-walk s it made };
+    ghost not_empty = { λ s it made. HasFirst-iter s it made };
 }
 
 impl<'a, T> NonEmptyIterator for slice::NEChunks<'a, T> {
-    ghost use Rattle.std.proofs.Common.{arith, ap};
     ghost use Rattle.ne_iter.specs.FirstItemLaws.{HasFirst-chunks};
 
     ghost not_empty = { λ s it made. HasFirst-chunks s it made };

@@ -23,44 +23,43 @@ impl<T: Drop> FromNonEmptyIterator<T> for NEVec<T> {
 }
 
 impl<'a, T> NonEmptyIterator for vector::Iter<'a, T> {
-    ghost use Rattle.std.proofs.Common.{arith, ap};
-    ghost use Rattle.ne_iter.specs.FirstItemLaws.{HasFirst-walk};
-    ghost use Rattle.ne_iter.specs.Views.{referenced};
+    ghost use Rattle.ne_vec.specs.Lists.{referenced};
+    ghost use Rattle.ne_iter.specs.FirstItemLaws.{HasFirst-iter};
 
     ghost item_view = { referenced };
 
-    ghost not_empty = { λ s it made. HasFirst-walk s it made };
+    ghost not_empty = { λ s it made. HasFirst-iter s it made };
 }
 
 impl<'a, T> NonEmptyIterator for vector::IterMut<'a, T> {
-    ghost use Rattle.ne_iter.specs.FirstItemLaws.{HasFirst-walk_mut};
+    ghost use Rattle.ne_iter.specs.FirstItemLaws.{HasFirst-iter_mut};
 
-    ghost not_empty = { λ s it made. HasFirst-walk_mut it made.0 };
+    ghost not_empty = { λ s it made. HasFirst-iter_mut it made.0 };
 }
 
 impl<T: Drop> NonEmptyIterator for vector::IntoIter<T> {
-    ghost use Rattle.ne_iter.specs.FirstItemLaws.{HasFirst-walk_out};
+    ghost use Rattle.ne_iter.specs.FirstItemLaws.{HasFirst-into_iter};
 
-    ghost not_empty = { λ s it made. HasFirst-walk_out s it made };
+    ghost not_empty = { λ s it made. HasFirst-into_iter s it made };
 }
 
 impl<T: Drop> IntoNonEmptyIterator for NEVec<T> {
     ghost use Rattle.std.specs.Prelude.{◌≡◌};
     ghost use Rattle.std.specs.Global.{Global};
     ghost use Rattle.std.proofs.Common.{refl, subst};
-    ghost use Rattle.ne_vec.specs.WalkFronts.{WalkGives};
-    ghost use Rattle.ne_vec.specs.WalkLaws.{walk_gives};
+    ghost use Rattle.ne_vec.specs.Iterators.{ListsItemsByValue};
+    ghost use Rattle.ne_vec.specs.IteratorLaws.{lists_items_by_value};
     ghost use Rattle.ne_iter.specs.SourceLaws.{SameLists-through};
 
     type IntoNEIter = vector::IntoIter<T>;
 
-    ghost into_nonempty_iter_gives = { λ v s. (s ≡ v) × WalkGives Global s v };
+    ghost into_nonempty_iter_gives = { λ v s. (s ≡ v) × ListsItemsByValue Global s v };
 
     ghost same_lists = { SameLists-through (⟦<NEVec<T> as IntoIterator>⟧.into_iter_gives)
         (⟦<vec::IntoIter<T> as Iterator>⟧.next_gives)
-        (λ v s. (s ≡ v) × WalkGives Global s v)
+        (λ v s. (s ≡ v) × ListsItemsByValue Global s v)
         (⟦<vector::IntoIter<T> as IntoIterator>⟧.into_iter_gives)
-        (λ v it made. (v, (refl, walk_gives v v refl Global), made))
+        (λ v it made. (v, (refl, lists_items_by_value v v refl Global), made))
         (λ v s it same made.
         subst (λ xs. ⟦<NEVec<T> as IntoIterator>⟧.into_iter_gives xs it) same.0 made) };
 
@@ -72,19 +71,19 @@ impl<T: Drop> IntoNonEmptyIterator for NEVec<T> {
 impl<'a, T> IntoNonEmptyIterator for &'a NEVec<T> {
     ghost use Rattle.std.specs.Prelude.{◌≡◌};
     ghost use Rattle.std.proofs.Common.{refl, subst};
-    ghost use Rattle.ne_vec.specs.WalkFronts.{WalkShows};
-    ghost use Rattle.ne_vec.specs.WalkLaws.{walk_shows};
+    ghost use Rattle.ne_vec.specs.Iterators.{ListsItems};
+    ghost use Rattle.ne_vec.specs.IteratorLaws.{lists_items};
     ghost use Rattle.ne_iter.specs.SourceLaws.{SameLists-through};
 
     type IntoNEIter = vector::Iter<'a, T>;
 
-    ghost into_nonempty_iter_gives = { λ v s. (s ≡ v.now) × WalkShows s v.now };
+    ghost into_nonempty_iter_gives = { λ v s. (s ≡ v.now) × ListsItems s v.now };
 
     ghost same_lists = { SameLists-through (⟦<&'a NEVec<T> as IntoIterator>⟧.into_iter_gives)
         (⟦<slice::Iter<'a, T> as Iterator>⟧.next_gives)
-        (λ v s. (s ≡ v.now) × WalkShows s v.now)
+        (λ v s. (s ≡ v.now) × ListsItems s v.now)
         (⟦<vector::Iter<'a, T> as IntoIterator>⟧.into_iter_gives)
-        (λ v it made. (v.now, (refl, walk_shows v.now v.now refl), made))
+        (λ v it made. (v.now, (refl, lists_items v.now v.now refl), made))
         (λ v s it same made.
         subst (λ xs. ⟦<vector::Iter<'a, T> as IntoIterator>⟧.into_iter_gives xs it) same.0 made) };
 

@@ -1,11 +1,11 @@
 -- A tree map, read by the equality of its keys, which holds if and only if `cmp` is `Equal`.
 use Rattle.std.proofs.Common.{◌≡◌, ◌<◌, Bool, subst, sym}
-use mathlib.Core.Path.{fun_ext}
 use Rattle.std.specs.BTreeMap.{BTreeMap, IsOrdered, btree_map_len, keys}
 use Rattle.std.specs.Ordering.{eq_by_cmp}
 use Rattle.std.specs.declared.cmp.Ordering.{Ordering}
 use Rattle.std.proofs.lemmas.Map.Keys.{IsDistinct-from_sorted}
 use Rattle.ne_laws.specs.Maps.{IsMap}
+use mathlib.Core.Path.{fun_ext}
 
 module _ {K : Type 0} (eq : K → K → Bool) (cmp : K → K → Ordering)
     (same : (x y : K) → eq x y ≡ eq_by_cmp cmp x y) where

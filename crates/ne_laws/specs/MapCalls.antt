@@ -1,4 +1,5 @@
 -- The replies to a list of calls on a map, and the map that the calls leave.
+use Rattle.ne_laws.specs.declared.map_calls.MapReply.TheVariants as reply
 use Rattle.std.specs.Prelude.{◌≡◌, Bool, List, [], ◌∷◌, ◌++◌, length, is_some}
 use Rattle.std.specs.Int.NonZero.{non_zero_usize_get}
 use Rattle.std.specs.Map.{lookup}
@@ -7,7 +8,6 @@ use Rattle.ne_laws.specs.Maps.{IsMap, Puts, Writes}
 use Rattle.ne_laws.specs.declared.map_calls.MapCall.{MapCall}
 use Rattle.ne_laws.specs.declared.map_calls.MapCall.TheVariants.{Insert, Write, Has, Len}
 use Rattle.ne_laws.specs.declared.map_calls.MapReply.{MapReply}
-use Rattle.ne_laws.specs.declared.map_calls.MapReply.TheVariants as reply
 
 module _ {K V : Type 0} (eq : K → K → Bool) where
   -- The call on the map es has this reply, and leaves the map fs.
@@ -25,7 +25,7 @@ module _ {K V : Type 0} (eq : K → K → Bool) where
   RunsTo es (c ∷ cs) rs fs = IsMap eq es × ((r : MapReply V) × (rest : List (MapReply V))
       × (mid : List (K × V)) × (rs ≡ r ∷ rest) × Answers es c r mid × RunsTo mid cs rest fs)
 
-  -- The calls at the front of cs were made, and no others.
+  -- A prefix of the calls cs was made, and no others.
   abbrev pub RunsSome : List (K × V) → List (MapCall K V) → List (K × V) → Type 0
   RunsSome es cs fs = (done : List (MapCall K V)) × (later : List (MapCall K V))
       × (rs : List (MapReply V)) × (cs ≡ done ++ later) × RunsTo es done rs fs

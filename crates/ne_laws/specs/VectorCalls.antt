@@ -1,4 +1,5 @@
 -- The replies to a list of calls on a vector, and the vector that the calls leave.
+use Rattle.ne_laws.specs.declared.vector_calls.VecReply.TheVariants as reply
 use Rattle.std.specs.Prelude.{◌≡◌, ◌<◌, ◌≤◌, ℕ, List, [], ◌∷◌, ◌++◌, length, take, reverse, insert}
 use Rattle.std.specs.Prelude.{remove, swap_remove, slice_get, None, Some}
 use Rattle.std.specs.Int.NonZero.{non_zero_usize_get}
@@ -7,7 +8,6 @@ use Rattle.ne_laws.specs.declared.vector_calls.VecCall.{VecCall}
 use Rattle.ne_laws.specs.declared.vector_calls.VecCall.TheVariants.{Push, Pop, Remove, SwapRemove}
 use Rattle.ne_laws.specs.declared.vector_calls.VecCall.TheVariants.{Insert, Truncate, Reverse, Len}
 use Rattle.ne_laws.specs.declared.vector_calls.VecReply.{VecReply}
-use Rattle.ne_laws.specs.declared.vector_calls.VecReply.TheVariants as reply
 
 module _ {T : Type 0} where
   -- An item is taken from v, `taken` holds for it, and w is left. If v has only one item, none is
@@ -45,7 +45,7 @@ module _ {T : Type 0} where
   RunsTo v (c ∷ cs) rs w = (0 < length v) × ((r : VecReply T) × (rest : List (VecReply T))
       × (mid : List T) × (rs ≡ r ∷ rest) × Answers v c r mid × RunsTo mid cs rest w)
 
-  -- The calls at the front of cs were made, and no others.
+  -- A prefix of the calls cs was made, and no others.
   abbrev pub RunsSome : List T → List (VecCall T) → List T → Type 0
   RunsSome v cs w = (done : List (VecCall T)) × (later : List (VecCall T))
       × (rs : List (VecReply T)) × (cs ≡ done ++ later) × RunsTo v done rs w

@@ -1,5 +1,5 @@
 pub mod Places
-pub mod ProductFronts
+pub mod ProductPrefixes
 pub mod ProductLists
 pub mod ProductProgress
 pub mod ProductRuns

@@ -2,8 +2,8 @@
 use Rattle.std.proofs.Common.{rules, arith, subst, sym, ap, inl, inr, ◌⊎◌, ◌∙◌}
 use Rattle.std.proofs.Math.Nat.{mul-le-mul_right}
 use Rattle.std.proofs.lemmas.Option.{MatchOption-at_some}
-use Rattle.std.specs.Prelude.{◌≡◌, ℕ, ◌+◌, ◌*◌, ◌<◌, ◌≤◌, Bool, true, false, None, Some, Result}
-use Rattle.std.specs.Prelude.{Ok, Err, refl}
+use Rattle.std.specs.Prelude.{◌≡◌, ℕ, ◌+◌, ◌*◌, ◌<◌, ◌≤◌, Bool, true, false, None, Some, Result, Ok}
+use Rattle.std.specs.Prelude.{Err, refl}
 use Rattle.std.specs.Iterator.{Count, IsFinite, size, count_map, count_unless, MakesProgress}
 use Rattle.std.specs.Option.{option_len}
 use Rattle.ne_products.specs.declared.products.ProductIter.{ProductIter}

@@ -1,9 +1,9 @@
 -- What a product needs of its right side, from what is known of the source and its clones.
 use Rattle.std.proofs.Common.{sym, true≢false}
-use Rattle.std.specs.Prelude.{◌≡◌, Bool, true, false, List, [], ◌∷◌, Option, Some, None}
-use Rattle.std.specs.Prelude.{refl, MatchOption}
+use Rattle.std.specs.Prelude.{◌≡◌, Bool, true, false, List, [], ◌∷◌, Option, Some, None, refl}
+use Rattle.std.specs.Prelude.{MatchOption}
 use Rattle.std.specs.Iterator.{AlwaysYields, Count, DrainsIf, IsFiniteIterable}
-use Rattle.ne_vec.specs.Fronts.{AreFirst}
+use Rattle.ne_vec.specs.Lists.{IsPrefix}
 use Rattle.ne_products.specs.Product.{Restarts}
 use Rattle.ne_products.specs.Restarts.{ClonesAgain}
 
@@ -12,7 +12,7 @@ use Rattle.ne_products.specs.Restarts.{ClonesAgain}
 module _ {J B : Type 0} (steps : J → Option B → J → Type 0) where
   abbrev Fronts : List B → J → Type 0
   Fronts ys j = (whole : Bool) (zs : List B) → DrainsIf steps (whole ≡ true) j zs
-      → AreFirst whole ys zs
+      → IsPrefix whole ys zs
 
   one : (ys : List B) (j k : J) (b : B) → Fronts ys j → steps j (Some b) k
       → (more : List B) × (ys ≡ b ∷ more)

@@ -1,11 +1,11 @@
 -- The source that is one of two gives what the source of its side gives.
+use Rattle.either.specs.declared.Either.TheVariants as side
 use Rattle.std.proofs.Common.{refl, subst, sym}
 use Rattle.std.specs.Prelude.{◌≡◌, true, List, [], ◌∷◌, Option, None}
 use Rattle.std.specs.Iterator.{DrainsIf}
+use Rattle.ne_vec.specs.Lists.{Lists}
 use Rattle.either.specs.declared.Either.{Either}
-use Rattle.either.specs.declared.Either.TheVariants as side
 use Rattle.either.specs.Iterator.{either_steps}
-use Rattle.ne_vec.specs.Fronts.{Lists}
 use Rattle.ne_products.specs.declared.sides.NEEither.TheVariants.{Left, Right}
 use Rattle.ne_products.specs.Sides.{BecomesSide}
 
@@ -47,15 +47,15 @@ module _ {S T A : Type 0} (steps : S → Option A → S → Type 0) (others : T 
 
 module _ {U V S T A : Type 0} (left : U → S → Type 0) (steps : S → Option A → S → Type 0)
     (right : V → T → Type 0) (others : T → Option A → T → Type 0) where
-  pub left_lists : (u : U) (xs : List A) → Lists left steps u xs
-      → Lists (BecomesSide left right) (either_steps steps others) (Left u) xs
+  pub left_lists : (u : U) (xs : List A) → Lists left steps (λ x. x) u xs
+      → Lists (BecomesSide left right) (either_steps steps others) (λ x. x) (Left u) xs
   unfolding Lists
   left_lists u xs lists (side.Left s) made whole ys given =
       lists s made whole ys (drains_left steps others (whole ≡ true) s ys given)
   left_lists u xs lists (side.Right t) made whole ys given = absurd made
 
-  pub right_lists : (v : V) (xs : List A) → Lists right others v xs
-      → Lists (BecomesSide left right) (either_steps steps others) (Right v) xs
+  pub right_lists : (v : V) (xs : List A) → Lists right others (λ x. x) v xs
+      → Lists (BecomesSide left right) (either_steps steps others) (λ x. x) (Right v) xs
   unfolding Lists
   right_lists v xs lists (side.Right t) made whole ys given =
       lists t made whole ys (drains_right steps others (whole ≡ true) t ys given)

@@ -8,12 +8,10 @@ use Rattle.std.specs.List.{AllByRecursion, IsDistinct}
 use Rattle.std.specs.Prelude.{◌≡◌, ◌↔◌, refl, Bool, true, false, not, cond, List, [], ◌∷◌, ◌++◌}
 use Rattle.std.specs.Prelude.{◌||◌, ◌&&◌, IsTrue, Option, Some}
 use Rattle.std.specs.Set.{is_member}
-use Rattle.ne_vec.specs.Fronts.{Lists}
-use Rattle.ne_vec.specs.FrontLaws.{marked}
-use Rattle.ne_iter.specs.Gives.{GivesList}
-use Rattle.ne_iter.specs.SourceLists.{EachList}
-use Rattle.ne_iter.specs.Sources.{Reads}
-use Rattle.ne_products.specs.Unique.{are_unique, TellsDistinct, TellsUnique}
+use Rattle.ne_vec.specs.Lists.{Lists, EachList}
+use Rattle.ne_vec.specs.ListLaws.{triggered}
+use Rattle.ne_iter.specs.Sources.{ReadsList, Reads}
+use Rattle.ne_products.specs.Unique.{are_unique, ChecksDistinct, ChecksUnique}
 use Rattle.ne_products.proofs.ProductLists.{lists_read}
 
 pub was_there : (b n : Bool) → n ≡ not b → n ≡ false → b ≡ true
@@ -106,14 +104,14 @@ module _ {K : Type 0} {eq : K → K → Bool} (laws : IsEquivalence eq) where
       ∙ apart b bs ks k (IsDistinct-head eq b (bs ++ k ∷ ks) d) in
       rw first (absent bs ks k (IsDistinct-tail eq b (bs ++ k ∷ ks) d))
 
-  tells_list : {U : Type 0} (reads : Bool → U → List K → Type 0) (source : U) (unique : Bool)
-      (xs : List K) → TellsUnique reads eq source unique → GivesList reads source xs
+  checks_list : {U : Type 0} (reads : Bool → U → List K → Type 0) (source : U) (unique : Bool)
+      (xs : List K) → ChecksUnique reads eq source unique → ReadsList reads source xs
       → IsTrue unique ↔ IsDistinct eq xs
-  tells_list reads source true xs told list =
+  checks_list reads source true xs told list =
       let f = list true told.0 told.2 in
       let all : xs ≡ told.0 = f.1 ∙ ap (λ l. told.0 ++ l) (f.2 refl) ∙ append-nil told.0 in
       ((λ _. subst (IsDistinct eq) (sym all) told.1), λ _. search rules)
-  tells_list reads source false xs told list =
+  checks_list reads source false xs told list =
       let us = told.0 in
       let x = told.2.0 in
       let f = list false (us ++ x ∷ []) told.2.1 in
@@ -123,10 +121,10 @@ module _ {K : Type 0} {eq : K → K → Bool} (laws : IsEquivalence eq) where
             ∙ absent us f.0 x (subst (IsDistinct eq) all distinct))),
       )
 
-  pub tells_lists : {U S : Type 0} (becomes : U → S → Type 0) (steps : S → Option K → S → Type 0)
-      (source : U) (unique : Bool) → TellsUnique (Reads becomes steps) eq source unique
-      → EachList (Lists becomes steps) source (λ xs. TellsDistinct eq xs unique)
-  tells_lists becomes steps source unique told xs lists =
+  pub checks_lists : {U S : Type 0} (becomes : U → S → Type 0) (steps : S → Option K → S → Type 0)
+      (source : U) (unique : Bool) → ChecksUnique (Reads becomes steps) eq source unique
+      → EachList (Lists becomes steps (λ x. x)) source (λ xs. ChecksDistinct eq xs unique)
+  checks_lists becomes steps source unique told xs lists =
       let list = lists_read becomes steps source xs lists in
-      let distinct = tells_list (Reads becomes steps) source unique xs told list in
-      (marked source xs, (distinct, computed eq xs unique distinct))
+      let distinct = checks_list (Reads becomes steps) source unique xs told list in
+      (triggered source xs, (distinct, computed eq xs unique distinct))

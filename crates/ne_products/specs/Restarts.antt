@@ -2,10 +2,9 @@
 use Rattle.std.specs.Prelude.{◌≡◌, ◌≤◌, Bool, Contains, List, Option, Result, Ok, map}
 use Rattle.std.specs.Iterator.{Count, size}
 use Rattle.std.specs.declared.alloc.AllocError.{AllocError}
-use Rattle.ne_vec.specs.Fronts.{Listed}
+use Rattle.ne_vec.specs.Lists.{Listed, EachList, Naming}
 use Rattle.ne_iter.specs.Collected.{values_or_first_err}
-use Rattle.ne_iter.specs.Gives.{GivesList}
-use Rattle.ne_iter.specs.SourceLists.{EachList}
+use Rattle.ne_iter.specs.Sources.{ReadsList}
 use Rattle.ne_products.specs.Pairs.{cartesian_product, IsProduct}
 
 -- A clone of an iterator that the source u becomes is also an iterator that u can become, and it
@@ -31,7 +30,7 @@ abbrev pub ProductGives : {U W V A B E : Type 0} → (Bool → U → List A → 
     → (Bool → V → List (Result (A × B) E) → Type 0) → U → W → V → Type 0
 ProductGives {A = A} {B = B} {E = E} reads others again clones infallible refused paired source
     other result =
-    (ys : List B) → GivesList others other ys → again
+    (ys : List B) → ReadsList others other ys → again
     → (whole : Bool) (zs : List (Result (A × B) E)) → paired whole result zs
     → IsProduct reads clones infallible refused source ys whole zs
 
@@ -42,7 +41,7 @@ abbrev pub PairsListed : {V T A B : Type 0} → (V → T → Type 0)
 PairsListed {A = A} {B = B} made next exact v xs ys = exact xs
     → (values_or_first_err {E = AllocError} (map Ok (cartesian_product xs ys))
     ≡ Ok (cartesian_product xs ys))
-    × Listed made next v (map Ok (cartesian_product xs ys))
+    × Listed made next (λ x. x) v (map Ok (cartesian_product xs ys))
 
 -- The product of the lists that two sources give. The second source may be one that no call
 -- mentions.
@@ -50,5 +49,5 @@ abbrev pub PairsLists : {U W A B : Type 0} → (U → List A → Type 0) → (W 
     → (W → List B → Type 0) → (List A → List B → Type 0) → U → W → Type 0
 PairsLists {A = A} {B = B} lists others meets gives u w =
     EachList lists u (λ xs. EachList others w (λ ys. gives xs ys))
-    × ((xs : List A) (ys : List B) → (cartesian_product xs ys ≡ cartesian_product xs ys)
-    × (lists u xs → meets w ys → gives xs ys))
+    × ((xs : List A) (ys : List B)
+    → Naming (cartesian_product xs ys) (λ _. lists u xs → meets w ys → gives xs ys))

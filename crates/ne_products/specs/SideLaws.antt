@@ -1,6 +1,6 @@
 -- A source that is one of two non-empty sources is not empty.
-use Rattle.std.specs.Prelude.{Option}
 use Rattle.either.specs.declared.Either.TheVariants as side
+use Rattle.std.specs.Prelude.{Option}
 use Rattle.either.specs.Iterator.{either_steps}
 use Rattle.ne_iter.specs.Sources.{IsNonEmpty}
 use Rattle.ne_products.specs.declared.sides.NEEither.TheVariants.{Left, Right}

@@ -1,7 +1,8 @@
 -- A value of one of two types, and a source that is one of two sources.
-use Rattle.std.specs.Prelude.{◌≡◌, List}
-use Rattle.either.specs.declared.Either.{Either}
 use Rattle.either.specs.declared.Either.TheVariants as side
+use Rattle.std.specs.Prelude.{List}
+use Rattle.ne_vec.specs.Lists.{Naming}
+use Rattle.either.specs.declared.Either.{Either}
 use Rattle.ne_products.specs.declared.sides.NEEither.{NEEither}
 use Rattle.ne_products.specs.declared.sides.NEEither.TheVariants.{Left, Right}
 
@@ -15,8 +16,8 @@ by_side f g (Right v) = g v
 abbrev pub SideLists : {U V A : Type 0} → (U → List A → Type 0) → (V → List A → Type 0)
     → (List A → Type 0) → NEEither U V → Type 0
 SideLists {U} {V} {A} lefts rights gives e = (f : U → List A) (g : V → List A)
-    → (by_side f g e ≡ by_side f g e)
-    × (((u : U) → lefts u (f u)) → ((v : V) → rights v (g v)) → gives (by_side f g e))
+    → Naming (by_side f g e)
+    (λ xs. ((u : U) → lefts u (f u)) → ((v : V) → rights v (g v)) → gives xs)
 
 -- P holds for a `Left`, and Q for a `Right`.
 abbrev pub MatchSide : {U V : Type 0} → NEEither U V → (U → Type 0) → (V → Type 0) → Type 0

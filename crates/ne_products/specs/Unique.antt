@@ -6,9 +6,9 @@ use Rattle.std.specs.Set.{is_member}
 
 -- What `all_unique` returns. No two of the items xs are equal. If the result is `true`, the source
 -- ends after them; if it is `false`, its next item equals one of them.
-abbrev pub TellsUnique : {U A : Type 0} → (Bool → U → List A → Type 0) → (A → A → Bool) → U → Bool
+abbrev pub ChecksUnique : {U A : Type 0} → (Bool → U → List A → Type 0) → (A → A → Bool) → U → Bool
     → Type 0
-TellsUnique {A = A} reads eq source result = (xs : List A) × IsDistinct eq xs
+ChecksUnique {A = A} reads eq source result = (xs : List A) × IsDistinct eq xs
     × MatchBool result (reads true source xs)
     ((x : A) × reads false source (xs ++ x ∷ []) × (is_member eq xs x ≡ true))
 
@@ -19,5 +19,5 @@ are_unique eq (x ∷ xs) = not (is_member eq xs x) && are_unique eq xs
 
 -- `unique` tells whether no two of the items xs are equal: in std's words, and in a form that
 -- `grind` computes if the items are written out.
-abbrev pub TellsDistinct : {A : Type 0} → (A → A → Bool) → List A → Bool → Type 0
-TellsDistinct eq xs unique = (IsTrue unique ↔ IsDistinct eq xs) × (unique ≡ are_unique eq xs)
+abbrev pub ChecksDistinct : {A : Type 0} → (A → A → Bool) → List A → Bool → Type 0
+ChecksDistinct eq xs unique = (IsTrue unique ↔ IsDistinct eq xs) × (unique ≡ are_unique eq xs)

@@ -1,7 +1,7 @@
 //! Laws of products and of sources that are one of two. Each law is the contract of a function that
 //! does nothing. A caller calls the function to use what it ensures.
 ghost use Rattle.std.specs.Prelude.{◌≡◌, ℕ, ◌+◌, ◌*◌, List, Ok, Some, length, map, slice_get};
-ghost use Rattle.ne_iter.specs.Gives.{GivesList};
+ghost use Rattle.ne_iter.specs.Sources.{ReadsList};
 ghost use Rattle.ne_products.specs.Pairs.{cartesian_product, CanRefuse};
 ghost use Rattle.ne_products.specs.Product.{product_first, product_second};
 ghost use Rattle.ne_products.specs.Restarts.{ClonesAgain, HasExactClones, NeverRefuses};
@@ -9,7 +9,7 @@ ghost use Rattle.ne_products.specs.Restarts.{ProductGives};
 
 use crate::products::Product;
 use crate::sides::NEEither;
-use ne_iter::iter::SourceWords;
+use ne_iter::iter::Source;
 use ne_iter::{IntoNonEmptyIterator, NonEmptyIterator};
 
 /// `cartesian_product` gives each item of its source with each item of the other, each pair in
@@ -26,21 +26,21 @@ where
     U::Item: Drop,
     <U::IntoNEIter as IntoIterator>::IntoIter: Clone,
     ensures { (product : _) (xs : List S.Item) (ys : List U.Item)
-        → ProductGives (⟦<S as SourceWords>⟧.reads) (⟦<U as SourceWords>⟧.reads)
+        → ProductGives (⟦<S as Source>⟧.reads) (⟦<U as Source>⟧.reads)
         (ClonesAgain U.IntoNEIter.into_iter_gives U.IntoNEIter.IntoIter.remaining
         U.IntoNEIter.IntoIter.is_clone (product_second product))
         S.Item.is_clone S.Item.is_infallible
         (CanRefuse U.IntoNEIter.into_iter_gives U.IntoNEIter.IntoIter.is_infallible
         (product_second product))
-        (⟦<Product<S, U::IntoNEIter> as SourceWords>⟧.reads) source.now other.now product
+        (⟦<Product<S, U::IntoNEIter> as Source>⟧.reads) source.now other.now product
         → ClonesAgain U.IntoNEIter.into_iter_gives U.IntoNEIter.IntoIter.remaining
         U.IntoNEIter.IntoIter.is_clone (product_second product)
         → NeverRefuses U.IntoNEIter.into_iter_gives U.IntoNEIter.IntoIter.is_infallible
         (product_second product)
         → HasExactClones S.Item.is_clone S.Item.is_infallible xs
-        → GivesList (⟦<S as SourceWords>⟧.reads) source.now xs
-        → GivesList (⟦<U as SourceWords>⟧.reads) other.now ys
-        → GivesList (⟦<Product<S, U::IntoNEIter> as SourceWords>⟧.reads) product
+        → ReadsList (⟦<S as Source>⟧.reads) source.now xs
+        → ReadsList (⟦<U as Source>⟧.reads) other.now ys
+        → ReadsList (⟦<Product<S, U::IntoNEIter> as Source>⟧.reads) product
         (map Ok (cartesian_product xs ys)) }
 {}
 
@@ -64,17 +64,17 @@ where
     S::Item: Clone + Drop,
     U::Item: Drop,
     U::IntoIter: Clone,
-    ensures { (product : _) → ⟦<S as SourceWords>⟧.ends (product_first product)
-        → ⟦<U as SourceWords>⟧.ends (product_second product)
+    ensures { (product : _) → ⟦<S as Source>⟧.ends (product_first product)
+        → ⟦<U as Source>⟧.ends (product_second product)
         → ClonesAgain U.into_iter_gives U.IntoIter.remaining U.IntoIter.is_clone
         (product_second product)
-        → ⟦<Product<S, U> as SourceWords>⟧.ends product }
+        → ⟦<Product<S, U> as Source>⟧.ends product }
 {}
 
 /// A source that is one of two ends if the side that is there ends.
 pub fn either_ends<L: NonEmptyIterator, R: NonEmptyIterator<Item = L::Item>>()
-    ensures left { (s : _) → ⟦<L as SourceWords>⟧.ends s
-        → ⟦<NEEither<L, R> as SourceWords>⟧.ends (NEEither.Left s) }
-    ensures right { (t : _) → ⟦<R as SourceWords>⟧.ends t
-        → ⟦<NEEither<L, R> as SourceWords>⟧.ends (NEEither.Right t) }
+    ensures left { (s : _) → ⟦<L as Source>⟧.ends s
+        → ⟦<NEEither<L, R> as Source>⟧.ends (NEEither.Left s) }
+    ensures right { (t : _) → ⟦<R as Source>⟧.ends t
+        → ⟦<NEEither<L, R> as Source>⟧.ends (NEEither.Right t) }
 {}

@@ -1,14 +1,15 @@
 //! Products of two non-empty iterators, and whether the items of one are distinct.
 ghost use Rattle.std.specs.Prelude.{◌≡◌, IfOk};
-ghost use Rattle.ne_iter.specs.SourceLists.{BecomesList, EachList};
+ghost use Rattle.ne_vec.specs.Lists.{EachList, itself};
+ghost use Rattle.ne_iter.specs.SourceLists.{BecomesList};
 ghost use Rattle.ne_products.specs.Pairs.{CanRefuse};
 ghost use Rattle.ne_products.specs.Product.{product_first, product_second, restart_of, PairsItems};
 ghost use Rattle.ne_products.specs.Product.{PairsNext, TriesRestart};
 ghost use Rattle.ne_products.specs.Restarts.{ClonesAgain, HasExactClones, NeverRefuses};
 ghost use Rattle.ne_products.specs.Restarts.{PairsListed, PairsLists, ProductGives};
-ghost use Rattle.ne_products.specs.Unique.{TellsDistinct, TellsUnique};
+ghost use Rattle.ne_products.specs.Unique.{ChecksDistinct, ChecksUnique};
 
-use ne_iter::iter::SourceWords;
+use ne_iter::iter::Source;
 use ne_iter::{IntoNonEmptyIterator, NonEmptyIterator};
 use std::alloc::{AllocError, Global};
 use std::collections::HashSet;
@@ -47,21 +48,22 @@ pub trait NonEmptyItertools: NonEmptyIterator {
         <J::IntoNEIter as IntoIterator>::IntoIter: Clone,
         ensures holds { (product_first result ≡ self)
             × J.into_nonempty_iter_gives other (product_second result) }
-        ensures ends { ⟦<Self as SourceWords>⟧.ends self
-            → ⟦<J::IntoNEIter as SourceWords>⟧.ends (product_second result)
+        ensures ends { ⟦<Self as Source>⟧.ends self
+            → ⟦<J::IntoNEIter as Source>⟧.ends (product_second result)
             → ClonesAgain J.IntoNEIter.into_iter_gives J.IntoNEIter.IntoIter.remaining
             J.IntoNEIter.IntoIter.is_clone (product_second result)
-            → ⟦<Product<Self, J::IntoNEIter> as SourceWords>⟧.ends result }
-        ensures gives { ProductGives (⟦<Self as SourceWords>⟧.reads) (⟦<J as SourceWords>⟧.reads)
+            → ⟦<Product<Self, J::IntoNEIter> as Source>⟧.ends result }
+        ensures gives { ProductGives (⟦<Self as Source>⟧.reads) (⟦<J as Source>⟧.reads)
             (ClonesAgain J.IntoNEIter.into_iter_gives J.IntoNEIter.IntoIter.remaining
             J.IntoNEIter.IntoIter.is_clone (product_second result))
             Self.Item.is_clone Self.Item.is_infallible
             (CanRefuse J.IntoNEIter.into_iter_gives J.IntoNEIter.IntoIter.is_infallible
             (product_second result))
-            (⟦<Product<Self, J::IntoNEIter> as SourceWords>⟧.reads) self other result }
-        ensures lists { PairsLists (⟦<Self as SourceWords>⟧.lists) (⟦<J as SourceWords>⟧.lists)
+            (⟦<Product<Self, J::IntoNEIter> as Source>⟧.reads) self other result }
+        ensures lists { PairsLists (⟦<Self as Source>⟧.lists itself)
+            (⟦<J as Source>⟧.lists itself)
             (BecomesList J.into_nonempty_iter_gives J.IntoNEIter.into_iter_gives
-            J.IntoNEIter.IntoIter.next_gives)
+            J.IntoNEIter.IntoIter.next_gives itself)
             (PairsListed (⟦<Product<Self, J::IntoNEIter> as IntoIterator>⟧.into_iter_gives)
             (PairsNext Self.IntoIter.next_gives J.IntoNEIter.IntoIter.next_gives
             Self.Item.is_clone Self.Item.is_infallible
@@ -93,11 +95,12 @@ pub trait NonEmptyItertools: NonEmptyIterator {
     where
         Self: Sized,
         Self::Item: Eq + Hash + Drop,
-        requires { ⟦<Self as SourceWords>⟧.ends self }
+        requires { ⟦<Self as Source>⟧.ends self }
         ensures gives { IfOk result
-            (TellsUnique (⟦<Self as SourceWords>⟧.reads) Self.Item.eq self) }
-        ensures lists { IfOk result (λ unique. EachList (⟦<Self as SourceWords>⟧.lists) self (λ xs.
-            TellsDistinct Self.Item.eq xs unique)) }
+            (ChecksUnique (⟦<Self as Source>⟧.reads) Self.Item.eq self) }
+        ensures lists { IfOk result (λ unique. EachList (⟦<Self as Source>⟧.lists itself) self
+            (λ xs.
+            ChecksDistinct Self.Item.eq xs unique)) }
     {
         let mut seen = HashSet::new(alloc);
         for item in self {

@@ -1,11 +1,11 @@
 //! A value of one of two types, and a source that is one of two sources.
 ghost use Rattle.std.specs.Prelude.{◌≡◌};
-ghost use Rattle.ne_vec.specs.Fronts.{mark};
-ghost use Rattle.ne_iter.specs.SourceLists.{BecomesList, EachList};
+ghost use Rattle.ne_vec.specs.Lists.{list_trigger, EachList, itself};
+ghost use Rattle.ne_iter.specs.SourceLists.{BecomesList};
 ghost use Rattle.ne_products.specs.Sides.{MakesSide, MatchSide, SideLists};
 
 use either::Either;
-use ne_iter::iter::SourceWords;
+use ne_iter::iter::Source;
 use ne_iter::{IntoNonEmptyIterator, NonEmptyIterator};
 
 /// One of two values.
@@ -36,22 +36,23 @@ impl<L: IntoNonEmptyIterator, R: IntoNonEmptyIterator<Item = L::Item>> NEEither<
         ensures makes { MakesSide L.into_nonempty_iter_gives R.into_nonempty_iter_gives
             self result }
         ensures ends { MatchSide result
-            (λ s. ⟦<L::IntoNEIter as SourceWords>⟧.ends s
-            → ⟦<NEEither<L::IntoNEIter, R::IntoNEIter> as SourceWords>⟧.ends result)
-            (λ t. ⟦<R::IntoNEIter as SourceWords>⟧.ends t
-            → ⟦<NEEither<L::IntoNEIter, R::IntoNEIter> as SourceWords>⟧.ends result) }
+            (λ s. ⟦<L::IntoNEIter as Source>⟧.ends s
+            → ⟦<NEEither<L::IntoNEIter, R::IntoNEIter> as Source>⟧.ends result)
+            (λ t. ⟦<R::IntoNEIter as Source>⟧.ends t
+            → ⟦<NEEither<L::IntoNEIter, R::IntoNEIter> as Source>⟧.ends result) }
         ensures lists { MatchSide result
-            (λ s. EachList (⟦<L::IntoNEIter as SourceWords>⟧.lists) s
-            (⟦<NEEither<L::IntoNEIter, R::IntoNEIter> as SourceWords>⟧.lists result))
-            (λ t. EachList (⟦<R::IntoNEIter as SourceWords>⟧.lists) t
-            (⟦<NEEither<L::IntoNEIter, R::IntoNEIter> as SourceWords>⟧.lists result)) }
+            (λ s. EachList (⟦<L::IntoNEIter as Source>⟧.lists itself) s
+            (⟦<NEEither<L::IntoNEIter, R::IntoNEIter> as Source>⟧.lists itself result))
+            (λ t. EachList (⟦<R::IntoNEIter as Source>⟧.lists itself) t
+            (⟦<NEEither<L::IntoNEIter, R::IntoNEIter> as Source>⟧.lists itself result)) }
         ensures side { SideLists
             (BecomesList L.into_nonempty_iter_gives L.IntoNEIter.into_iter_gives
-            L.IntoNEIter.IntoIter.next_gives)
+            L.IntoNEIter.IntoIter.next_gives itself)
             (BecomesList R.into_nonempty_iter_gives R.IntoNEIter.into_iter_gives
-            R.IntoNEIter.IntoIter.next_gives)
-            (λ xs. (mark result xs ≡ 0)
-            × ⟦<NEEither<L::IntoNEIter, R::IntoNEIter> as SourceWords>⟧.lists result xs) self }
+            R.IntoNEIter.IntoIter.next_gives itself)
+            (λ xs. (list_trigger result xs ≡ 0)
+            × ⟦<NEEither<L::IntoNEIter, R::IntoNEIter> as Source>⟧.lists itself result xs)
+            self }
     {
         match self {
             NEEither::Left(left) => NEEither::Left(left.into_nonempty_iter()),

@@ -7,8 +7,8 @@ use Rattle.ne_vec.specs.Divisions.{IsDivision, by_first, by_previous}
 use Rattle.ne_iter.specs.KeyList.{key_list}
 use Rattle.ne_runs.specs.Modes.{AreRows, ends_of, is_even, is_near}
 use Rattle.ne_runs.specs.declared.mode.Mode.{Mode}
-use Rattle.ne_runs.specs.declared.mode.Mode.TheVariants.{Ends, Stats, Equal, Parity, Distinct}
-use Rattle.ne_runs.specs.declared.mode.Mode.TheVariants.{Near, Chain}
+use Rattle.ne_runs.specs.declared.mode.Mode.TheVariants.{Ends, Stats, Equal, Parity, Distinct, Near}
+use Rattle.ne_runs.specs.declared.mode.Mode.TheVariants.{Chain}
 
 module _ (exists : (goes_on : List ℕ → ℕ → Bool) (xs : List ℕ)
     → (rs : List (List ℕ)) × IsDivision goes_on xs rs)

@@ -4,7 +4,7 @@ use Rattle.std.proofs.Common.{append_assoc, arith, take-append-drop}
 use Rattle.std.specs.Io.KnownBytes.{Appends}
 use Rattle.std.proofs.KnownBytes.{Appends-trans}
 use Rattle.std.proofs.lemmas.List.{take_all, length-drop}
-use Rattle.ne_runs.specs.Runs.{TakesPart}
+use Rattle.ne_runs.specs.ProgramRuns.{TakesPart}
 
 -- A write took some more bytes of the rest.
 pub takes_more : (text rest : List ℕ) (count : ℕ) (taken now next : Option (List ℕ))

@@ -2,4 +2,4 @@ pub mod Devices
 pub mod Lines
 pub mod Modes
 pub mod Faults
-pub mod Runs
+pub mod ProgramRuns

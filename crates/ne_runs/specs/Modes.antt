@@ -11,8 +11,8 @@ use Rattle.std.specs.Str.{bytes_eq}
 use Rattle.ne_vec.specs.Divisions.{IsDivision, by_first, by_previous}
 use Rattle.ne_iter.specs.KeyList.{key_list}
 use Rattle.ne_runs.specs.declared.mode.Mode.{Mode}
-use Rattle.ne_runs.specs.declared.mode.Mode.TheVariants.{Ends, Stats, Equal, Parity, Distinct}
-use Rattle.ne_runs.specs.declared.mode.Mode.TheVariants.{Near, Chain}
+use Rattle.ne_runs.specs.declared.mode.Mode.TheVariants.{Ends, Stats, Equal, Parity, Distinct, Near}
+use Rattle.ne_runs.specs.declared.mode.Mode.TheVariants.{Chain}
 
 -- The word that names a mode.
 abbrev pub word_of : Mode → List ℕ

@@ -1,18 +1,18 @@
 //! The rows that each [`Mode`] makes of numbers, and the text that they are written as.
 //!
 //! The laws of the library that are called here do nothing. The proofs use what they ensure.
-ghost use Rattle.std.specs.Prelude.{◌≡◌, ◌^◌, ◌<◌, ◌∷◌, ◌++◌, OnOk, IfOk, string_bytes};
-ghost use Rattle.std.specs.Prelude.{List, ℕ, Bool, length, sum, true};
+ghost use Rattle.std.specs.Prelude.{◌≡◌, ◌^◌, ◌<◌, ◌∷◌, ◌++◌, OnOk, IfOk, string_bytes, List, ℕ};
+ghost use Rattle.std.specs.Prelude.{Bool, length, sum, true};
 ghost use Rattle.std.specs.Iterator.{IsFiniteIterable};
 ghost use Rattle.std.specs.List.{flat_map};
 ghost use Rattle.ne_vec.specs.Divisions.{by_first, by_previous};
 ghost use Rattle.ne_vec.specs.SliceRuns.{ActsAsAtPair};
-ghost use Rattle.ne_runs.specs.Modes.{row_text, AreRows, HasRowOfEachRun, IsText};
-ghost use Rattle.ne_runs.specs.Modes.{IsLeast, IsGreatest};
+ghost use Rattle.ne_runs.specs.Modes.{row_text, AreRows, HasRowOfEachRun, IsText, IsLeast};
+ghost use Rattle.ne_runs.specs.Modes.{IsGreatest};
 ghost use Rattle.ne_runs.specs.declared.mode.Mode.{Mode};
 
 use crate::mode::Mode;
-use nonempty_collections::iter::SourceWords;
+use nonempty_collections::iter::Source;
 use nonempty_collections::laws::{
     has_one_division, numbers_have_one_greatest, numbers_have_one_least,
     slice_runs_are_the_division,
@@ -153,7 +153,7 @@ fn text_of_runs<'a, R: NonEmptyIterator<Item = NESlice<'a, u32>>>(
 ) -> Result<String, AllocError>
     requires { IsFiniteIterable R.into_iter_gives R.IntoIter.can_next R.IntoIter.remaining runs }
     ensures { IfOk result (λ text. (rows : List (List ℕ))
-        × ⟦<R as SourceWords>⟧.reads true runs rows
+        × ⟦<R as Source>⟧.reads true runs rows
         × (string_bytes text ≡ flat_map row_text rows)) }
 {
     let mut text = String::new(alloc);

@@ -5,7 +5,7 @@ ghost use Rattle.std.specs.Prelude.{IsErrOf, MatchResult, string_bytes};
 ghost use Rattle.std.specs.Io.KnownBytes.{Consumes, IsAtEnd};
 ghost use Rattle.ne_runs.specs.Faults.{most_bytes};
 ghost use Rattle.ne_runs.specs.Modes.{mode_of};
-ghost use Rattle.ne_runs.specs.Runs.{Completes, TakesPart};
+ghost use Rattle.ne_runs.specs.ProgramRuns.{Completes, TakesPart};
 
 use crate::device::{Sink, Source};
 use crate::fault::Fault;

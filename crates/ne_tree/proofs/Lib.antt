@@ -1,4 +1,3 @@
-pub mod Collect
+pub mod TreeInserts
 pub mod MapEq
 pub mod SetEq
-pub mod UnionShown

@@ -1,4 +1,2 @@
-pub mod Clones
-pub mod Lends
-pub mod SameMap
-pub mod UnionWalks
+pub mod TreeLends
+pub mod InOrder

@@ -2,37 +2,39 @@
 //!
 //! An [`NEBTreeMap`] iterates in ascending order of its keys. Keys are looked up by `Ord`. A key
 //! that is in the map stays as it is if an equal one is inserted.
-ghost use Rattle.std.specs.Prelude.{◌≡◌, ◌+◌, ◌<◌, ◌^◌, ◌++◌, [], ◌∷◌, List, None, Some, is_some};
+ghost use Rattle.std.specs.Prelude.{◌≡◌, ◌+◌, ◌<◌, ◌^◌, ◌++◌, [], ◌∷◌, None, Some, is_some};
 ghost use Rattle.std.specs.Prelude.{if◌then◌else◌, IfOk, IfSome, IsSome, MatchOption, OnErr, OnOk};
 ghost use Rattle.std.specs.BTreeMap.{btree_map_len, get, get_key, insert_entry, keys, values};
-ghost use Rattle.std.specs.BTreeMap.{IsEmpty, IsOrdered, IsUnchanged, Updates};
+ghost use Rattle.std.specs.BTreeMap.{IsClone, IsEmpty, IsOrdered, IsUnchanged, Updates};
 ghost use Rattle.std.specs.BTreeMap.IterMut.{iter_mut_rest, IterMutCanStep};
 ghost use Rattle.std.specs.BTreeMap.Lent.{KeepsKeys};
 ghost use Rattle.std.specs.Borrow.{sem};
 ghost use Rattle.std.specs.Int.NonZero.{non_zero_usize_get};
 ghost use Rattle.std.specs.Iterator.{ExtendsWithItems, IsFiniteIterable};
 ghost use Rattle.std.specs.List.{IsAmong};
-ghost use Rattle.std.specs.Map.Iter.{LendsValuesInOrder, ShowsInOrder, ShowsValuesInOrder};
-ghost use Rattle.std.specs.Map.Iter.{deref, deref_pair};
+ghost use Rattle.std.specs.Map.Iter.{LendsValuesInOrder, ShowsInOrder, ShowsValuesInOrder, deref};
+ghost use Rattle.std.specs.Map.Iter.{deref_pair};
 ghost use Rattle.std.specs.Option.{option_copied, option_copied_mut, option_map};
 ghost use Rattle.std.specs.Ordering.{eq_by_cmp};
 ghost use Rattle.std.specs.Set.{is_member};
+ghost use Rattle.ne_vec.specs.Lists.{itself};
 ghost use Rattle.ne_iter.specs.Collected.{IsMapOf};
 ghost use Rattle.ne_iter.specs.ExtendLists.{ExtendsByList};
-ghost use Rattle.ne_iter.specs.KeyWalks.{KeyWalkShows};
+ghost use Rattle.ne_iter.specs.KeyIterators.{ListsEntries};
 ghost use Rattle.ne_iter.specs.SourceLists.{MeetsList};
-ghost use Rattle.ne_tree.specs.Clones.{IsCloneOfMap};
-ghost use Rattle.ne_tree.specs.Lends.{LendsValue, LendsValues, LendsValuesInside, std_walk};
+ghost use Rattle.ne_tree.specs.TreeLends.{std_iterator, LendsValue, LendsValues};
+ghost use Rattle.ne_tree.specs.TreeLends.{LendsValuesInside};
+ghost use Rattle.ne_iter.specs.KeyClones.{KeepsEntries};
 
+mod iter;
 mod traits;
-mod walks;
 
-use ne_iter::iter::SourceWords;
+pub use iter::{Held, IntoIter, Iter, IterMut, Keys, Values};
+use ne_iter::iter::{NonEmptyIter, Source};
 use std::alloc::{AllocError, Global};
 use std::collections::{BTreeMap, btree_map};
 use std::marker::Model;
 use std::num::NonZeroUsize;
-pub use walks::{IntoIter, Iter, IterMut, Keys, Values};
 
 /// A tree map that holds at least one key. It wraps std's [`BTreeMap`].
 ///
@@ -163,13 +165,11 @@ impl<K: Ord, V> NEBTreeMap<K, V> {
     /// ```
     pub fn nonempty_iter(&self) -> Iter<'_, K, V>
         ensures entries { result ≡ self.now.entries }
-        ensures shows { KeyWalkShows (deref_pair {K = K} {X = V}) result self.now.entries }
+        ensures lists { ListsEntries (deref_pair {K = K} {X = V}) result self.now.entries }
         ensures ordered { IsOrdered K.cmp self.now }
         ensures nonempty { 0 < btree_map_len self.now }
     {
-        Iter {
-            inner: self.inner.iter(),
-        }
+        NonEmptyIter::new(self.inner.iter())
     }
 
     /// Returns a non-empty iterator over the pairs with mutable references to the values, in
@@ -182,10 +182,11 @@ impl<K: Ord, V> NEBTreeMap<K, V> {
     /// } // {2: 33, 4: 994}
     /// ```
     pub fn nonempty_iter_mut(&mut self) -> IterMut<'_, K, V>
-        ensures* writes_back { sem 𝓛 (LendsValues K.row V.row K.Ord self.entry (std_walk result)) }
+        ensures* writes_back { sem 𝓛 (LendsValues K.row V.row K.Ord self.entry
+            (std_iterator result)) }
         ensures keeps { KeepsKeys self.old 0 }
-        ensures ready { IterMutCanStep (std_walk result) }
-        ensures rest { iter_mut_rest (std_walk result) ≡ self.old.entries }
+        ensures ready { IterMutCanStep (std_iterator result) }
+        ensures rest { iter_mut_rest (std_iterator result) ≡ self.old.entries }
         ensures ordered { IsOrdered K.cmp self.old }
         ensures fits { btree_map_len self.old < 2 ^ 63 }
         ensures values_run { LendsValuesInOrder (iter_mut_rest {K = K} {X = V}) }
@@ -204,15 +205,13 @@ impl<K: Ord, V> NEBTreeMap<K, V> {
     /// ```
     pub fn keys(&self) -> Keys<'_, K, V>
         ensures keys { result ≡ keys self.now }
-        ensures shows { KeyWalkShows (deref {X = K}) result (keys self.now) }
+        ensures lists { ListsEntries (deref {X = K}) result (keys self.now) }
         ensures found { (q : K)
             → is_some (get K.cmp self.now q) ≡ is_member (eq_by_cmp K.cmp) result q }
         ensures ordered { IsOrdered K.cmp self.now }
         ensures nonempty { 0 < btree_map_len self.now }
     {
-        Keys {
-            inner: self.inner.keys(),
-        }
+        NonEmptyIter::new(self.inner.keys())
     }
 
     /// Returns the number of keys, which is at least 1.
@@ -239,13 +238,11 @@ impl<K: Ord, V> NEBTreeMap<K, V> {
     /// ```
     pub fn values(&self) -> Values<'_, K, V>
         ensures values { result ≡ values self.now }
-        ensures shows { KeyWalkShows (deref {X = V}) result (values self.now) }
+        ensures lists { ListsEntries (deref {X = V}) result (values self.now) }
         ensures ordered { IsOrdered K.cmp self.now }
         ensures nonempty { 0 < btree_map_len self.now }
     {
-        Values {
-            inner: self.inner.values(),
-        }
+        NonEmptyIter::new(self.inner.values())
     }
 
     /// Returns whether the map holds a key equal to `k`.
@@ -355,8 +352,8 @@ impl<K: Ord, V> NEBTreeMap<K, V> {
         ensures ran { ExtendsWithItems I.into_iter_gives I.IntoIter.next_gives
             (λ old pairs new. IsMapOf K.eq (old.entries ++ pairs) new.entries)
             iter self.old self.new result }
-        ensures lists { OnOk result (ExtendsByList (⟦<I as SourceWords>⟧.lists)
-            (MeetsList I.into_iter_gives I.IntoIter.next_gives) iter self.old.entries
+        ensures lists { OnOk result (ExtendsByList (⟦<I as Source>⟧.lists itself)
+            (MeetsList I.into_iter_gives I.IntoIter.next_gives itself) iter self.old.entries
             (λ all. IsMapOf K.eq all self.new.entries)) }
         ensures ordered { IsOrdered K.cmp self.new }
         ensures nonempty { 0 < btree_map_len self.new }
@@ -381,7 +378,8 @@ impl<K: Ord, V> NEBTreeMap<K, V> {
     where
         K: Clone,
         V: Clone,
-        ensures clones { IfOk result (IsCloneOfMap K.is_clone V.is_clone self.now) }
+        ensures clones { IfOk result (λ m. IsClone K.is_clone V.is_clone self.now m
+            × KeepsEntries K.is_clone V.is_clone self.now.entries m.entries) }
         ensures ordered { IfOk result (IsOrdered K.cmp) }
         ensures nonempty { IfOk result (λ m. 0 < btree_map_len m) }
     {

@@ -7,30 +7,30 @@ ghost use Rattle.std.specs.Prelude.{if◌then◌else◌, is_some, length, IfOk, 
 ghost use Rattle.std.specs.Prelude.{OnErr, OnOk};
 ghost use Rattle.std.specs.Bool.{OnFalse};
 ghost use Rattle.std.specs.BTreeSet.{btree_set_len, contains, difference, get, insert_key};
-ghost use Rattle.std.specs.BTreeSet.{intersection, replace_key, union, IsDifference};
-ghost use Rattle.std.specs.BTreeSet.{IsDisjoint, IsEmpty, IsIntersection, IsOrdered, IsSubset};
+ghost use Rattle.std.specs.BTreeSet.{intersection, replace_key, union, IsDifference, IsDisjoint};
+ghost use Rattle.std.specs.BTreeSet.{IsEmpty, IsIntersection, IsOrdered, IsSubset, IsClone};
 ghost use Rattle.std.specs.BTreeSet.{IsUnchanged, IsUnion, Updates};
 ghost use Rattle.std.specs.Int.NonZero.{non_zero_usize_get};
 ghost use Rattle.std.specs.Iterator.{ExtendsWithItems, IsFiniteIterable};
 ghost use Rattle.std.specs.List.Sorted.{IsStrictlySortedBy};
 ghost use Rattle.std.specs.Map.Iter.{ShowsInOrder, deref};
 ghost use Rattle.std.specs.Option.{option_copied};
+ghost use Rattle.ne_vec.specs.Lists.{itself};
 ghost use Rattle.ne_iter.specs.Collected.{IsSetOf};
 ghost use Rattle.ne_iter.specs.ExtendLists.{ExtendsByList};
-ghost use Rattle.ne_iter.specs.KeyWalks.{KeyWalkShows};
+ghost use Rattle.ne_iter.specs.KeyIterators.{ListsEntries, ListsUnion};
 ghost use Rattle.ne_iter.specs.SourceLists.{MeetsList};
-ghost use Rattle.ne_tree.specs.Clones.{IsCloneOfSet};
-ghost use Rattle.ne_tree.specs.UnionWalks.{UnionShows};
+ghost use Rattle.ne_iter.specs.KeyClones.{KeepsItems};
 
+mod iter;
 mod traits;
-mod walks;
 
-use ne_iter::iter::SourceWords;
+pub use iter::{Held, IntoIter, Iter, Union};
+use ne_iter::iter::{NonEmptyIter, Source};
 use std::alloc::{AllocError, Global};
 use std::collections::{BTreeSet, btree_set};
 use std::marker::Model;
 use std::num::NonZeroUsize;
-pub use walks::{IntoIter, Iter, Union};
 
 /// A tree set that holds at least one item. It wraps std's [`BTreeSet`].
 ///
@@ -107,13 +107,11 @@ impl<T: Ord> NEBTreeSet<T> {
     /// ```
     pub fn nonempty_iter(&self) -> Iter<'_, T>
         ensures keys { result ≡ self.now.keys }
-        ensures shows { KeyWalkShows (deref {X = T}) result self.now.keys }
+        ensures lists { ListsEntries (deref {X = T}) result self.now.keys }
         ensures ordered { IsOrdered T.cmp self.now }
         ensures nonempty { 0 < btree_set_len self.now }
     {
-        Iter {
-            inner: self.inner.iter(),
-        }
+        NonEmptyIter::new(self.inner.iter())
     }
 
     /// Returns the number of items, which is at least 1.
@@ -317,13 +315,11 @@ impl<T: Ord> NEBTreeSet<T> {
     pub fn union<'a>(&'a self, other: &'a NEBTreeSet<T>) -> Union<'a, T>
         ensures items { result ≡ union T.cmp self.now other.now }
         ensures members { IsUnion T.cmp self.now other.now result }
-        ensures shows { UnionShows result (union T.cmp self.now other.now) }
+        ensures lists { ListsUnion result (union T.cmp self.now other.now) }
         ensures ordered { IsStrictlySortedBy T.cmp result }
         ensures nonempty { 0 < length result }
     {
-        Union {
-            inner: self.inner.union(&other.inner),
-        }
+        NonEmptyIter::new(self.inner.union(&other.inner))
     }
 
     /// Inserts the items, in order. An item that is already in the set stays as it is.
@@ -343,8 +339,8 @@ impl<T: Ord> NEBTreeSet<T> {
         ensures ran { ExtendsWithItems I.into_iter_gives I.IntoIter.next_gives
             (λ old items new. IsSetOf T.eq (old.keys ++ items) new.keys)
             iter self.old self.new result }
-        ensures lists { OnOk result (ExtendsByList (⟦<I as SourceWords>⟧.lists)
-            (MeetsList I.into_iter_gives I.IntoIter.next_gives) iter self.old.keys
+        ensures lists { OnOk result (ExtendsByList (⟦<I as Source>⟧.lists itself)
+            (MeetsList I.into_iter_gives I.IntoIter.next_gives itself) iter self.old.keys
             (λ all. IsSetOf T.eq all self.new.keys)) }
         ensures ordered { IsOrdered T.cmp self.new }
         ensures nonempty { 0 < btree_set_len self.new }
@@ -367,7 +363,8 @@ impl<T: Ord> NEBTreeSet<T> {
     pub fn clone(&self) -> Result<Self, AllocError>
     where
         T: Clone,
-        ensures clones { IfOk result (IsCloneOfSet T.is_clone self.now) }
+        ensures clones { IfOk result (λ s. IsClone T.is_clone self.now s
+            × KeepsItems T.is_clone self.now.keys s.keys) }
         ensures ordered { IfOk result (IsOrdered T.cmp) }
         ensures nonempty { IfOk result (λ s. 0 < btree_set_len s) }
     {

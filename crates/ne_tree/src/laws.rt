@@ -1,10 +1,10 @@
 //! Laws of tree maps and sets. Each law is the contract of a function that does nothing. A caller
 //! calls the function to use what it ensures.
-ghost use Rattle.std.specs.Prelude.{◌≡◌, ◌↔◌, true, List, Ok, Result};
+ghost use Rattle.std.specs.Prelude.{◌≡◌, ◌↔◌, List, Ok, Result};
 ghost use Rattle.std.specs.BTreeMap.{BTreeMap as Entries, get};
 ghost use Rattle.std.specs.BTreeSet.{BTreeSet as Keys, IsSameSet};
 ghost use Rattle.ne_vec.specs.declared.Error.{Error};
-ghost use Rattle.ne_tree.specs.SameMap.{IsSameMap};
+ghost use Rattle.ne_iter.specs.SameMap.{IsSameMap};
 
 use crate::{NEBTreeMap, NEBTreeSet};
 use ne_iter::{FromNonEmptyIterator, Singleton};
@@ -30,14 +30,15 @@ pub fn sets_come_back<T: Ord + Drop>()
 
 /// Equality of maps by `==` is symmetric and transitive for all values that implement `PartialEq`.
 pub fn map_equality_is_symmetric_and_transitive<K: Ord, V: PartialEq>()
-    ensures symmetric { (m n : Entries K V) → IsSameMap K.cmp V.eq m n → IsSameMap K.cmp V.eq n m }
-    ensures transitive { (m n o : Entries K V) → IsSameMap K.cmp V.eq m n
-        → IsSameMap K.cmp V.eq n o → IsSameMap K.cmp V.eq m o }
+    ensures symmetric { (m n : Entries K V) → IsSameMap V.eq (get K.cmp m) (get K.cmp n)
+        → IsSameMap V.eq (get K.cmp n) (get K.cmp m) }
+    ensures transitive { (m n o : Entries K V) → IsSameMap V.eq (get K.cmp m) (get K.cmp n)
+        → IsSameMap V.eq (get K.cmp n) (get K.cmp o) → IsSameMap V.eq (get K.cmp m) (get K.cmp o) }
 {}
 
 /// If each value equals itself, so does each map.
 pub fn map_equality_is_reflexive<K: Ord, V: Eq>()
-    ensures { (m : Entries K V) → IsSameMap K.cmp V.eq m m }
+    ensures { (m : Entries K V) → IsSameMap V.eq (get K.cmp m) (get K.cmp m) }
 {}
 
 /// Equality of sets by `==` is reflexive, symmetric and transitive.

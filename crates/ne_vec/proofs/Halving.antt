@@ -1,6 +1,5 @@
 -- What a binary search knows after each step, and what it requires of its closure.
-use Rattle.std.proofs.Common.{◌≡◌, ◌⊎◌, inl, inr, ℕ, zero, suc, ◌+◌, ◌<◌, ◌≤◌, Bool, true}
-use Rattle.std.proofs.Common.{false}
+use Rattle.std.proofs.Common.{◌≡◌, ◌⊎◌, inl, inr, ℕ, zero, suc, ◌+◌, ◌<◌, ◌≤◌, Bool, true, false}
 use Rattle.std.proofs.Common.{List, [], ◌∷◌, length, refl, sym, ap, subst, arith}
 use Rattle.std.specs.Prelude.{slice_index_or, All, Contains}
 use Rattle.std.specs.Borrow.{Bor}
@@ -10,8 +9,8 @@ use Rattle.std.specs.List.Sorted.{IsPartitionedBy, IsPartitionPoint, IsNonDecrea
 use Rattle.std.specs.Ordering.{is_gt, ordering_index}
 use Rattle.std.specs.declared.cmp.Ordering.{Ordering}
 use Rattle.std.specs.declared.cmp.Ordering.TheVariants.{Less, Equal, Greater}
+use Rattle.ne_vec.specs.Searches.{CallableAtItems}
 use denote.Param.Always.{always_mut, mut_next}
-use Rattle.ne_vec.specs.Calls.{CallableAtItems}
 
 all_cons : {A : Type 0} (P : A → Type 0) (x : A) (xs : List A) → P x → All P xs → All P (x ∷ xs)
 all_cons P x xs first rest zero d h = first

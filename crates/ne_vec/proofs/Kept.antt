@@ -5,10 +5,10 @@ use Rattle.std.specs.List.{filter, dedup, dedup_from}
 use Rattle.std.specs.List.Retain.{RetainsInTurn, DedupsFrom, IsDeduped}
 use Rattle.std.specs.Fn.{CalledAtMut, ComparesKeys}
 use Rattle.std.specs.Borrow.{MutBor}
-use denote.Param.Members.{Mut}
 use Rattle.ne_vec.specs.Divisions.{by_first, heads, runs_from}
 use Rattle.ne_vec.specs.Kept.{KeepsFirsts, ActsAsAtMut}
 use Rattle.ne_vec.proofs.Divisions.{divides}
+use denote.Param.Members.{Mut}
 
 -- ---- `retain_mut`, by a test that is a function of the item
 

@@ -6,21 +6,20 @@ use Rattle.std.specs.Fn.{Shared}
 use Rattle.std.specs.Iterator.{Yields, YieldsFirst}
 use Rattle.ne_vec.specs.Chunks.{ChunksGive}
 use Rattle.ne_vec.specs.Divisions.{runs_of}
-use Rattle.ne_vec.specs.Fronts.{AreFirst, Lists}
-use Rattle.ne_vec.specs.FrontLaws.{first_front, marked}
+use Rattle.ne_vec.specs.Lists.{IsPrefix, Lists}
+use Rattle.ne_vec.specs.ListLaws.{first_prefix, lists_of, triggered}
 use Rattle.ne_vec.specs.SliceRuns.{Cutting, ActsAsAtPair, CutsRun, RunsGive}
 use Rattle.ne_vec.proofs.Divisions.{divide, divides, divide_only}
 use Rattle.ne_vec.proofs.FirstRuns.{runs_before}
 
 module _ {X : Type 0} (c parts : List (List X)) (same : c ≡ parts) where
   chunk_lists : Lists (λ (c it : List (List X)). (0 < length c) × (it ≡ c))
-      (YieldsFirst (λ left. left)) c parts
-  unfolding Lists
-  chunk_lists it made whole ys given = subst (λ l. AreFirst whole l ys) (made.1 ∙ same)
-      (first_front (λ left. left) it ys given)
+      (YieldsFirst (λ left. left)) (λ x. x) c parts
+  chunk_lists = lists_of _ _ c parts (λ it made whole ys given.
+      subst (λ l. IsPrefix whole l ys) (made.1 ∙ same) (first_prefix (λ left. left) it ys given))
 
   pub chunks_give : ChunksGive c parts
-  chunks_give = (marked c parts, chunk_lists)
+  chunks_give = (triggered c parts, chunk_lists)
 
 module _ {A F : Type 0} (calls : Shared F (Bor A × (Bor A × Unit {0})) Bool)
     (place : (A → A → Bool) → List A → A → Bool) where
@@ -42,24 +41,24 @@ module _ {A F : Type 0} (calls : Shared F (Bor A × (Bor A × Unit {0})) Bool)
 
   pub run_lists : (s : Cutting A F) (same : A → A → Bool) → ActsAsAtPair calls s.closure same
       → Lists (λ (s it : Cutting A F). (0 < length s.left) × (it ≡ s)) (CutsRun calls place)
+      (λ x. x)
       s (runs_of place same s.left)
-  unfolding Lists
-  run_lists s same acts it made whole ys given =
+  run_lists s same acts = lists_of _ _ s (runs_of place same s.left) (λ it made whole ys given.
       let t = given.0 in
       let yields = subst (λ q. Yields (CutsRun calls place) q ys t) made.1 given.1 in (
         runs_of place same t.left,
         runs_came same s t ys acts yields,
         λ w. ap (runs_of place same) (given.2 w).1.1.0,
-      )
+      ))
 
   pub runs_give : (f : F) (s : Cutting A F) (xs : List A) → s.closure ≡ f → s.left ≡ xs
       → RunsGive calls place f s xs
   runs_give f s xs same_closure same_items same acts = (
     refl,
     (
-      marked s (runs_of place same xs),
+      triggered s (runs_of place same xs),
       subst (λ l. Lists (λ (s it : Cutting A F). (0 < length s.left) × (it ≡ s))
-          (CutsRun calls place) s (runs_of place same l)) same_items
+          (CutsRun calls place) (λ x. x) s (runs_of place same l)) same_items
           (run_lists s same (subst (λ g. ActsAsAtPair calls g same) (sym same_closure) acts)),
     ),
   )

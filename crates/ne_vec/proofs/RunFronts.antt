@@ -6,9 +6,9 @@ use Rattle.std.proofs.iter.runs.Sources.{lists, as_is}
 use Rattle.std.specs.Prelude.{◌≡◌, true, List, ◌++◌, length, Option, slice_get}
 use Rattle.std.specs.Iterator.{DrainsIf}
 use Rattle.std.specs.Iterator.Runs.{Run}
-use Rattle.ne_vec.specs.Fronts.{Became, GivesFronts, GivesItems, GivesShown, Lists, Shows}
-use Rattle.ne_vec.specs.Fronts.{ShowsFronts}
-use Rattle.ne_vec.specs.FrontLaws.{marked, shown_marked}
+use Rattle.ne_vec.specs.Lists.{Became, YieldsPrefixes, YieldsItems, YieldsThrough, Lists}
+use Rattle.ne_vec.specs.Lists.{YieldsPrefixesThrough}
+use Rattle.ne_vec.specs.ListLaws.{triggered, of_lists}
 
 -- what the calls of a run returned
 pub run_drains : {S A : Type 0} (steps : S → Option A → S → Type 0) (p : Run steps) (it : S)
@@ -17,28 +17,29 @@ run_drains steps p it from = subst (λ s. DrainsIf steps (p.whole ≡ true) s p.
 
 module _ {U S A : Type 0} (becomes : U → S → Type 0) (steps : S → Option A → S → Type 0) (u : U)
   where
-    shows_fronts : {B : Type 0} (view : A → B) (xs : List B) → Shows becomes steps view u xs
-        → (it : S) → becomes u it → ShowsFronts steps view xs it
-    unfolding Shows
-    shows_fronts view xs shows it made p seen from =
+    yields_prefixes_through : {B : Type 0} (view : A → B) (xs : List B) → Lists becomes steps view u
+        xs
+        → (it : S) → becomes u it → YieldsPrefixesThrough steps view xs it
+    unfolding Lists
+    yields_prefixes_through view xs shows it made p seen from =
         let f = shows it made p.whole p.items (run_drains steps p it from) in
         let l = lists p view xs f.0 (λ w. ap length (f.2 w)) f.1 in
         (l.0, l.1, l.6, l.7)
 
-    pub gives_shown : {B : Type 0} (view : A → B) (xs : List B)
-        → Shows becomes steps view u xs → GivesShown becomes steps view u xs
+    pub yields_through : {B : Type 0} (view : A → B) (xs : List B)
+        → Lists becomes steps view u xs → YieldsThrough becomes steps view u xs
     unfolding Became
-    gives_shown view xs shows = (
-      (marked u xs, shown_marked u xs, shows),
-      shows_fronts view xs shows,
-      λ p seen made. shows_fronts view xs shows p.from made p seen refl,
+    yields_through view xs shows = (
+      (triggered u xs, shows),
+      yields_prefixes_through view xs shows,
+      λ p seen made. yields_prefixes_through view xs shows p.from made p seen refl,
     )
 
-    gives_fronts : (xs : List A) → Lists becomes steps u xs → (it : S) → becomes u it
-        → GivesFronts steps xs it
-    unfolding Lists
-    gives_fronts xs gives it made p seen from =
-        let f = gives it made p.whole p.items (run_drains steps p it from) in
+    yields_prefixes : (xs : List A) → Lists becomes steps (λ x. x) u xs → (it : S) → becomes u it
+        → YieldsPrefixes steps xs it
+    yields_prefixes xs gives it made p seen from =
+        let f = of_lists becomes steps u xs gives it made p.whole p.items
+        (run_drains steps p it from) in
         let e = subst (λ l. xs ≡ l ++ f.0) (sym (map-id p.items)) f.1 in
         let l = as_is p xs (lists p (λ x. x) xs f.0 (λ w. ap length (f.2 w)) e) in (
           l.0,
@@ -49,10 +50,11 @@ module _ {U S A : Type 0} (becomes : U → S → Type 0) (steps : S → Option A
               ∙ ap (λ l. slice_get l k) (sym f.1),
         )
 
-    pub gives_items : (xs : List A) → Lists becomes steps u xs → GivesItems becomes steps u xs
+    pub yields_items : (xs : List A) → Lists becomes steps (λ x. x) u xs
+        → YieldsItems becomes steps u xs
     unfolding Became
-    gives_items xs gives = (
-      (marked u xs, gives),
-      gives_fronts xs gives,
-      λ p seen made. gives_fronts xs gives p.from made p seen refl,
+    yields_items xs gives = (
+      (triggered u xs, gives),
+      yields_prefixes xs gives,
+      λ p seen made. yields_prefixes xs gives p.from made p seen refl,
     )

@@ -4,7 +4,7 @@ use Rattle.std.specs.Iterator.{YieldsFirst}
 use Rattle.std.specs.List.{range_with_len}
 use Rattle.std.specs.Slice.Iter.{chunk_count, chunks_rest, chunks_size}
 use Rattle.std.specs.declared.slice.Chunks.{Chunks}
-use Rattle.ne_vec.specs.Fronts.{Listed}
+use Rattle.ne_vec.specs.Lists.{Listed}
 
 -- chunk j: the items from place j * n up to place (j + 1) * n, or to the end
 abbrev pub chunk : {X : Type 0} → ℕ → List X → ℕ → List X
@@ -21,4 +21,4 @@ chunks_left it = chunks (chunks_size it) (chunks_rest it)
 -- The source c of chunks gives the chunks `parts`.
 abbrev pub ChunksGive : {X : Type 0} → List (List X) → List (List X) → Type 0
 ChunksGive c parts =
-    Listed (λ c it. (0 < length c) × (it ≡ c)) (YieldsFirst (λ left. left)) c parts
+    Listed (λ c it. (0 < length c) × (it ≡ c)) (YieldsFirst (λ left. left)) (λ x. x) c parts

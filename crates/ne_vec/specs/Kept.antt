@@ -3,8 +3,8 @@ use Rattle.std.specs.Prelude.{◌≡◌, Bool, Result, Ok, Err, List}
 use Rattle.std.specs.Borrow.{MutBor}
 use Rattle.std.specs.Fn.{CalledAtMut, CalledAtPairMut}
 use Rattle.std.specs.Global.{Vec}
-use denote.Param.Members.{Mut}
 use Rattle.ne_vec.specs.Divisions.{by_first, IsDivision, heads}
+use denote.Param.Members.{Mut}
 
 -- the items that are returned, in a non-empty vector or in the empty one
 abbrev pub kept_items : {X : Type 0} → Result (List X) (Vec X) → List X

@@ -4,7 +4,7 @@ use Rattle.std.specs.Prelude.{MatchOption}
 use Rattle.std.specs.Borrow.{Bor}
 use Rattle.std.specs.Fn.{Shared, FnReturnsAtPair}
 use Rattle.ne_vec.specs.Divisions.{IsRun, Breaks, runs_of}
-use Rattle.ne_vec.specs.Fronts.{Listed}
+use Rattle.ne_vec.specs.Lists.{Listed, Naming}
 
 -- the first n items of xs are its first run
 abbrev pub IsFirstRun : {A : Type 0} → (List A → A → Bool) → List A → ℕ → Type 0
@@ -36,5 +36,5 @@ module _ {A F : Type 0} (calls : Shared F (Bor A × (Bor A × Unit {0})) Bool) w
   abbrev pub RunsGive : ((A → A → Bool) → List A → A → Bool)
       → F → Cutting A F → List A → Type 0
   RunsGive place f s xs = (same : A → A → Bool) → ActsAsAtPair f same
-      → (runs_of place same xs ≡ runs_of place same xs)
-      × Listed (λ s it. (0 < length s.left) × (it ≡ s)) (CutsRun place) s (runs_of place same xs)
+      → Naming (runs_of place same xs)
+      (Listed (λ s it. (0 < length s.left) × (it ≡ s)) (CutsRun place) (λ x. x) s)

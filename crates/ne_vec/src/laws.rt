@@ -6,13 +6,12 @@ ghost use Rattle.std.specs.List.{AllByRecursion, AllZip};
 ghost use Rattle.std.specs.Cmp.{IsPartialEquivalence};
 ghost use Rattle.std.specs.Cmp.Lexicographic.{pointwise, slice_cmp, slice_partial_cmp};
 ghost use Rattle.std.specs.declared.cmp.Ordering.TheVariants.{Less, Equal, Greater};
-ghost use Rattle.ne_vec.specs.Divisions.{IsDivision, by_first, by_previous, concat, heads};
-ghost use Rattle.ne_vec.specs.Divisions.{runs_of};
+ghost use Rattle.std.specs.Iterator.{Yields};
+ghost use Rattle.ne_vec.specs.Divisions.{IsDivision, by_first, by_previous, concat, heads, runs_of};
 ghost use Rattle.ne_vec.specs.Kept.{KeepsFirsts};
-ghost use Rattle.ne_vec.specs.Calls.{CallableAtItems};
+ghost use Rattle.ne_vec.specs.Searches.{CallableAtItems};
 ghost use Rattle.ne_vec.specs.Chunks.{chunks};
 ghost use Rattle.ne_vec.specs.SliceRuns.{Cutting, ActsAsAtPair, CutsRun};
-ghost use Rattle.std.specs.Iterator.{Yields};
 
 use crate::{NESlice, NEVec};
 use std::hash::Hash;

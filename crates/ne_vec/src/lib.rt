@@ -12,7 +12,7 @@ mod macros;
 pub mod slice;
 pub mod vector;
 
-ghost use Rattle.std.specs.Prelude.{◌≡◌, List, [], ◌∷◌, ◌++◌, IfOk, OnOk, OnErr};
+ghost use Rattle.std.specs.Prelude.{List, [], ◌∷◌, ◌++◌, IfOk, OnOk, OnErr};
 
 pub use slice::NESlice;
 use std::alloc::{AllocError, Global};

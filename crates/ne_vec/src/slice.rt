@@ -6,8 +6,8 @@ ghost use Rattle.std.specs.Iterator.{YieldsFirst, item_count, IsFiniteIterable};
 ghost use Rattle.std.specs.Cmp.Lexicographic.{pointwise, slice_cmp, slice_partial_cmp, lists_equiv};
 ghost use Rattle.std.specs.Cmp.Lexicographic.{lists_agrees, lists_total, lists_ties, lists_po};
 ghost use Rattle.std.specs.Cmp.Lexicographic.{lists_per};
-ghost use Rattle.std.specs.Hash as fed;
 ghost use Rattle.std.specs.Hash.{items_Alike};
+ghost use Rattle.std.specs.Hash as fed;
 
 mod runs;
 
@@ -47,8 +47,7 @@ impl<'a, T> Model for NESlice<'a, T> {
 }
 
 impl<'a, T> NESlice<'a, T> {
-    ghost use Rattle.ne_vec.specs.Walks.{Walks};
-    ghost use Rattle.ne_vec.specs.WalkFronts.{WalkShows};
+    ghost use Rattle.ne_vec.specs.Iterators.{IteratesOver, ListsItems};
     ghost use Rattle.ne_vec.specs.Chunks.{chunks, ChunksGive};
     ghost use Rattle.ne_vec.specs.Divisions.{by_first, by_previous};
     ghost use Rattle.ne_vec.specs.SliceRuns.{RunsGive};
@@ -121,7 +120,7 @@ impl<'a, T> NESlice<'a, T> {
 
     /// Returns std's iterator over the items, in order.
     pub fn iter(&self) -> slice::Iter<'_, T>
-        ensures { Walks self.now result }
+        ensures { IteratesOver self.now result }
     {
         self.inner.iter()
     }
@@ -135,7 +134,7 @@ impl<'a, T> NESlice<'a, T> {
     /// ```
     pub fn nonempty_iter(&self) -> Iter<'_, T>
         ensures items { result ≡ self.now }
-        ensures shows { WalkShows result self.now }
+        ensures lists { ListsItems result self.now }
     {
         Iter { inner: self.inner }
     }
@@ -230,13 +229,13 @@ impl<'a, T> AsSlice<T> for NESlice<'a, T> {
 }
 
 impl<'a, T> IntoIterator for NESlice<'a, T> {
-    ghost use Rattle.ne_vec.specs.Walks.{Walks};
+    ghost use Rattle.ne_vec.specs.Iterators.{IteratesOver};
 
     type Item = &'a T;
 
     type IntoIter = slice::Iter<'a, T>;
 
-    ghost into_iter_gives = { λ s it. Walks s it };
+    ghost into_iter_gives = { λ s it. IteratesOver s it };
 
     fn into_iter(self) -> slice::Iter<'a, T> {
         self.inner.iter()
@@ -244,13 +243,13 @@ impl<'a, T> IntoIterator for NESlice<'a, T> {
 }
 
 impl<'a, T> IntoIterator for &'a NESlice<'a, T> {
-    ghost use Rattle.ne_vec.specs.Walks.{Walks};
+    ghost use Rattle.ne_vec.specs.Iterators.{IteratesOver};
 
     type Item = &'a T;
 
     type IntoIter = slice::Iter<'a, T>;
 
-    ghost into_iter_gives = { λ s it. Walks s.now it };
+    ghost into_iter_gives = { λ s it. IteratesOver s.now it };
 
     fn into_iter(self) -> slice::Iter<'a, T> {
         self.inner.iter()
@@ -374,13 +373,13 @@ impl<'a, T> From<NESlice<'a, T>> for Iter<'a, T> {
 }
 
 impl<'a, T> IntoIterator for Iter<'a, T> {
-    ghost use Rattle.ne_vec.specs.Walks.{Walks};
+    ghost use Rattle.ne_vec.specs.Iterators.{IteratesOver};
 
     type Item = &'a T;
 
     type IntoIter = slice::Iter<'a, T>;
 
-    ghost into_iter_gives = { λ v it. Walks v it };
+    ghost into_iter_gives = { λ v it. IteratesOver v it };
 
     fn into_iter(self) -> slice::Iter<'a, T> {
         self.inner.iter()

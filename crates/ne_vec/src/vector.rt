@@ -2,7 +2,7 @@
 //!
 //! The methods are in the Rust crate's order. This module has those that read and edit, `search`
 //! those that search, `sort` those that sort, `random` those that draw from a random number
-//! generator, and `dedup` those that drop repeated neighbours. `walks` has the non-empty iterators,
+//! generator, and `dedup` those that drop repeated neighbours. `iter` has the non-empty iterators,
 //! and `traits` the other trait implementations.
 //!
 //! If an allocation fails, the Rust crate's methods abort the process. Here a method that allocates
@@ -20,18 +20,18 @@ ghost use Rattle.std.specs.Fn.{CalledAt, CalledAtMut};
 ghost use Rattle.std.specs.Iterator.{ActsAsAt, IsFiniteIterable, ExtendsWithItems};
 
 mod dedup;
+mod iter;
 mod random;
 mod search;
 mod sort;
 mod traits;
-mod walks;
 
 use crate::slice::{NEChunks, NESlice};
+pub use iter::{IntoIter, Iter, IterMut};
 use std::alloc::{AllocError, Global};
 use std::marker::Model;
 use std::num::NonZeroUsize;
 use std::slice;
-pub use walks::{IntoIter, Iter, IterMut};
 
 /// A vector that holds at least one item.
 ///
@@ -61,9 +61,9 @@ impl<T> Model for NEVec<T> {
 
 impl<T> NEVec<T> {
     ghost use Rattle.std.specs.Borrow.{sem};
-    ghost use Rattle.ne_vec.specs.Lends.{LendsItem, LendsItemIf, LendsItems, LendsWalk, std_walk};
-    ghost use Rattle.ne_vec.specs.Walks.{Walks, WalksMut};
-    ghost use Rattle.ne_vec.specs.WalkFronts.{WalkShows};
+    ghost use Rattle.ne_vec.specs.VectorLends.{LendsItem, LendsItemIf, LendsItems, LendsIterator};
+    ghost use Rattle.ne_vec.specs.VectorLends.{std_iterator};
+    ghost use Rattle.ne_vec.specs.Iterators.{IteratesOver, IteratesOverMut, ListsItems};
     ghost use Rattle.ne_vec.specs.Chunks.{chunks, ChunksGive};
     ghost use Rattle.ne_vec.specs.Kept.{kept_items, ActsAsAtMut};
     ghost use Rattle.ne_vec.specs.Taken.{TakesUnlessLast};
@@ -468,7 +468,7 @@ impl<T> NEVec<T> {
     /// let halves: Vec<u32> = items.iter().map(|x| *x / 2).collect(alloc)?; // [1, 2, 2, 3]
     /// ```
     pub fn iter(&self) -> slice::Iter<'_, T>
-        ensures { Walks self.now result }
+        ensures { IteratesOver self.now result }
     {
         self.inner.iter()
     }
@@ -482,8 +482,8 @@ impl<T> NEVec<T> {
     /// } // [1, 2, 3, 4]
     /// ```
     pub fn iter_mut(&mut self) -> slice::IterMut<'_, T>
-        ensures* writes_back { sem 𝓛 (LendsWalk T.row self.entry result) }
-        ensures rest { WalksMut self.old result }
+        ensures* writes_back { sem 𝓛 (LendsIterator T.row self.entry result) }
+        ensures rest { IteratesOverMut self.old result }
     {
         self.inner.iter_mut()
     }
@@ -496,7 +496,7 @@ impl<T> NEVec<T> {
     /// ```
     pub fn nonempty_iter(&self) -> Iter<'_, T>
         ensures items { result ≡ self.now }
-        ensures shows { WalkShows result self.now }
+        ensures lists { ListsItems result self.now }
     {
         Iter {
             inner: self.inner.as_slice(),
@@ -512,8 +512,8 @@ impl<T> NEVec<T> {
     /// } // [2, 3, 4, 5]
     /// ```
     pub fn nonempty_iter_mut(&mut self) -> IterMut<'_, T>
-        ensures* writes_back { sem 𝓛 (LendsWalk T.row self.entry (std_walk result)) }
-        ensures rest { WalksMut self.old (std_walk result) }
+        ensures* writes_back { sem 𝓛 (LendsIterator T.row self.entry (std_iterator result)) }
+        ensures rest { IteratesOverMut self.old (std_iterator result) }
     {
         IterMut {
             inner: self.inner.iter_mut(),

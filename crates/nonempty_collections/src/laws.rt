@@ -8,132 +8,46 @@
 
 mod ends;
 
-pub use ends::arrays_end;
-pub use ends::hashed_maps_end;
-pub use ends::hashed_sets_end;
-pub use ends::index_maps_end;
-pub use ends::index_sets_end;
-pub use ends::intersperse_ends;
-pub use ends::looked_sources_end;
-pub use ends::slice_runs_end;
-pub use ends::slices_end;
-pub use ends::tree_maps_end;
-pub use ends::tree_sets_end;
-pub use ends::vectors_end;
-pub use ne_hash::laws::hashed_map_equality_is_reflexive;
-pub use ne_hash::laws::hashed_map_equality_is_symmetric_and_transitive;
-pub use ne_hash::laws::hashed_maps_come_back;
-pub use ne_hash::laws::hashed_maps_one_by_one_are_collected;
-pub use ne_hash::laws::hashed_set_equality_is_an_equivalence;
-pub use ne_hash::laws::hashed_sets_come_back;
-pub use ne_hash::laws::hashed_sets_one_by_one_are_collected;
-pub use ne_index::laws::index_map_equality_is_reflexive;
-pub use ne_index::laws::index_map_equality_is_symmetric_and_transitive;
-pub use ne_index::laws::index_maps_one_by_one_are_collected;
-pub use ne_index::laws::index_set_equality_is_an_equivalence;
-pub use ne_index::laws::index_sets_come_back;
-pub use ne_index::laws::index_sets_one_by_one_are_collected;
-pub use ne_index::laws::key_lists_are_sets_in_order;
-pub use ne_iter::laws::always_callable_is_callable_on_all_items;
-pub use ne_iter::laws::answers_of_a_function;
-pub use ne_iter::laws::arrays_give_their_items;
-pub use ne_iter::laws::ascending_keys_do_not_fall;
-pub use ne_iter::laws::calls_of_a_function;
-pub use ne_iter::laws::chain_ends;
-pub use ne_iter::laws::chunks_give_themselves;
-pub use ne_iter::laws::cloned_ends;
-pub use ne_iter::laws::copied_ends;
-pub use ne_iter::laws::enumerate_ends;
-pub use ne_iter::laws::first_extremes_are_extremes;
-pub use ne_iter::laws::first_greatest_is_the_greatest_number;
-pub use ne_iter::laws::first_items_stay_first;
-pub use ne_iter::laws::first_least_is_the_least_number;
-pub use ne_iter::laws::flat_map_ends;
-pub use ne_iter::laws::flatten_ends;
-pub use ne_iter::laws::folds_of_a_function;
-pub use ne_iter::laws::group_by_ends;
-pub use ne_iter::laws::groupings_stand_at_any_moment;
-pub use ne_iter::laws::interspersed_lists_are_joined;
-pub use ne_iter::laws::interspersed_lists_have_their_places;
-pub use ne_iter::laws::kept_ties_are_the_same_items;
-pub use ne_iter::laws::keys_of_a_function;
-pub use ne_iter::laws::list_of_chain;
-pub use ne_iter::laws::list_of_chain_of_references;
-pub use ne_iter::laws::list_of_cloned;
-pub use ne_iter::laws::list_of_copied;
-pub use ne_iter::laws::list_of_enumerate;
-pub use ne_iter::laws::list_of_filter;
-pub use ne_iter::laws::list_of_filter_map;
-pub use ne_iter::laws::list_of_flat_map;
-pub use ne_iter::laws::list_of_flatten;
-pub use ne_iter::laws::list_of_intersperse;
-pub use ne_iter::laws::list_of_map;
-pub use ne_iter::laws::list_of_map_of_references;
-pub use ne_iter::laws::list_of_peekable;
-pub use ne_iter::laws::list_of_scan;
-pub use ne_iter::laws::list_of_skip;
-pub use ne_iter::laws::list_of_skip_while;
-pub use ne_iter::laws::list_of_take;
-pub use ne_iter::laws::list_of_take_of_references;
-pub use ne_iter::laws::list_of_take_while;
-pub use ne_iter::laws::list_of_zip;
-pub use ne_iter::laws::lists_are_read_whole;
-pub use ne_iter::laws::lists_follow_one_another;
-pub use ne_iter::laws::lists_of_iterators;
-pub use ne_iter::laws::lists_stay_the_same;
-pub use ne_iter::laws::looked_sources_give_their_list;
-pub use ne_iter::laws::map_ends;
-pub use ne_iter::laws::no_list_becomes_empty;
-pub use ne_iter::laws::no_list_is_empty;
-pub use ne_iter::laws::numbers_have_one_greatest;
-pub use ne_iter::laws::numbers_have_one_least;
-pub use ne_iter::laws::once_ends;
-pub use ne_iter::laws::once_gives_its_item;
-pub use ne_iter::laws::peekable_ends;
-pub use ne_iter::laws::results_are_read_whole;
-pub use ne_iter::laws::results_make_a_vector;
-pub use ne_iter::laws::runs_by_a_function;
-pub use ne_iter::laws::runs_by_keys_are_the_division;
-pub use ne_iter::laws::runs_make_the_whole;
-pub use ne_iter::laws::runs_of_group_by;
-pub use ne_iter::laws::scan_ends;
-pub use ne_iter::laws::scans_of_a_function;
-pub use ne_iter::laws::slice_runs_are_the_division;
-pub use ne_iter::laws::slices_show_their_items;
-pub use ne_iter::laws::sources_give_what_is_left;
-pub use ne_iter::laws::sources_show_what_is_left;
-pub use ne_iter::laws::std_vectors_give_their_items;
-pub use ne_iter::laws::stopped_grouping_has_the_first_runs;
-pub use ne_iter::laws::take_ends;
-pub use ne_iter::laws::vectors_give_their_items;
-pub use ne_iter::laws::vectors_one_by_one_are_collected;
-pub use ne_iter::laws::whole_reading_gives_the_division;
-pub use ne_iter::laws::writing_walks_show_their_items;
-pub use ne_iter::laws::zip_ends;
-pub use ne_products::laws::cartesian_product_ends;
-pub use ne_products::laws::either_ends;
-pub use ne_products::laws::list_of_cartesian_product;
-pub use ne_products::laws::products_have_their_places;
-pub use ne_tree::laws::map_equality_is_reflexive;
-pub use ne_tree::laws::map_equality_is_symmetric_and_transitive;
-pub use ne_tree::laws::maps_come_back;
-pub use ne_tree::laws::maps_one_by_one_are_collected;
-pub use ne_tree::laws::set_equality_is_an_equivalence;
-pub use ne_tree::laws::sets_come_back;
-pub use ne_tree::laws::sets_one_by_one_are_collected;
-pub use ne_vec::laws::always_callable_is_callable_at_items;
-pub use ne_vec::laws::chunks_make_the_whole;
-pub use ne_vec::laws::computed_runs_are_the_division;
-pub use ne_vec::laws::converse_has_the_same_division;
-pub use ne_vec::laws::dedup_by_key_keeps_the_first_items;
-pub use ne_vec::laws::first_and_previous_agree;
-pub use ne_vec::laws::has_one_division;
-pub use ne_vec::laws::lists_are_in_lexicographic_order;
-pub use ne_vec::laws::longer_list_keeps_runs;
-pub use ne_vec::laws::mapped_list_has_the_mapped_runs;
-pub use ne_vec::laws::one_item_more;
-pub use ne_vec::laws::partial_ties_are_passed_over;
-pub use ne_vec::laws::runs_taken_are_the_first_runs;
-pub use ne_vec::laws::slices_compare_as_lists;
-pub use ne_vec::laws::ties_are_passed_over;
-pub use ne_vec::laws::vectors_compare_as_lists;
+pub use ends::{
+    arrays_end, hashed_maps_end, hashed_sets_end, index_maps_end, index_sets_end, intersperse_ends,
+    peeked_sources_end, slice_runs_end, slices_end, tree_maps_end, tree_sets_end, vectors_end,
+};
+pub use ne_hash::laws::{
+    hashed_map_equality_is_reflexive, hashed_map_equality_is_symmetric_and_transitive,
+    hashed_maps_come_back, hashed_maps_one_by_one_are_collected,
+    hashed_set_equality_is_an_equivalence, hashed_sets_come_back,
+    hashed_sets_one_by_one_are_collected,
+};
+pub use ne_index::laws::{
+    index_map_equality_is_reflexive, index_map_equality_is_symmetric_and_transitive,
+    index_maps_one_by_one_are_collected, index_set_equality_is_an_equivalence,
+    index_sets_come_back, index_sets_one_by_one_are_collected, key_lists_are_sets_in_order,
+};
+pub use ne_iter::laws::{
+    always_callable_is_callable_on_all_items, arrays_give_their_items, calls_of_a_function,
+    chain_ends, cloned_ends, copied_ends, enumerate_ends, first_items_stay_first, flat_map_ends,
+    flatten_ends, group_by_ends, groupings_stand_at_any_moment,
+    interspersed_lists_have_their_places, lists_are_read_whole, lists_follow_one_another, map_ends,
+    no_list_is_empty, numbers_have_one_greatest, numbers_have_one_least, once_ends, peekable_ends,
+    results_are_read_whole, results_make_a_vector, runs_by_a_function,
+    runs_by_keys_are_the_division, runs_make_the_whole, scan_ends, slice_runs_are_the_division,
+    sources_give_what_is_left, std_vectors_give_their_items, stopped_grouping_has_the_first_runs,
+    take_ends, vectors_give_their_items, vectors_one_by_one_are_collected,
+    whole_reading_gives_the_division, zip_ends,
+};
+pub use ne_products::laws::{
+    cartesian_product_ends, either_ends, list_of_cartesian_product, products_have_their_places,
+};
+pub use ne_tree::laws::{
+    map_equality_is_reflexive, map_equality_is_symmetric_and_transitive, maps_come_back,
+    maps_one_by_one_are_collected, set_equality_is_an_equivalence, sets_come_back,
+    sets_one_by_one_are_collected,
+};
+pub use ne_vec::laws::{
+    always_callable_is_callable_at_items, chunks_make_the_whole, computed_runs_are_the_division,
+    converse_has_the_same_division, dedup_by_key_keeps_the_first_items, first_and_previous_agree,
+    has_one_division, lists_are_in_lexicographic_order, longer_list_keeps_runs,
+    mapped_list_has_the_mapped_runs, one_item_more, partial_ties_are_passed_over,
+    runs_taken_are_the_first_runs, slices_compare_as_lists, ties_are_passed_over,
+    vectors_compare_as_lists,
+};

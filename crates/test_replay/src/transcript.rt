@@ -4,7 +4,7 @@
 //! one path for each arm to follow, and no values to drop where the arms join.
 ghost use Rattle.std.specs.Iterator.{IsFiniteIterable};
 
-use nonempty_collections::iter::SourceWords;
+use nonempty_collections::iter::Source;
 use nonempty_collections::{Error, NEVec, NonEmptyIterator};
 use std::alloc::{AllocError, Global};
 use std::fmt::Debug;
@@ -64,7 +64,7 @@ impl Transcript {
         &mut self,
         source: S,
     ) -> Answered
-        requires { ⟦<S as SourceWords>⟧.ends source }
+        requires { ⟦<S as Source>⟧.ends source }
     {
         let items: NEVec<T> = source.collect(self.alloc)?;
         self.told(items)

@@ -18,7 +18,7 @@ pub mod iter;
 pub mod keys;
 pub mod macros;
 pub mod non_empty;
-pub mod peek;
+pub mod peekable;
 pub mod products;
 pub mod random;
 pub mod root;

@@ -7,7 +7,7 @@ ghost use Rattle.std.specs.Prelude.{None, Ok, Some, false, true, map, filter, fo
 ghost use Rattle.std.specs.Bool.{then_some};
 ghost use Rattle.std.specs.List.{scan, filter_map, flat_map, prefix_len, reduce, take_while, zip};
 ghost use Rattle.std.specs.Ordering.{nat_cmp};
-ghost use Rattle.ne_iter.specs.Interspersed.{interspersed};
+ghost use Rattle.ne_iter.specs.Intersperse.{interspersed};
 ghost use Rattle.ne_iter.specs.KeyOrder.{KeysAscend};
 ghost use Rattle.ne_iter.specs.Keys.{IsDividedBy};
 
@@ -316,13 +316,13 @@ pub fn take(alloc: Global) -> Result<NEVec<u32>, AllocError>
 
 /// By hand. The items before the first one that does not meet a test.
 pub fn take_while(alloc: Global) -> Result<Vec<u32>, AllocError>
-    ensures items { IfOk result (λ front. (xs : List ℕ) → xs ≡ 2 ∷ 4 ∷ 7 ∷ 8 ∷ 9 ∷ []
-        → front.items ≡ take_while (λ x. x % 2 == 0) xs) }
+    ensures items { IfOk result (λ first. (xs : List ℕ) → xs ≡ 2 ∷ 4 ∷ 7 ∷ 8 ∷ 9 ∷ []
+        → first.items ≡ take_while (λ x. x % 2 == 0) xs) }
     ensures value { take_while (λ x. x % 2 == 0) (2 ∷ 4 ∷ 7 ∷ 8 ∷ 9 ∷ []) ≡ 2 ∷ 4 ∷ [] }
 {
     let items = nev![alloc; 2, 4, 7, 8, 9]?.into_nonempty_iter();
-    let front: Vec<u32> = items.take_while(|x| *x % 2 == 0).collect(alloc)?;
-    Ok(front)
+    let first: Vec<u32> = items.take_while(|x| *x % 2 == 0).collect(alloc)?;
+    Ok(first)
 }
 
 /// By hand. The product of the items.

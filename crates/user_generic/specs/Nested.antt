@@ -4,7 +4,7 @@ use Rattle.std.specs.Borrow.{MutBor}
 use Rattle.std.specs.Fn.{Mut}
 use Rattle.ne_vec.specs.Divisions.{concat}
 use Rattle.ne_iter.specs.Calls.{CallsWithState}
-use Rattle.ne_iter.specs.Gives.{ReadsEach}
+use Rattle.ne_iter.specs.Flatten.{ReadsEach}
 
 -- c is made of what f returns for the items of the lists of the source's items, one list after
 -- another, with the state init at first. If c is complete, the source and these lists have ended.

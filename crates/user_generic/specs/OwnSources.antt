@@ -28,5 +28,5 @@ abbrev pub in_box : {I : Type 0} → Boxed I → I
 in_box b = box_value b.inner
 
 -- the stack behind a reference becomes the iterator that has all its items left
-abbrev pub WalksStack : {A : Type 0} → Bor (List A) → List A → Type 0
-WalksStack s it = (0 < length s.now) × (it ≡ s.now)
+abbrev pub IteratesStack : {A : Type 0} → Bor (List A) → List A → Type 0
+IteratesStack s it = (0 < length s.now) × (it ≡ s.now)

@@ -4,8 +4,7 @@ ghost use Rattle.std.specs.Iterator.{IsFinite, IsFiniteIterable, size};
 ghost use Rattle.std.specs.List.{scan};
 ghost use Rattle.user_generic.specs.Nested.{IsScanOfAll};
 
-use nonempty_collections::iter::{FromNonEmptyIterator, NonEmptyIterator, SourceWords};
-use nonempty_collections::laws::{first_items_stay_first, list_of_scan, vectors_give_their_items};
+use nonempty_collections::iter::{FromNonEmptyIterator, NonEmptyIterator, Source};
 use nonempty_collections::{IntoNonEmptyIterator, NEVec};
 use std::alloc::{AllocError, Global};
 
@@ -26,7 +25,7 @@ pub fn scan_of_all<
         → U.IntoIter.can_next it × IsFinite (U.IntoIter.remaining it)
         × (size (U.IntoIter.remaining it) < 2 ^ 64) }
     requires callable { F.IsAlwaysCallable f }
-    ensures { IfOk result (IsScanOfAll (⟦<S as SourceWords>⟧.reads) (⟦<U as SourceWords>⟧.reads)
+    ensures { IfOk result (IsScanOfAll (⟦<S as Source>⟧.reads) (⟦<U as Source>⟧.reads)
         F.FnMut B.is_complete B.collected source init f) }
 {
     source.flatten().scan(init, f).collect(alloc)
@@ -42,9 +41,5 @@ pub fn running_totals(alloc: Global, items: NEVec<u32>) -> Result<NEVec<u32>, Al
         *total = total.wrapping_add(x);
         *total
     };
-    let source = items.into_nonempty_iter();
-    vectors_give_their_items::<u32>();
-    list_of_scan(&source, &add);
-    first_items_stay_first::<u32, u32>();
-    source.scan(0, add).collect(alloc)
+    items.into_nonempty_iter().scan(0, add).collect(alloc)
 }

@@ -5,9 +5,10 @@
 ghost use Rattle.std.specs.Prelude.{◌≡◌, ◌<◌, List, [], ◌∷◌, length, reverse, IfOk, IfErr};
 ghost use Rattle.std.specs.Iterator.{YieldsFirst, YieldsFirstRef, at_most, item_count};
 ghost use Rattle.std.specs.Int.NonZero.{non_zero_u32_get};
-ghost use Rattle.nonempty_collections.specs.Fronts.{Shown};
+ghost use Rattle.nonempty_collections.specs.Lists.{Listed};
 ghost use Rattle.user_generic.specs.OwnSources.{counted_down, start_of, left_of, seconds_of};
-ghost use Rattle.user_generic.specs.OwnSources.{in_box, WalksStack};
+ghost use Rattle.user_generic.specs.OwnSources.{in_box};
+ghost use Rattle.user_generic.specs.OwnSources.{IteratesStack};
 
 use nonempty_collections::{IntoNonEmptyIterator, NonEmptyIterator};
 use std::alloc::{AllocError, Global};
@@ -163,7 +164,8 @@ impl<T> Stack<T> {
     /// Returns a source of references to the items, the newest first. It says which list they show;
     /// so a chain over it proves itself.
     pub fn nonempty_iter(&self) -> &Stack<T>
-        ensures { Shown WalksStack (YieldsFirstRef (λ left. left)) (λ y. y.now) result self.now }
+        ensures { Listed IteratesStack (YieldsFirstRef (λ left. left)) (λ y. y.now) result
+            self.now }
     {
         self
     }
@@ -248,7 +250,7 @@ impl<'a, T> IntoIterator for &'a Stack<T> {
 
     type IntoIter = StackIter<'a, T>;
 
-    ghost into_iter_gives = { WalksStack };
+    ghost into_iter_gives = { IteratesStack };
 
     fn into_iter(self) -> StackIter<'a, T> {
         StackIter {
@@ -259,7 +261,7 @@ impl<'a, T> IntoIterator for &'a Stack<T> {
 
 impl<'a, T> NonEmptyIterator for &'a Stack<T> {
     ghost use Rattle.user_generic.specs.OwnSourceLaws.{some_left};
-    ghost use Rattle.nonempty_collections.specs.Views.{referenced};
+    ghost use Rattle.nonempty_collections.specs.Lists.{referenced};
 
     ghost item_view = { referenced };
 

@@ -4,9 +4,9 @@
 ghost use Rattle.std.specs.Prelude.{◌≡◌, ◌/◌, ◌≤◌, ◌++◌, List, ℕ, filter, map, take, IfOk, ltb};
 ghost use Rattle.std.specs.List.{All, Contains, enumerate_from};
 ghost use Rattle.std.specs.Int.NonZero.{non_zero_usize_get};
-ghost use Rattle.ne_vec.specs.Fronts.{Listed};
+ghost use Rattle.ne_vec.specs.Lists.{Listed};
 
-use nonempty_collections::iter::SourceWords;
+use nonempty_collections::iter::Source;
 use nonempty_collections::{IntoNonEmptyIterator, NEVec, NonEmptyIterator};
 use std::alloc::{AllocError, Global};
 use std::num::NonZeroUsize;
@@ -16,9 +16,9 @@ pub fn halves<S: NonEmptyIterator<Item = u32>>(
     alloc: Global,
     source: S,
 ) -> Result<NEVec<u32>, AllocError>
-    requires { ⟦<S as SourceWords>⟧.ends source }
+    requires { ⟦<S as Source>⟧.ends source }
     ensures { IfOk result (λ v. (xs : List ℕ)
-        → Listed S.into_iter_gives S.IntoIter.next_gives source xs
+        → Listed S.into_iter_gives S.IntoIter.next_gives (λ x. x) source xs
         → v ≡ map (λ x. x / 2) xs) }
 {
     source.map(|x| x / 2).collect(alloc)
@@ -30,9 +30,9 @@ pub fn first_halves<S: NonEmptyIterator<Item = u32>>(
     source: S,
     n: NonZeroUsize,
 ) -> Result<NEVec<u32>, AllocError>
-    requires { ⟦<S as SourceWords>⟧.ends source }
+    requires { ⟦<S as Source>⟧.ends source }
     ensures { IfOk result (λ v. (xs : List ℕ)
-        → Listed S.into_iter_gives S.IntoIter.next_gives source xs
+        → Listed S.into_iter_gives S.IntoIter.next_gives (λ x. x) source xs
         → v ≡ take (non_zero_usize_get n) (map (λ x. x / 2) xs)) }
 {
     source.map(|x| x / 2).take(n).collect(alloc)
@@ -43,9 +43,9 @@ pub fn small<S: NonEmptyIterator<Item = u32>>(
     alloc: Global,
     source: S,
 ) -> Result<Vec<u32>, AllocError>
-    requires { ⟦<S as SourceWords>⟧.ends source }
+    requires { ⟦<S as Source>⟧.ends source }
     ensures { IfOk result (λ v. (xs : List ℕ)
-        → Listed S.into_iter_gives S.IntoIter.next_gives source xs
+        → Listed S.into_iter_gives S.IntoIter.next_gives (λ x. x) source xs
         → v.items ≡ filter (λ x. ltb x 10) xs) }
 {
     source.filter(|x| *x < 10).collect(alloc)
@@ -53,10 +53,12 @@ pub fn small<S: NonEmptyIterator<Item = u32>>(
 
 /// Returns the greatest item.
 pub fn greatest<S: NonEmptyIterator<Item = u32>>(source: S) -> u32
-    requires { ⟦<S as SourceWords>⟧.ends source }
-    ensures among { (xs : List ℕ) → Listed S.into_iter_gives S.IntoIter.next_gives source xs
+    requires { ⟦<S as Source>⟧.ends source }
+    ensures among { (xs : List ℕ)
+        → Listed S.into_iter_gives S.IntoIter.next_gives (λ x. x) source xs
         → Contains xs result }
-    ensures bound { (xs : List ℕ) → Listed S.into_iter_gives S.IntoIter.next_gives source xs
+    ensures bound { (xs : List ℕ)
+        → Listed S.into_iter_gives S.IntoIter.next_gives (λ x. x) source xs
         → All (λ x. x ≤ result) xs }
 {
     source.max()

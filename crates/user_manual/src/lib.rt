@@ -8,6 +8,7 @@
 
 pub mod adapters;
 pub mod any_source;
+pub mod chains;
 pub mod consumers;
 pub mod joins;
 pub mod keyed;
@@ -20,4 +21,3 @@ pub mod runs;
 pub mod sources;
 pub mod start;
 pub mod texts;
-pub mod towers;

@@ -151,7 +151,7 @@ pub fn later_buyers(alloc: Global, sales: &NEVec<Sale>) -> Result<Vec<u32>, Allo
 }
 
 /// Returns the numbers before the first that is 10 or more.
-pub fn small_front(alloc: Global, items: &NEVec<u32>) -> Result<Vec<u32>, AllocError>
+pub fn small_prefix(alloc: Global, items: &NEVec<u32>) -> Result<Vec<u32>, AllocError>
     ensures { IfOk result (λ v. v.items ≡ take_while (λ x. ltb x 10) items.now) }
 {
     items

@@ -1,12 +1,12 @@
 //! Kinds of source, collected. Only `pairs_of_any_sources`, which is generic in its sources, calls
 //! a law and has a stored proof.
 ghost use Rattle.std.specs.Prelude.{◌≡◌, ◌/◌, ℕ, List, IfOk, Ok, map};
-ghost use Rattle.ne_iter.specs.Gives.{GivesList};
+ghost use Rattle.ne_iter.specs.Sources.{ReadsList};
 ghost use Rattle.ne_products.specs.Pairs.{cartesian_product};
 ghost use Rattle.ne_products.specs.Restarts.{ClonesAgain, NeverRefuses};
 ghost use Rattle.ne_products.specs.Sides.{by_side};
 
-use nonempty_collections::iter::SourceWords;
+use nonempty_collections::iter::Source;
 use nonempty_collections::{
     IntoNonEmptyIterator, NEEither, NESlice, NEVec, NonEmptyIterator, NonEmptyItertools, iter, laws,
 };
@@ -57,14 +57,14 @@ where
     S: NonEmptyIterator<Item = u32>,
     U: NonEmptyIterator<Item = u32>,
     U::IntoIter: Clone,
-    requires rows_end { ⟦<S as SourceWords>⟧.ends rows }
-    requires columns_end { ⟦<U as SourceWords>⟧.ends columns }
+    requires rows_end { ⟦<S as Source>⟧.ends rows }
+    requires columns_end { ⟦<U as Source>⟧.ends columns }
     requires again { ClonesAgain U.into_iter_gives U.IntoIter.remaining U.IntoIter.is_clone
         columns }
     requires certain { NeverRefuses U.into_iter_gives U.IntoIter.is_infallible columns }
     ensures { IfOk result (λ v. (xs ys : List ℕ)
-        → GivesList (⟦<S as SourceWords>⟧.reads) rows xs
-        → GivesList (⟦<U as SourceWords>⟧.reads) columns ys
+        → ReadsList (⟦<S as Source>⟧.reads) rows xs
+        → ReadsList (⟦<U as Source>⟧.reads) columns ys
         → v ≡ map Ok (cartesian_product xs ys)) }
 {
     laws::list_of_cartesian_product(&rows, &columns);

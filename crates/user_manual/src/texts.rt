@@ -241,7 +241,7 @@ pub fn from_first_long<'a>(alloc: Global, texts: NEVec<&'a str>) -> Result<Vec<&
 }
 
 /// Returns the texts before the first one that has 10 bytes or more.
-pub fn short_front<'a>(alloc: Global, texts: NEVec<&'a str>) -> Result<Vec<&'a str>, AllocError>
+pub fn short_prefix<'a>(alloc: Global, texts: NEVec<&'a str>) -> Result<Vec<&'a str>, AllocError>
     ensures { IfOk result (λ v. v.items ≡ take_while (λ t. ltb (length t.now) 10) texts.entry) }
 {
     texts

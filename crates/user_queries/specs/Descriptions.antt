@@ -1,6 +1,6 @@
 -- Which query the lines of a description describe, and what is wrong with lines that describe none.
-use Rattle.std.specs.Prelude.{◌≡◌, ◌<◌, ⊤, List, [], ◌∷◌, length, Option, Some, None}
-use Rattle.std.specs.Prelude.{filter_map, slice_get}
+use Rattle.std.specs.Prelude.{◌≡◌, ◌<◌, ⊤, List, [], ◌∷◌, length, Option, Some, None, filter_map}
+use Rattle.std.specs.Prelude.{slice_get}
 use Rattle.std.specs.declared.string.String.{String}
 use Rattle.std.specs.Global.{Global}
 use Rattle.user_queries.specs.declared.builder.Query.{Query}

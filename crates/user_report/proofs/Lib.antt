@@ -1,3 +1,3 @@
-pub mod Grouped
+pub mod GroupsOfRows
 pub mod Groups
 pub mod Totals

@@ -1,6 +1,6 @@
 -- A total that is checked at each step is there just if the whole sum fits.
-use Rattle.std.proofs.Common.{◌≡◌, ◌+◌, ◌<◌, ◌≤◌, ◌^◌, ℕ, List, [], ◌∷◌, Bool, true, false}
-use Rattle.std.proofs.Common.{cond, ltb, refl, arith, fold, is_some}
+use Rattle.std.proofs.Common.{◌≡◌, ◌+◌, ◌<◌, ◌≤◌, ◌^◌, ℕ, List, [], ◌∷◌, Bool, true, false, cond}
+use Rattle.std.proofs.Common.{ltb, refl, arith, fold, is_some}
 use Rattle.std.proofs.lemmas.Bool.{ltb-true, ltb-false}
 use Rattle.std.specs.Prelude.{Some, None}
 use Rattle.user_report.specs.Reports.{plus}

@@ -1,9 +1,9 @@
 //! The traits of an [`NEMap`]: conversions, clones, equality as a map, collecting, printing.
 ghost use Rattle.std.specs.Prelude.{◌≡◌, ◌<◌, ◌↔◌, ◌++◌, IsTrue, MatchResult};
-ghost use Rattle.std.specs.HashMap.{hash_map_eq, hash_map_len, IsEmpty, IsUnique};
+ghost use Rattle.std.specs.HashMap.{get, hash_map_eq, hash_map_len, IsClone, IsEmpty, IsUnique};
 ghost use Rattle.ne_iter.specs.Collected.{IsMapOf};
-ghost use Rattle.ne_hash.specs.Clones.{IsCloneOfMap};
-ghost use Rattle.ne_hash.specs.SameMap.{IsSameMap};
+ghost use Rattle.ne_iter.specs.KeyClones.{KeepsEntries};
+ghost use Rattle.ne_iter.specs.SameMap.{IsSameMap};
 
 use super::NEMap;
 use ne_iter::{Error, FromNonEmptyIterator, IntoNonEmptyIterator, Singleton};
@@ -41,7 +41,8 @@ impl<K: Eq + Hash, V: PartialEq, S: BuildHasher> PartialEq for NEMap<K, V, S> {
 
     fn eq(&self, other: &NEMap<K, V, S>) -> bool
         ensures eq { result ≡ hash_map_eq K.eq V.eq self.now other.now }
-        ensures same_map { IsTrue result ↔ IsSameMap K.eq V.eq self.now other.now }
+        ensures same_map { IsTrue result
+            ↔ IsSameMap V.eq (get K.eq self.now) (get K.eq other.now) }
     {
         self.inner == other.inner
     }
@@ -88,7 +89,8 @@ impl<K: Eq + Hash + Drop, V: Drop, S: BuildHasher + Drop> TryFrom<HashMap<K, V, 
 
 /// Calls the inherent method `clone`.
 impl<K: Eq + Hash + Clone, V: Clone, S: BuildHasher + Clone> Clone for NEMap<K, V, S> {
-    ghost is_clone = { IsCloneOfMap K.is_clone V.is_clone };
+    ghost is_clone = { λ m n. IsClone K.is_clone V.is_clone m n
+        × KeepsEntries K.is_clone V.is_clone m.entries n.entries };
 
     fn clone(&self) -> Result<NEMap<K, V, S>, AllocError> {
         NEMap::clone(self)

@@ -1,8 +1,9 @@
 //! The traits of an [`NESet`]: conversions, clones, equality as a set, collecting, printing.
 ghost use Rattle.std.specs.Prelude.{◌≡◌, ◌<◌, ◌↔◌, ◌++◌, IsTrue, MatchResult};
 ghost use Rattle.std.specs.HashSet.{hash_set_eq, hash_set_len, IsEmpty, IsSameSet, IsUnique};
+ghost use Rattle.std.specs.HashSet.{IsClone};
 ghost use Rattle.ne_iter.specs.Collected.{IsSetOf};
-ghost use Rattle.ne_hash.specs.Clones.{IsCloneOfSet};
+ghost use Rattle.ne_iter.specs.KeyClones.{KeepsItems};
 
 use super::NESet;
 use ne_iter::{Error, FromNonEmptyIterator, IntoNonEmptyIterator, Singleton};
@@ -102,7 +103,7 @@ impl<T: Eq + Hash + Drop, S: BuildHasher + Drop> TryFrom<HashSet<T, S>> for NESe
 
 /// Calls the inherent method `clone`.
 impl<T: Eq + Hash + Clone, S: BuildHasher + Clone> Clone for NESet<T, S> {
-    ghost is_clone = { IsCloneOfSet T.is_clone };
+    ghost is_clone = { λ s t. IsClone T.is_clone s t × KeepsItems T.is_clone s.keys t.keys };
 
     fn clone(&self) -> Result<NESet<T, S>, AllocError> {
         NESet::clone(self)

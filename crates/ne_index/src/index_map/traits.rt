@@ -1,18 +1,19 @@
 //! The traits of an [`NEIndexMap`]: conversions, clones, equality as a map, access by index,
 //! collecting, printing.
 ghost use Rattle.std.specs.Prelude.{◌≡◌, ◌<◌, ◌↔◌, ◌++◌, IfOk, IsTrue, List, Some, slice_get, true};
-ghost use Rattle.std.specs.Cmp;
 ghost use Rattle.std.specs.Cmp.{partial_equiv_from_equiv};
 ghost use Rattle.std.specs.HashMap.Eq.{hash_map_eq_refl, hash_map_eq_symm, hash_map_eq_trans};
 ghost use Rattle.std.specs.Iterator.{IsFiniteIterable};
 ghost use Rattle.indexmap.specs.IndexMap.{IsUnique, hasher_of, index_map_eq, index_map_len, values};
+ghost use Rattle.indexmap.specs.IndexMap.{IsClone, get};
+ghost use Rattle.ne_iter.specs.KeyClones.{KeepsEntries};
 ghost use Rattle.ne_iter.specs.KeyList.{IsKeyListMapOf};
-ghost use Rattle.ne_index.specs.Clones.{IsCloneOfMap};
-ghost use Rattle.ne_index.specs.SameMap.{IsSameMap};
+ghost use Rattle.ne_iter.specs.SameMap.{IsSameMap};
+ghost use Rattle.std.specs.Cmp;
 
 use super::NEIndexMap;
 use indexmap::IndexMap;
-use ne_iter::iter::SourceWords;
+use ne_iter::iter::Source;
 use ne_iter::{FromNonEmptyIterator, IntoNonEmptyIterator, NonEmptyIterator, Singleton};
 use std::alloc::{AllocError, Global};
 use std::fmt;
@@ -53,7 +54,8 @@ impl<K: Eq + Hash, V: PartialEq, S: BuildHasher> PartialEq for NEIndexMap<K, V, 
 
     fn eq(&self, other: &NEIndexMap<K, V, S>) -> bool
         ensures eq { result ≡ index_map_eq K.eq V.eq self.now other.now }
-        ensures same_map { IsTrue result ↔ IsSameMap K.eq V.eq self.now other.now }
+        ensures same_map { IsTrue result
+            ↔ IsSameMap V.eq (get K.eq self.now) (get K.eq other.now) }
     {
         self.inner == other.inner
     }
@@ -78,7 +80,8 @@ impl<K: Eq + Hash, V, S: BuildHasher> From<NEIndexMap<K, V, S>> for IndexMap<K, 
 
 /// Calls the inherent method `clone`.
 impl<K: Eq + Hash + Clone, V: Clone, S: BuildHasher + Clone> Clone for NEIndexMap<K, V, S> {
-    ghost is_clone = { IsCloneOfMap K.is_clone V.is_clone };
+    ghost is_clone = { λ m n. IsClone K.is_clone V.is_clone m n
+        × KeepsEntries K.is_clone V.is_clone m.entries n.entries };
 
     fn clone(&self) -> Result<NEIndexMap<K, V, S>, AllocError> {
         NEIndexMap::clone(self)
@@ -112,7 +115,7 @@ fn collected<
     requires { (source : I.IntoNEIter) → I.into_nonempty_iter_gives iter source
         → IsFiniteIterable I.IntoNEIter.into_iter_gives I.IntoNEIter.IntoIter.can_next
         I.IntoNEIter.IntoIter.remaining source }
-    ensures { IfOk result (λ m. (pairs : List (K × V)) × ⟦<I as SourceWords>⟧.reads true iter pairs
+    ensures { IfOk result (λ m. (pairs : List (K × V)) × ⟦<I as Source>⟧.reads true iter pairs
         × (IsKeyListMapOf K.eq pairs m.entries × (0 < index_map_len m))) }
 {
     iter.into_nonempty_iter().into_iter().collect(alloc)

@@ -3,14 +3,14 @@ ghost use Rattle.std.specs.Prelude.{◌≡◌, ◌<◌, ◌↔◌, ◌++◌, IfO
 ghost use Rattle.std.specs.HashSet.Eq.{hash_set_eq_equiv};
 ghost use Rattle.std.specs.Cmp.{partial_equiv_from_equiv};
 ghost use Rattle.std.specs.Iterator.{IsFiniteIterable};
-ghost use Rattle.indexmap.specs.IndexSet.{hasher_of, index_set_eq, index_set_len, IsEmpty};
+ghost use Rattle.indexmap.specs.IndexSet.{hasher_of, index_set_eq, index_set_len, IsEmpty, IsClone};
 ghost use Rattle.indexmap.specs.IndexSet.{IsSameSet, IsUnique};
-ghost use Rattle.ne_index.specs.Clones.{IsCloneOfSet};
+ghost use Rattle.ne_iter.specs.KeyClones.{KeepsItems};
 ghost use Rattle.ne_index.specs.KeyListSets.{IsKeyListSetOf};
 
 use super::NEIndexSet;
 use indexmap::IndexSet;
-use ne_iter::iter::SourceWords;
+use ne_iter::iter::Source;
 use ne_iter::{Error, FromNonEmptyIterator, IntoNonEmptyIterator, NonEmptyIterator, Singleton};
 use std::alloc::{AllocError, Global};
 use std::fmt;
@@ -75,7 +75,7 @@ fn collected<
     requires { (source : I.IntoNEIter) → I.into_nonempty_iter_gives iter source
         → IsFiniteIterable I.IntoNEIter.into_iter_gives I.IntoNEIter.IntoIter.can_next
         I.IntoNEIter.IntoIter.remaining source }
-    ensures { IfOk result (λ s. (items : List T) × ⟦<I as SourceWords>⟧.reads true iter items
+    ensures { IfOk result (λ s. (items : List T) × ⟦<I as Source>⟧.reads true iter items
         × (IsKeyListSetOf T.eq items s.keys × (0 < index_set_len s))) }
 {
     iter.into_nonempty_iter().into_iter().collect(alloc)
@@ -118,7 +118,7 @@ impl<T: Eq + Hash + Drop, S: BuildHasher + Drop> TryFrom<IndexSet<T, S>> for NEI
 
 /// Calls the inherent method `clone`.
 impl<T: Eq + Hash + Clone, S: BuildHasher + Clone> Clone for NEIndexSet<T, S> {
-    ghost is_clone = { IsCloneOfSet T.is_clone };
+    ghost is_clone = { λ s t. IsClone T.is_clone s t × KeepsItems T.is_clone s.keys t.keys };
 
     fn clone(&self) -> Result<NEIndexSet<T, S>, AllocError> {
         NEIndexSet::clone(self)

@@ -1,8 +1,8 @@
-//! The adapters over references, which copy or clone the referenced items.
+//! The adapter over references that clones the referenced items.
+ghost use Rattle.ne_iter.specs.Cloned.{cloned_source};
 
-use super::NonEmptyIterator;
+use super::{NonEmptyIterator, Source};
 use std::alloc::AllocError;
-use std::iter;
 
 /// A source of clones of the items that a source references: see [`NonEmptyIterator::cloned`].
 #[derive(Drop)]
@@ -11,7 +11,7 @@ pub struct Cloned<I> {
 }
 
 impl<'a, T: Clone + 'a, I: IntoIterator<Item = &'a T>> IntoIterator for Cloned<I> {
-    ghost use Rattle.ne_iter.specs.Parts.{cloned_source, cloned_iterator};
+    ghost use Rattle.ne_iter.specs.Cloned.{cloned_source, cloned_iterator};
 
     type Item = Result<T, AllocError>;
 
@@ -27,9 +27,7 @@ impl<'a, T: Clone + 'a, I: IntoIterator<Item = &'a T>> IntoIterator for Cloned<I
 }
 
 impl<'a, T: Clone + 'a, I: NonEmptyIterator<Item = &'a T>> NonEmptyIterator for Cloned<I> {
-    ghost use Rattle.ne_iter.specs.Parts.{cloned_source, cloned_iterator};
-    ghost use Rattle.ne_iter.specs.Clones.{TriesClone};
-    ghost use Rattle.ne_iter.specs.SourceLaws.{none_cloned};
+    ghost use Rattle.ne_iter.specs.Cloned.{cloned_source, cloned_iterator, TriesClone, none_cloned};
 
     ghost not_empty = { λ s it made t ended. I.not_empty (cloned_source s) (cloned_iterator it) made
         (cloned_iterator t) (none_cloned I.IntoIter.next_gives _
@@ -47,8 +45,7 @@ pub struct ClonedIter<I> {
 }
 
 impl<'a, T: Clone + 'a, I: Iterator<Item = &'a T>> Iterator for ClonedIter<I> {
-    ghost use Rattle.ne_iter.specs.Parts.{cloned_iterator};
-    ghost use Rattle.ne_iter.specs.Clones.{ClonesNext, TriesClone};
+    ghost use Rattle.ne_iter.specs.Cloned.{cloned_iterator, ClonesNext, TriesClone};
 
     type Item = Result<T, AllocError>;
 
@@ -71,34 +68,8 @@ impl<'a, T: Clone + 'a, I: Iterator<Item = &'a T>> Iterator for ClonedIter<I> {
     }
 }
 
-/// A source of copies of the items that a source references: see [`NonEmptyIterator::copied`].
-#[derive(Drop)]
-pub struct Copied<I> {
-    pub(super) iter: I,
-}
-
-impl<'a, T: Copy + 'a, I: IntoIterator<Item = &'a T>> IntoIterator for Copied<I> {
-    ghost use Rattle.std.specs.Iterator.Adapters.{copied_source as std_copied_source};
-    ghost use Rattle.ne_iter.specs.Parts.{copied_source};
-
-    type Item = T;
-
-    type IntoIter = iter::Copied<I::IntoIter>;
-
-    ghost into_iter_gives = { λ s it. I.into_iter_gives (copied_source s) (std_copied_source it) };
-
-    fn into_iter(self) -> iter::Copied<I::IntoIter> {
-        self.iter.into_iter().copied()
-    }
-}
-
-impl<'a, T: Copy + 'a, I: NonEmptyIterator<Item = &'a T>> NonEmptyIterator for Copied<I> {
-    ghost use Rattle.std.specs.Iterator.Adapters.{copied_source as std_copied_source};
-    ghost use Rattle.ne_iter.specs.Parts.{copied_source};
-    ghost use Rattle.ne_iter.specs.SourceLaws.{none_copied};
-
-    ghost not_empty = { λ s it made t ended.
-        I.not_empty (copied_source s) (std_copied_source it) made (std_copied_source t)
-        (none_copied I.IntoIter.next_gives (std_copied_source it) (std_copied_source t)
-        ended.0 ended.1 ended.2) };
-}
+/// `cloned` ends if its source does.
+pub fn cloned_ends<'a, T: Clone + 'a, S: IntoIterator<Item = &'a T>>()
+    ensures { (cloned : _) → ⟦<S as Source>⟧.ends (cloned_source cloned)
+        → ⟦<Cloned<S> as Source>⟧.ends cloned }
+{}

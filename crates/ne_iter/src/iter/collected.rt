@@ -8,7 +8,7 @@ ghost use Rattle.ne_iter.specs.Collected.{ResultsMake};
 
 mod texts;
 
-use super::{IntoNonEmptyIterator, NonEmptyIterator, SourceWords};
+use super::{IntoNonEmptyIterator, NonEmptyIterator, Source};
 use ne_vec::NEVec;
 use std::alloc::{AllocError, Global};
 
@@ -38,7 +38,7 @@ pub trait FromNonEmptyIterator<T>: Sized {
             → IsFiniteIterable I.IntoNEIter.into_iter_gives I.IntoNEIter.IntoIter.can_next
             I.IntoNEIter.IntoIter.remaining source }
         ensures { IfOk result (λ c. (xs : List T)
-            × ⟦<I as SourceWords>⟧.reads (is_complete c) iter xs × collected xs c) };
+            × ⟦<I as Source>⟧.reads (is_complete c) iter xs × collected xs c) };
 }
 
 /// Makes nothing, but takes every item.

@@ -1,8 +1,9 @@
 //! The adapter that divides the items of a source into runs of equal keys.
 ghost use Rattle.std.specs.Iterator.{CallableOnAllAt};
 ghost use Rattle.ne_iter.specs.GroupingRuns.{CanRead, GivesRun, GroupsRuns, runs_left};
+ghost use Rattle.ne_iter.specs.GroupBy.{group_by_source, group_by_callee};
 
-use super::NonEmptyIterator;
+use super::{NonEmptyIterator, Source};
 use crate::laws::runs_by_a_function;
 use ne_vec::{NEVec, laws};
 use std::alloc::{AllocError, Global};
@@ -24,7 +25,7 @@ where
 {
     ghost use Rattle.std.specs.Prelude.{◌≡◌};
     ghost use Rattle.ne_iter.specs.Grouping.{Unread};
-    ghost use Rattle.ne_iter.specs.Parts.{group_by_source, group_by_callee};
+    ghost use Rattle.ne_iter.specs.GroupBy.{group_by_source, group_by_callee};
 
     type Item = Result<NEVec<I::Item>, AllocError>;
 
@@ -50,7 +51,7 @@ impl<I: NonEmptyIterator, K: PartialEq + Drop, F: FnMut(&I::Item) -> K + Drop> N
 where
     I::Item: Drop,
 {
-    ghost use Rattle.ne_iter.specs.Parts.{group_by_source};
+    ghost use Rattle.ne_iter.specs.GroupBy.{group_by_source};
     ghost use Rattle.ne_iter.specs.GroupingLaws.{HasFirst-grouped};
 
     ghost not_empty = { λ s g made. HasFirst-grouped I.IntoIter.next_gives F.FnMut K.eq g made.2
@@ -130,3 +131,13 @@ where
         Some(Ok(run))
     }
 }
+
+/// `group_by` ends if its source does and its closure can be called with each item that comes.
+pub fn group_by_ends<K: PartialEq + Drop, S: IntoIterator, F: FnMut(&S::Item) -> K + Drop>()
+where
+    S::Item: Drop,
+    ensures { (grouped : _) → ⟦<S as Source>⟧.ends (group_by_source grouped)
+        → ((it : S.IntoIter) → S.into_iter_gives (group_by_source grouped) it
+        → CallableOnAllAt S.IntoIter.next_gives F.FnMut it (group_by_callee grouped))
+        → ⟦<NEGroupBy<S, F> as Source>⟧.ends grouped }
+{}

@@ -20,15 +20,9 @@ where
     I::Item: Clone + Drop,
 {
     ghost use Rattle.std.specs.Prelude.{◌≡◌, Some, false};
-    ghost use Rattle.ne_iter.specs.Parts.{intersperse_first, intersperse_rest};
-    ghost use Rattle.ne_iter.specs.Parts.{intersperse_separator};
-    ghost use Rattle.ne_iter.specs.Interspersed.{
-      drawn_from,
-      clones_of,
-      in_hand,
-      is_over,
-      IntersperseRuns,
-    };
+    ghost use Rattle.ne_iter.specs.Intersperse.{intersperse_first, intersperse_rest};
+    ghost use Rattle.ne_iter.specs.Intersperse.{intersperse_separator, drawn_from, clones_of};
+    ghost use Rattle.ne_iter.specs.Intersperse.{in_hand, is_over, IntersperseRuns};
 
     type Item = Result<I::Item, AllocError>;
 
@@ -55,9 +49,8 @@ impl<I: Iterator> NonEmptyIterator for Intersperse<I>
 where
     I::Item: Clone + Drop,
 {
-    ghost use Rattle.ne_iter.specs.Parts.{intersperse_first};
-    ghost use Rattle.ne_iter.specs.Clones.{TriesClone};
-    ghost use Rattle.ne_iter.specs.FirstItemLaws.{HasFirst-interspersed};
+    ghost use Rattle.ne_iter.specs.Intersperse.{intersperse_first, HasFirst-interspersed};
+    ghost use Rattle.ne_iter.specs.Cloned.{TriesClone};
 
     ghost not_empty = { λ s it made. HasFirst-interspersed I.next_gives
         (TriesClone I.Item.is_clone I.Item.is_infallible) it (intersperse_first s) made.0 made.3 };
@@ -88,9 +81,9 @@ where
     I::Item: Clone + Drop,
 {
     ghost use Rattle.std.specs.Prelude.{◌≡◌, false};
-    ghost use Rattle.ne_iter.specs.Clones.{TriesClone};
-    ghost use Rattle.ne_iter.specs.Interspersed.{drawn_from, is_over, interspersed_left};
-    ghost use Rattle.ne_iter.specs.Interspersed.{InterspersesNext};
+    ghost use Rattle.ne_iter.specs.Cloned.{TriesClone};
+    ghost use Rattle.ne_iter.specs.Intersperse.{drawn_from, is_over, interspersed_left};
+    ghost use Rattle.ne_iter.specs.Intersperse.{InterspersesNext};
 
     type Item = Result<I::Item, AllocError>;
 

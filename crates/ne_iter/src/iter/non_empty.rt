@@ -1,68 +1,68 @@
 //! [`NonEmptyIterator`]: a source that gives at least one item, with its methods.
-ghost use Rattle.std.specs.Prelude.{◌≡◌, ℕ, ◌+◌, ◌≤◌, ◌++◌, Bool, true, false, List, drop, length};
-ghost use Rattle.std.specs.Prelude.{map, slice_get, take, Option, Some, Ok, IfOk, OnOk};
-ghost use Rattle.std.specs.Prelude.{IsPermutation, IsTrue, MatchOption};
-ghost use Rattle.std.specs.Bool.{MatchBool};
-ghost use Rattle.std.specs.List.{All, Contains, enumerate_from, prefix_len, list_all, list_any};
+ghost use Rattle.std.specs.Prelude.{◌≡◌, ◌+◌, Bool, true, false, List, drop, length, map};
+ghost use Rattle.std.specs.Prelude.{slice_get, take, Option, Some, Ok, IfOk, IsPermutation, ◌≤◌};
+ghost use Rattle.std.specs.Prelude.{IsTrue, MatchOption};
+ghost use Rattle.std.specs.Iterator.Runs.{EachRunFrom, SomeRun, IsFilterRun, IsSkipRun};
+ghost use Rattle.std.specs.Iterator.Runs.{IndexesMappedItems, AnyItem, CountFits, WholeRun};
+ghost use Rattle.std.specs.Iterator.Runs.{IsReduceRun, AllItemsGive, AnyItemGives, NoItemPasses};
+ghost use Rattle.std.specs.Iterator.Runs.{EndsAtFirstPassing, IsFilterMapRun};
+ghost use Rattle.std.specs.List.{All, Contains, prefix_len, list_all, list_any};
 ghost use Rattle.std.specs.List.{filter as list_filter, filter_map as list_filter_map};
 ghost use Rattle.std.specs.List.{find as list_find, fold as list_fold, reduce as list_reduce};
 ghost use Rattle.std.specs.List.{scan as list_scan, take_while as list_take_while};
 ghost use Rattle.std.specs.Option.{option_map};
 ghost use Rattle.std.specs.Iterator.{IsFinite, ActsAs, ActsAsAt, ActsAsOnTwo, AfterFirst};
 ghost use Rattle.std.specs.Iterator.{CallableInFold, CallableWhile, CallableWhileAt};
-ghost use Rattle.std.specs.Iterator.{CallableOnAllAt};
-ghost use Rattle.std.specs.Iterator.Runs.{CountFits, EachRunFrom, SomeRun, WholeRun, AnyItem};
-ghost use Rattle.std.specs.Iterator.Runs.{AllItems, AllItemsGive, AnyItemGives, NoItemPasses};
-ghost use Rattle.std.specs.Iterator.Runs.{EndsAtFirstPassing, IsReduceRun, IndexesMappedItems};
-ghost use Rattle.std.specs.Iterator.Runs.{IsFilterRun, IsFilterMapRun, IsSkipRun, IsSkipWhileRun};
-ghost use Rattle.std.specs.Iterator.Runs.{IsTakeWhileRun};
+ghost use Rattle.std.specs.Iterator.{CallableOnAllAt, ChecksAll, ChecksAny, FindsItem, FoldsItems};
+ghost use Rattle.std.specs.Iterator.{ReducesItems, SkipsThenYields};
 ghost use Rattle.std.specs.Iterator.Adapters.{enumerate_steps, filter_steps, filter_map_steps};
-ghost use Rattle.std.specs.Iterator.Adapters.{skip_steps};
-ghost use Rattle.std.specs.Iterator.Adapters.{skip_while_steps, take_while_steps, filter_source};
-ghost use Rattle.std.specs.Iterator.Adapters.{filter_callee, filter_map_source, filter_map_callee};
-ghost use Rattle.std.specs.Iterator.Adapters.{skip_source, skip_count, skip_while_source};
-ghost use Rattle.std.specs.Iterator.Adapters.{skip_while_callee, skip_while_done_skipping};
-ghost use Rattle.std.specs.Iterator.Adapters.{take_while_source, take_while_callee};
-ghost use Rattle.std.specs.Iterator.Adapters.{take_while_done};
+ghost use Rattle.std.specs.Iterator.Adapters.{skip_steps, skip_while_steps, take_while_steps};
+ghost use Rattle.std.specs.Iterator.Adapters.{filter_source, filter_callee, filter_map_source};
+ghost use Rattle.std.specs.Iterator.Adapters.{filter_map_callee, skip_source, skip_count};
+ghost use Rattle.std.specs.Iterator.Adapters.{skip_while_source, skip_while_callee};
+ghost use Rattle.std.specs.Iterator.Adapters.{skip_while_done_skipping, take_while_source};
+ghost use Rattle.std.specs.Iterator.Adapters.{take_while_callee, take_while_done};
 ghost use Rattle.std.specs.Int.NonZero.{non_zero_usize_get};
 ghost use Rattle.std.specs.Global.{Global};
 ghost use Rattle.std.specs.declared.alloc.AllocError.{AllocError};
 ghost use Rattle.std.specs.List.Sorted.{IsSortedByKeyClosure, IsStableByKeyClosure};
-ghost use Rattle.ne_iter.specs.Sources.{IsNonEmpty, DrawsFirst};
-ghost use Rattle.ne_vec.specs.Fronts.{Shows, GivesFronts, mark, shown_mark};
-ghost use Rattle.ne_vec.specs.WalkFronts.{WalkGives};
-ghost use Rattle.ne_iter.specs.SourceRuns.{RunsSome, RunsWhole, BeginsRuns};
-ghost use Rattle.ne_iter.specs.SourceLists.{BecomesList, BecomesShown, BeginsList, ChainsLists};
-ghost use Rattle.ne_iter.specs.SourceLists.{ChainsShown, CountsAs, EachList, EachShown};
-ghost use Rattle.ne_iter.specs.SourceLists.{FlattensLists, MapsList, MapsShown, MeetsList};
-ghost use Rattle.ne_iter.specs.SourceLists.{MeetsShown, ShowsItems, SpreadsLists, ZipsKnown};
-ghost use Rattle.ne_iter.specs.Interspersed.{interspersed, JoinsLists, OnlyItsValues};
-ghost use Rattle.ne_iter.specs.Calls.{ActsAsWithState, ShownEach};
-ghost use Rattle.ne_iter.specs.Clones.{TriesClone};
-ghost use Rattle.ne_iter.specs.Views.{View, in_pairs, itself, numbered};
-ghost use Rattle.ne_iter.specs.Collected.{FrontMakes, values_or_first_err};
+ghost use Rattle.std.specs.Bool.{MatchBool};
+ghost use Rattle.ne_vec.specs.Lists.{YieldsPrefixes, EachList, EachView, Naming, View, itself};
+ghost use Rattle.ne_vec.specs.Lists.{referenced};
+ghost use Rattle.ne_vec.specs.Iterators.{ListsItemsByValue};
+ghost use Rattle.ne_iter.specs.Consumers.{NoKeyBeats, IsFirstGreatest, IsFirstLeast, PicksGreatest};
+ghost use Rattle.ne_iter.specs.Consumers.{PicksLeast, CallableOnTwo, less_by, PicksGreatestKey};
+ghost use Rattle.ne_iter.specs.Consumers.{PicksLeastKey, HasGreatestKey, HasLeastKey, IsBestOfRun};
+ghost use Rattle.ne_iter.specs.Sources.{Becomes, IsNonEmpty, DrawsFirst, EachReading, RunsSome};
+ghost use Rattle.ne_iter.specs.Sources.{RunsWhole, BeginsRuns};
+ghost use Rattle.ne_iter.specs.SourceLists.{BecomesList, BeginsList, EachKept, MeetsList};
+ghost use Rattle.ne_iter.specs.SourceLists.{StdYields};
+ghost use Rattle.ne_iter.specs.Chain.{ChainsLists, chain_first, chain_second, IsChained};
+ghost use Rattle.ne_iter.specs.Flatten.{FlattensLists, flatten_source, IsFlattened};
+ghost use Rattle.ne_iter.specs.Enumerate.{NumbersLists, enumerate_source, IsEnumerated};
+ghost use Rattle.ne_iter.specs.FlatMap.{SpreadsLists, flat_map_source, flat_map_callee};
+ghost use Rattle.ne_iter.specs.FlatMap.{IsFlatMapped};
+ghost use Rattle.ne_iter.specs.Zip.{ZipsLists, zip_first, zip_second, IsZipped};
+ghost use Rattle.ne_iter.specs.Intersperse.{interspersed, JoinsLists, OnlyItsValues};
+ghost use Rattle.ne_iter.specs.Intersperse.{intersperse_first, intersperse_rest};
+ghost use Rattle.ne_iter.specs.Intersperse.{intersperse_separator, IsInterspersed};
+ghost use Rattle.ne_iter.specs.Calls.{ActsAsWithState};
+ghost use Rattle.ne_iter.specs.Cloned.{TriesClone, cloned_source, IsCloned};
+ghost use Rattle.ne_iter.specs.Collected.{PrefixMakes, values_or_first_err};
 ghost use Rattle.ne_iter.specs.KeyOrder.{SortsByKey};
-ghost use Rattle.ne_iter.specs.Parts.{map_source, map_callee, enumerate_source, take_source};
-ghost use Rattle.ne_iter.specs.Parts.{take_count, chain_first, chain_second, zip_first, zip_second};
-ghost use Rattle.ne_iter.specs.Parts.{cloned_source, copied_source, flat_map_source};
-ghost use Rattle.ne_iter.specs.Parts.{flat_map_callee, flatten_source, scan_source, scan_init};
-ghost use Rattle.ne_iter.specs.Parts.{scan_callee, group_by_source, group_by_callee};
-ghost use Rattle.ne_iter.specs.Parts.{intersperse_first, intersperse_rest, intersperse_separator};
-ghost use Rattle.ne_iter.specs.Gives.{MapGives, EnumerateGives, TakeGives, ChainGives, ZipGives};
-ghost use Rattle.ne_iter.specs.Gives.{FlatMapGives, FlattenGives, ScanGives, GroupByGives};
-ghost use Rattle.ne_iter.specs.Gives.{GroupByStops, CopiedGives, ClonedGives, FilterGives};
-ghost use Rattle.ne_iter.specs.Gives.{FilterMapGives, SkipGives, SkipWhileGives, TakeWhileGives};
-ghost use Rattle.ne_iter.specs.Gives.{IntersperseGives};
-ghost use Rattle.ne_iter.specs.Peeks.{peekable_first, peekable_rest, PeekableGives};
-ghost use Rattle.ne_iter.specs.Consumers.{TellsAll, TellsAny, FindsFirst, GivesNth, FoldsAll};
-ghost use Rattle.ne_iter.specs.Consumers.{ReducesAll, IsFirstGreatest, IsFirstLeast, PicksGreatest};
-ghost use Rattle.ne_iter.specs.Consumers.{PicksLeast, CallableOnTwo, less_by};
-ghost use Rattle.ne_iter.specs.Consumers.{PicksGreatestKey, PicksLeastKey, HasGreatestKey};
-ghost use Rattle.ne_iter.specs.Consumers.{HasLeastKey, NoKeyBeats};
+ghost use Rattle.ne_iter.specs.Map.{map_source, map_callee, IsMapped};
+ghost use Rattle.ne_iter.specs.Take.{take_source, take_count, IsTaken};
+ghost use Rattle.ne_iter.specs.Copied.{copied_source, IsCopied};
+ghost use Rattle.ne_iter.specs.Scan.{scan_source, scan_init, scan_callee, IsScanned};
+ghost use Rattle.ne_iter.specs.GroupBy.{group_by_source, group_by_callee, GroupByGives};
+ghost use Rattle.ne_iter.specs.Filter.{IsFiltered, IsFilterMapped};
+ghost use Rattle.ne_iter.specs.Skip.{IsSkipped, IsSkippedWhile};
+ghost use Rattle.ne_iter.specs.TakeWhile.{IsTakenWhile};
+ghost use Rattle.ne_iter.specs.Peekable.{peekable_first, peekable_rest, PeekableGives};
 
 use super::best::{best, best_by_key};
 use super::collected::FromNonEmptyIterator;
-use super::sources::{IntoNonEmptyIterator, SourceWords};
+use super::sources::{IntoNonEmptyIterator, Source};
 use super::{
     Chain, Cloned, Copied, Enumerate, FlatMap, Flatten, GroupBy, Intersperse, Map, NEGroupBy,
     Peekable, Scan, Take, Zip,
@@ -80,11 +80,11 @@ use std::num::NonZeroUsize;
 /// The law of this trait is `not_empty`: the iterator made from any value first returns an item. An
 /// implementation proves this law and needs nothing else; all methods but `next` are final.
 ///
-/// In contracts, `item_view` says what an item shows: a reference shows the item that it points to,
-/// and any other item shows itself. A source of references says so by the line
-/// `ghost item_view = { referenced };`, and the call that makes it says which list its items show
-/// (`Shown`), as `nonempty_iter` of a vector does. What is proved of a chain over it is then about
-/// the items that its references point to. The Rust crate has nothing of the kind.
+/// In contracts, `item_view` is the view through which chains are proved: a reference is seen as
+/// the item that it points to, and any other item as itself. A source of references has the line
+/// `ghost item_view = { referenced };`, and the call that makes it says which list its references
+/// point to (`Listed`), as `nonempty_iter` of a vector does. The Rust crate has nothing of the
+/// kind.
 ///
 /// ```
 /// let halves = [3u32, 1, 2].into_nonempty_iter().map(|x| x / 2);
@@ -106,10 +106,10 @@ pub trait NonEmptyIterator: IntoIterator {
     fn next(self) -> (Self::Item, Self::IntoIter)
     where
         Self: Sized,
-        requires { ⟦<Self as SourceWords>⟧.starts self }
+        requires { ⟦<Self as Source>⟧.starts self }
         ensures first { DrawsFirst Self.into_iter_gives Self.IntoIter.next_gives
             Self.IntoIter.can_next Self.IntoIter.remaining self result.0 result.1 }
-        ensures lists { BeginsList (⟦<Self as SourceWords>⟧.lists) Self.IntoIter.next_gives
+        ensures lists { BeginsList (⟦<Self as Source>⟧.lists itself) Self.IntoIter.next_gives
             self result.0 result.1 }
     {
         let mut it = self.into_iter();
@@ -130,17 +130,14 @@ pub trait NonEmptyIterator: IntoIterator {
     where
         Self: Sized,
         Self::Item: Drop,
-        requires { ⟦<Self as SourceWords>⟧.starts self }
+        requires { ⟦<Self as Source>⟧.starts self }
         ensures drawn { DrawsFirst Self.into_iter_gives Self.IntoIter.next_gives
             Self.IntoIter.can_next Self.IntoIter.remaining self
             (peekable_first result) (peekable_rest result) }
-        ensures gives { PeekableGives (⟦<Self as SourceWords>⟧.reads)
-            (⟦<Peekable<Self::IntoIter> as SourceWords>⟧.reads) self result }
-        ensures lists { EachList (⟦<Self as SourceWords>⟧.lists) self (λ xs.
-            ⟦<Peekable<Self::IntoIter> as SourceWords>⟧.gives_items result xs) }
-        ensures runs { (it : Self.IntoIter) × Self.into_iter_gives self it
-            × BeginsRuns Self.IntoIter.next_gives (peekable_first result)
-            (peekable_rest result) it }
+        ensures gives { PeekableGives (⟦<Self as Source>⟧.reads)
+            (⟦<Peekable<Self::IntoIter> as Source>⟧.reads) self result }
+        ensures lists { EachList (⟦<Self as Source>⟧.lists itself) self (λ xs.
+            ⟦<Peekable<Self::IntoIter> as Source>⟧.yields_items result xs) }
     {
         let (first, rest) = self.next();
         Peekable { first, rest }
@@ -155,16 +152,14 @@ pub trait NonEmptyIterator: IntoIterator {
     final fn all<F: FnMut(Self::Item) -> bool>(self, f: F) -> bool
     where
         Self: Sized,
-        requires ends { ⟦<Self as SourceWords>⟧.ends self }
+        requires ends { ⟦<Self as Source>⟧.ends self }
         requires callable { (it : Self.IntoIter) → Self.into_iter_gives self it
             → CallableWhile Self.IntoIter.next_gives F.FnMut true it f }
-        ensures gives { TellsAll (⟦<Self as SourceWords>⟧.reads) F.FnMut self f result }
-        ensures lists { EachList (⟦<Self as SourceWords>⟧.lists) self
-            (λ xs. (test : Self.Item → Bool)
-            → ActsAs F.FnMut f test → result ≡ list_all test xs) }
-        ensures shown { EachShown item_view (⟦<Self as SourceWords>⟧.shows) self (λ xs.
-            (test : item_view.Shown → Bool)
-            → ActsAs F.FnMut f (λ x. test (item_view.of x))
+        ensures gives { Becomes Self.into_iter_gives self (λ it. (t : Self.IntoIter)
+            × ChecksAll Self.IntoIter.next_gives F.FnMut it f result t) }
+        ensures lists { EachView item_view (⟦<Self as Source>⟧.lists) self (λ view xs.
+            (test : view.Target → Bool)
+            → ActsAs F.FnMut f (λ x. test (view.of x))
             → result ≡ list_all test xs) }
         ensures runs { RunsSome Self.into_iter_gives Self.IntoIter.next_gives self (λ p.
             MatchBool result (IsTrue p.whole × AllItemsGive p F.FnMut f true)
@@ -181,16 +176,14 @@ pub trait NonEmptyIterator: IntoIterator {
     final fn any<F: FnMut(Self::Item) -> bool>(self, f: F) -> bool
     where
         Self: Sized,
-        requires ends { ⟦<Self as SourceWords>⟧.ends self }
+        requires ends { ⟦<Self as Source>⟧.ends self }
         requires callable { (it : Self.IntoIter) → Self.into_iter_gives self it
             → CallableWhile Self.IntoIter.next_gives F.FnMut false it f }
-        ensures gives { TellsAny (⟦<Self as SourceWords>⟧.reads) F.FnMut self f result }
-        ensures lists { EachList (⟦<Self as SourceWords>⟧.lists) self
-            (λ xs. (test : Self.Item → Bool)
-            → ActsAs F.FnMut f test → result ≡ list_any test xs) }
-        ensures shown { EachShown item_view (⟦<Self as SourceWords>⟧.shows) self (λ xs.
-            (test : item_view.Shown → Bool)
-            → ActsAs F.FnMut f (λ x. test (item_view.of x))
+        ensures gives { Becomes Self.into_iter_gives self (λ it. (t : Self.IntoIter)
+            × ChecksAny Self.IntoIter.next_gives F.FnMut it f result t) }
+        ensures lists { EachView item_view (⟦<Self as Source>⟧.lists) self (λ view xs.
+            (test : view.Target → Bool)
+            → ActsAs F.FnMut f (λ x. test (view.of x))
             → result ≡ list_any test xs) }
         ensures runs { RunsSome Self.into_iter_gives Self.IntoIter.next_gives self (λ p.
             MatchBool result (AnyItemGives p F.FnMut f true)
@@ -212,15 +205,12 @@ pub trait NonEmptyIterator: IntoIterator {
     where
         Self: Sized,
         ensures holds { (chain_first result ≡ self) × (chain_second result ≡ other) }
-        ensures gives { ChainGives (⟦<Self as SourceWords>⟧.reads) (⟦<U as SourceWords>⟧.reads)
-            (⟦<Chain<Self, U> as SourceWords>⟧.reads) self other result }
-        ensures lists { ChainsLists (⟦<Self as SourceWords>⟧.lists) (⟦<U as SourceWords>⟧.lists)
-            (MeetsList U.into_iter_gives U.IntoIter.next_gives)
-            (⟦<Chain<Self, U> as SourceWords>⟧.gives_items) self other result }
-        ensures shown { ChainsShown item_view (⟦<Self as SourceWords>⟧.shows)
-            (⟦<U as SourceWords>⟧.shows)
-            (MeetsShown U.into_iter_gives U.IntoIter.next_gives item_view)
-            (⟦<Chain<Self, U> as SourceWords>⟧.gives_shown item_view) self other result }
+        ensures gives { EachReading (⟦<Chain<Self, U> as Source>⟧.reads) result
+            (IsChained (⟦<Self as Source>⟧.reads) (⟦<U as Source>⟧.reads) self other) }
+        ensures lists { EachView item_view (⟦<Self as Source>⟧.lists) self (λ view xs.
+            ChainsLists (⟦<U as Source>⟧.lists view)
+            (MeetsList U.into_iter_gives U.IntoIter.next_gives view) other xs
+            (⟦<Chain<Self, U> as Source>⟧.yields_through view result)) }
     {
         Chain { a: self, b: other }
     }
@@ -239,15 +229,12 @@ pub trait NonEmptyIterator: IntoIterator {
     where
         Self: Sized + IntoIterator<Item = &'a T>,
         ensures holds { cloned_source result ≡ self }
-        ensures gives { ClonedGives (⟦<Self as SourceWords>⟧.reads)
-            (TriesClone T.is_clone T.is_infallible) (⟦<Cloned<Self> as SourceWords>⟧.reads) self
-            result }
-        ensures lists { (xs : List T)
-            → Shows Self.into_iter_gives Self.IntoIter.next_gives (λ y. y.now) self xs
-            → (mark self xs ≡ 0) × (((x : T) → T.is_infallible x)
-            → ((x y : T) → T.is_clone x y → y ≡ x)
+        ensures gives { EachReading (⟦<Cloned<Self> as Source>⟧.reads) result
+            (IsCloned (⟦<Self as Source>⟧.reads) (TriesClone T.is_clone T.is_infallible) self) }
+        ensures lists { EachList (⟦<Self as Source>⟧.lists referenced) self (λ xs.
+            ((x : T) → T.is_infallible x) → ((x y : T) → T.is_clone x y → y ≡ x)
             → (values_or_first_err {E = AllocError} (map Ok xs) ≡ Ok xs)
-            × ⟦<Cloned<Self> as SourceWords>⟧.gives_items result (map Ok xs)) }
+            × ⟦<Cloned<Self> as Source>⟧.yields_items result (map Ok xs)) }
     {
         Cloned { iter: self }
     }
@@ -266,11 +253,12 @@ pub trait NonEmptyIterator: IntoIterator {
     ) -> Result<B, AllocError>
     where
         Self: Sized,
-        requires { ⟦<Self as SourceWords>⟧.ends self }
+        requires { ⟦<Self as Source>⟧.ends self }
         ensures gives { IfOk result (λ c. (xs : List Self.Item)
-            × ⟦<Self as SourceWords>⟧.reads (B.is_complete c) self xs × B.collected xs c) }
-        ensures lists { IfOk result (λ c. EachList (⟦<Self as SourceWords>⟧.lists) self (λ xs.
-            FrontMakes B.collected B.is_complete xs c)) }
+            × ⟦<Self as Source>⟧.reads (B.is_complete c) self xs × B.collected xs c) }
+        ensures lists { IfOk result (λ c. EachList (⟦<Self as Source>⟧.lists itself) self
+            (λ xs.
+            PrefixMakes B.collected B.is_complete xs c)) }
         ensures runs { IfOk result (λ c.
             RunsSome Self.into_iter_gives Self.IntoIter.next_gives self (λ p.
             (p.whole ≡ B.is_complete c) × B.collected p.items c)) }
@@ -291,11 +279,10 @@ pub trait NonEmptyIterator: IntoIterator {
     where
         Self: Sized + IntoIterator<Item = &'a T>,
         ensures holds { copied_source result ≡ self }
-        ensures gives { CopiedGives (⟦<Self as SourceWords>⟧.reads)
-            (⟦<Copied<Self> as SourceWords>⟧.reads) self result }
-        ensures lists { (xs : List T)
-            → Shows Self.into_iter_gives Self.IntoIter.next_gives (λ y. y.now) self xs
-            → (mark self xs ≡ 0) × ⟦<Copied<Self> as SourceWords>⟧.gives_items result xs }
+        ensures gives { EachReading (⟦<Copied<Self> as Source>⟧.reads) result
+            (IsCopied (⟦<Self as Source>⟧.reads) self) }
+        ensures lists { EachList (⟦<Self as Source>⟧.lists referenced) self (λ xs.
+            ⟦<Copied<Self> as Source>⟧.yields_items result xs) }
     {
         Copied { iter: self }
     }
@@ -312,11 +299,9 @@ pub trait NonEmptyIterator: IntoIterator {
         requires { (it : Self.IntoIter) → Self.into_iter_gives self it → Self.IntoIter.can_next it
             × IsFinite (Self.IntoIter.remaining it)
             × CountFits Self.IntoIter.next_gives Self.IntoIter.remaining 0 it }
-        ensures gives { (xs : List Self.Item) × ⟦<Self as SourceWords>⟧.reads true self xs
+        ensures gives { (xs : List Self.Item) × ⟦<Self as Source>⟧.reads true self xs
             × (non_zero_usize_get result ≡ length xs) }
-        ensures lists { EachList (⟦<Self as SourceWords>⟧.lists) self (λ xs.
-            non_zero_usize_get result ≡ length xs) }
-        ensures shown { EachShown item_view (⟦<Self as SourceWords>⟧.shows) self (λ xs.
+        ensures lists { EachView item_view (⟦<Self as Source>⟧.lists) self (λ view xs.
             non_zero_usize_get result ≡ length xs) }
         ensures runs { RunsWhole Self.into_iter_gives Self.IntoIter.next_gives self (λ p.
             non_zero_usize_get result ≡ p.len) }
@@ -336,17 +321,13 @@ pub trait NonEmptyIterator: IntoIterator {
     where
         Self: Sized,
         ensures holds { enumerate_source result ≡ self }
-        ensures gives { EnumerateGives (⟦<Self as SourceWords>⟧.reads)
-            (⟦<Enumerate<Self> as SourceWords>⟧.reads) self result }
-        ensures lists { EachList (⟦<Self as SourceWords>⟧.lists) self (λ xs.
-            ⟦<Enumerate<Self> as SourceWords>⟧.gives_items result (enumerate_from 0 xs)
-            × CountsAs (⟦<Enumerate<Self> as IntoIterator>⟧.into_iter_gives)
-            (enumerate_steps Self.IntoIter.next_gives) result xs) }
-        ensures shown { EachShown item_view (⟦<Self as SourceWords>⟧.shows) self (λ xs.
-            ⟦<Enumerate<Self> as SourceWords>⟧.gives_shown (numbered item_view) result
-            (enumerate_from 0 xs)
-            × CountsAs (⟦<Enumerate<Self> as IntoIterator>⟧.into_iter_gives)
-            (enumerate_steps Self.IntoIter.next_gives) result xs) }
+        ensures gives { EachReading (⟦<Enumerate<Self> as Source>⟧.reads) result
+            (IsEnumerated (⟦<Self as Source>⟧.reads) self) }
+        ensures lists { NumbersLists item_view (⟦<Self as Source>⟧.lists)
+            (⟦<Enumerate<Self> as Source>⟧.yields_items)
+            (⟦<Enumerate<Self> as Source>⟧.yields_through)
+            (⟦<Enumerate<Self> as IntoIterator>⟧.into_iter_gives)
+            (enumerate_steps Self.IntoIter.next_gives) self result }
     {
         Enumerate { iter: self }
     }
@@ -367,23 +348,15 @@ pub trait NonEmptyIterator: IntoIterator {
         Self::Item: Drop,
         ensures holds { Self.into_iter_gives self (filter_source result)
             × (filter_callee result ≡ predicate) }
-        ensures gives { FilterGives (⟦<Self as SourceWords>⟧.reads)
-            (⟦<iter::Filter<Self::IntoIter, P> as SourceWords>⟧.reads) P.FnMut self predicate
-            result }
-        ensures lists { EachList (⟦<Self as SourceWords>⟧.lists) self
-            (λ xs. (test : Self.Item → Bool)
-            → ActsAsAt P.FnMut predicate test → (list_filter test xs ≡ list_filter test xs)
-            × GivesFronts (filter_steps Self.IntoIter.next_gives P.FnMut)
-            (list_filter test xs) result) }
-        ensures shown { EachShown item_view (⟦<Self as SourceWords>⟧.shows) self (λ xs.
-            (test : item_view.Shown → Bool)
-            → ActsAsAt P.FnMut predicate (λ x. test (item_view.of x))
-            → (list_filter test xs ≡ list_filter test xs)
-            × ShowsItems (filter_steps Self.IntoIter.next_gives P.FnMut) item_view
-            (list_filter test xs) result) }
-        ensures runs { (it : Self.IntoIter) × Self.into_iter_gives self it
-            × EachRunFrom (filter_steps Self.IntoIter.next_gives P.FnMut) result (λ u.
-            SomeRun Self.IntoIter.next_gives it (λ q. IsFilterRun u q P.FnMut predicate)) }
+        ensures gives { EachReading (⟦<iter::Filter<Self::IntoIter, P> as Source>⟧.reads) result
+            (IsFiltered (⟦<Self as Source>⟧.reads) P.FnMut self predicate) }
+        ensures lists { EachKept item_view (⟦<Self as Source>⟧.lists) self
+            (filter_steps Self.IntoIter.next_gives P.FnMut) result (λ view xs gives.
+            (test : view.Target → Bool) → ActsAsAt P.FnMut predicate (λ x. test (view.of x))
+            → Naming (list_filter test xs) gives) }
+        ensures runs { Becomes Self.into_iter_gives self (λ it.
+            EachRunFrom (filter_steps Self.IntoIter.next_gives P.FnMut) result (λ u.
+            SomeRun Self.IntoIter.next_gives it (λ q. IsFilterRun u q P.FnMut predicate))) }
     {
         self.into_iter().filter(predicate)
     }
@@ -403,21 +376,15 @@ pub trait NonEmptyIterator: IntoIterator {
         Self: Sized,
         ensures holds { Self.into_iter_gives self (filter_map_source result)
             × (filter_map_callee result ≡ f) }
-        ensures gives { FilterMapGives (⟦<Self as SourceWords>⟧.reads)
-            (⟦<iter::FilterMap<Self::IntoIter, F> as SourceWords>⟧.reads) F.FnMut self f result }
-        ensures lists { EachList (⟦<Self as SourceWords>⟧.lists) self (λ xs.
-            (h : Self.Item → Option B) → ActsAs F.FnMut f h
-            → (list_filter_map h xs ≡ list_filter_map h xs)
-            × GivesFronts (filter_map_steps Self.IntoIter.next_gives F.FnMut)
-            (list_filter_map h xs) result) }
-        ensures shown { EachShown item_view (⟦<Self as SourceWords>⟧.shows) self (λ xs.
-            (h : item_view.Shown → Option B) → ActsAs F.FnMut f (λ x. h (item_view.of x))
-            → (list_filter_map h xs ≡ list_filter_map h xs)
-            × GivesFronts (filter_map_steps Self.IntoIter.next_gives F.FnMut)
-            (list_filter_map h xs) result) }
-        ensures runs { (it : Self.IntoIter) × Self.into_iter_gives self it
-            × EachRunFrom (filter_map_steps Self.IntoIter.next_gives F.FnMut) result (λ p.
-            SomeRun Self.IntoIter.next_gives it (λ q. IsFilterMapRun p q F.FnMut f)) }
+        ensures gives { EachReading (⟦<iter::FilterMap<Self::IntoIter, F> as Source>⟧.reads) result
+            (IsFilterMapped (⟦<Self as Source>⟧.reads) F.FnMut self f) }
+        ensures lists { EachView item_view (⟦<Self as Source>⟧.lists) self (λ view xs.
+            (h : view.Target → Option B) → ActsAs F.FnMut f (λ x. h (view.of x))
+            → Naming (list_filter_map h xs) (λ ys.
+            YieldsPrefixes (filter_map_steps Self.IntoIter.next_gives F.FnMut) ys result)) }
+        ensures runs { Becomes Self.into_iter_gives self (λ it.
+            EachRunFrom (filter_map_steps Self.IntoIter.next_gives F.FnMut) result (λ p.
+            SomeRun Self.IntoIter.next_gives it (λ q. IsFilterMapRun p q F.FnMut f))) }
     {
         self.into_iter().filter_map(f)
     }
@@ -432,17 +399,15 @@ pub trait NonEmptyIterator: IntoIterator {
     where
         Self: Sized,
         Self::Item: Drop,
-        requires ends { ⟦<Self as SourceWords>⟧.ends self }
+        requires ends { ⟦<Self as Source>⟧.ends self }
         requires callable { (it : Self.IntoIter) → Self.into_iter_gives self it
             → CallableWhileAt Self.IntoIter.next_gives P.FnMut false it predicate }
-        ensures gives { FindsFirst (⟦<Self as SourceWords>⟧.reads) P.FnMut self predicate result }
-        ensures lists { EachList (⟦<Self as SourceWords>⟧.lists) self
-            (λ xs. (test : Self.Item → Bool)
-            → ActsAsAt P.FnMut predicate test → result ≡ list_find test xs) }
-        ensures shown { EachShown item_view (⟦<Self as SourceWords>⟧.shows) self (λ xs.
-            (test : item_view.Shown → Bool)
-            → ActsAsAt P.FnMut predicate (λ x. test (item_view.of x))
-            → option_map item_view.of result ≡ list_find test xs) }
+        ensures gives { Becomes Self.into_iter_gives self (λ it. (t : Self.IntoIter)
+            × FindsItem Self.IntoIter.next_gives P.FnMut it predicate result t) }
+        ensures lists { EachView item_view (⟦<Self as Source>⟧.lists) self (λ view xs.
+            (test : view.Target → Bool)
+            → ActsAsAt P.FnMut predicate (λ x. test (view.of x))
+            → option_map view.of result ≡ list_find test xs) }
         ensures runs { RunsSome Self.into_iter_gives Self.IntoIter.next_gives self (λ u.
             MatchOption result (IsTrue u.whole × NoItemPasses u P.FnMut predicate)
             (EndsAtFirstPassing u P.FnMut predicate)) }
@@ -468,12 +433,12 @@ pub trait NonEmptyIterator: IntoIterator {
     where
         Self: Sized,
         ensures holds { (flat_map_source result ≡ self) × (flat_map_callee result ≡ f) }
-        ensures gives { FlatMapGives (⟦<Self as SourceWords>⟧.reads) (⟦<U as SourceWords>⟧.reads)
-            (⟦<FlatMap<Self, U, F> as SourceWords>⟧.reads) F.FnMut self f result }
-        ensures lists { SpreadsLists F.FnMut f (⟦<Self as SourceWords>⟧.lists)
+        ensures gives { EachReading (⟦<FlatMap<Self, U, F> as Source>⟧.reads) result
+            (IsFlatMapped (⟦<Self as Source>⟧.reads) (⟦<U as Source>⟧.reads) F.FnMut self f) }
+        ensures lists { SpreadsLists F.FnMut f (⟦<Self as Source>⟧.lists itself)
             (BecomesList U.into_nonempty_iter_gives U.IntoNEIter.into_iter_gives
-            U.IntoNEIter.IntoIter.next_gives)
-            (⟦<FlatMap<Self, U, F> as SourceWords>⟧.gives_items) self result }
+            U.IntoNEIter.IntoIter.next_gives itself)
+            (⟦<FlatMap<Self, U, F> as Source>⟧.yields_items) self result }
     {
         FlatMap {
             iter: self,
@@ -498,13 +463,12 @@ pub trait NonEmptyIterator: IntoIterator {
         Self: Sized,
         Self::Item: IntoNonEmptyIterator,
         ensures holds { flatten_source result ≡ self }
-        ensures gives { FlattenGives (⟦<Self as SourceWords>⟧.reads)
-            (⟦<Self::Item as SourceWords>⟧.reads)
-            (⟦<Flatten<Self> as SourceWords>⟧.reads) self result }
-        ensures lists { FlattensLists (⟦<Self as SourceWords>⟧.lists)
+        ensures gives { EachReading (⟦<Flatten<Self> as Source>⟧.reads) result
+            (IsFlattened (⟦<Self as Source>⟧.reads) (⟦<Self::Item as Source>⟧.reads) self) }
+        ensures lists { FlattensLists (⟦<Self as Source>⟧.lists itself)
             (BecomesList Self.Item.into_nonempty_iter_gives Self.Item.IntoNEIter.into_iter_gives
-            Self.Item.IntoNEIter.IntoIter.next_gives)
-            (⟦<Flatten<Self> as SourceWords>⟧.gives_items) self result }
+            Self.Item.IntoNEIter.IntoIter.next_gives itself)
+            (⟦<Flatten<Self> as Source>⟧.yields_items) self result }
     {
         Flatten { iter: self }
     }
@@ -519,19 +483,15 @@ pub trait NonEmptyIterator: IntoIterator {
     final fn fold<B, F: FnMut(B, Self::Item) -> B>(self, init: B, f: F) -> B
     where
         Self: Sized,
-        requires ends { ⟦<Self as SourceWords>⟧.ends self }
+        requires ends { ⟦<Self as Source>⟧.ends self }
         requires callable { (it : Self.IntoIter) → Self.into_iter_gives self it
             → CallableInFold Self.IntoIter.next_gives F.FnMut it f init }
-        ensures gives { FoldsAll (⟦<Self as SourceWords>⟧.reads) F.FnMut self f init result }
-        ensures lists { EachList (⟦<Self as SourceWords>⟧.lists) self (λ xs.
-            (h : B → Self.Item → B) → ActsAsOnTwo F.FnMut f h → result ≡ list_fold h init xs) }
-        ensures shown { EachShown item_view (⟦<Self as SourceWords>⟧.shows) self (λ xs.
-            (h : B → item_view.Shown → B)
-            → ActsAsOnTwo F.FnMut f (λ total x. h total (item_view.of x))
+        ensures gives { Becomes Self.into_iter_gives self
+            (λ it. FoldsItems Self.IntoIter.next_gives F.FnMut it f init result) }
+        ensures lists { EachView item_view (⟦<Self as Source>⟧.lists) self (λ view xs.
+            (h : B → view.Target → B)
+            → ActsAsOnTwo F.FnMut f (λ total x. h total (view.of x))
             → result ≡ list_fold h init xs) }
-        ensures runs { RunsWhole Self.into_iter_gives Self.IntoIter.next_gives self (λ p.
-            (h : B → Self.Item → B) → ActsAsOnTwo F.FnMut f h
-            → result ≡ list_fold h init p.items) }
     {
         self.into_iter().fold(init, f)
     }
@@ -566,14 +526,12 @@ pub trait NonEmptyIterator: IntoIterator {
         Self: Sized,
         Self::Item: Drop,
         ensures holds { (group_by_source result ≡ self) × (group_by_callee result ≡ f) }
-        ensures ends { ⟦<Self as SourceWords>⟧.ends self
+        ensures ends { ⟦<Self as Source>⟧.ends self
             → ((it : Self.IntoIter) → Self.into_iter_gives self it
             → CallableOnAllAt Self.IntoIter.next_gives F.FnMut it f)
-            → ⟦<NEGroupBy<Self, F> as SourceWords>⟧.ends result }
-        ensures gives { GroupByGives (⟦<Self as SourceWords>⟧.reads) F.FnMut K.eq
-            (⟦<NEGroupBy<Self, F> as SourceWords>⟧.reads) self f result }
-        ensures stops { GroupByStops (⟦<Self as SourceWords>⟧.reads) F.FnMut K.eq
-            (⟦<NEGroupBy<Self, F> as SourceWords>⟧.reads) self f result }
+            → ⟦<NEGroupBy<Self, F> as Source>⟧.ends result }
+        ensures gives { GroupByGives (⟦<Self as Source>⟧.reads) F.FnMut K.eq
+            (⟦<NEGroupBy<Self, F> as Source>⟧.reads) self f result }
     {
         NEGroupBy {
             iter: self,
@@ -598,24 +556,21 @@ pub trait NonEmptyIterator: IntoIterator {
     where
         Self: Sized,
         Self::Item: Clone + Drop,
-        requires { ⟦<Self as SourceWords>⟧.starts self }
-        ensures holds { intersperse_separator result ≡ separator }
-        ensures drawn { DrawsFirst Self.into_iter_gives Self.IntoIter.next_gives
-            Self.IntoIter.can_next Self.IntoIter.remaining self
-            (intersperse_first result) (intersperse_rest result) }
-        ensures gives { IntersperseGives (⟦<Self as SourceWords>⟧.reads)
-            (TriesClone Self.Item.is_clone Self.Item.is_infallible)
-            (⟦<Intersperse<Self::IntoIter> as SourceWords>⟧.reads) self separator result }
-        ensures lists { EachList (⟦<Self as SourceWords>⟧.lists) self (λ xs.
-            Self.Item.is_infallible separator
+        requires { ⟦<Self as Source>⟧.starts self }
+        ensures holds { (intersperse_separator result ≡ separator)
+            × DrawsFirst Self.into_iter_gives Self.IntoIter.next_gives Self.IntoIter.can_next
+            Self.IntoIter.remaining self (intersperse_first result) (intersperse_rest result) }
+        ensures gives { EachReading (⟦<Intersperse<Self::IntoIter> as Source>⟧.reads) result
+            (IsInterspersed (⟦<Self as Source>⟧.reads) (TriesClone Self.Item.is_clone
+            Self.Item.is_infallible) self separator) }
+        ensures lists { EachList (⟦<Self as Source>⟧.lists itself) self (λ xs.
+            (Self.Item.is_infallible separator
             → ((y : Self.Item) → Self.Item.is_clone separator y → y ≡ separator)
-            → ⟦<Intersperse<Self::IntoIter> as SourceWords>⟧.gives_items result
-            (map Ok (interspersed separator xs))) }
-        ensures joins { EachList (⟦<Self as SourceWords>⟧.lists) self (λ xs.
-            JoinsLists separator xs × OnlyItsValues AllocError separator xs) }
-        ensures runs { (it : Self.IntoIter) × Self.into_iter_gives self it
-            × BeginsRuns Self.IntoIter.next_gives (intersperse_first result)
-            (intersperse_rest result) it }
+            → ⟦<Intersperse<Self::IntoIter> as Source>⟧.yields_items result
+            (map Ok (interspersed separator xs)))
+            × JoinsLists separator xs × OnlyItsValues AllocError separator xs) }
+        ensures runs { Becomes Self.into_iter_gives self (BeginsRuns Self.IntoIter.next_gives
+            (intersperse_first result) (intersperse_rest result)) }
     {
         let (first, rest) = self.next();
         Intersperse {
@@ -635,12 +590,11 @@ pub trait NonEmptyIterator: IntoIterator {
     where
         Self: Sized,
         ensures holds { (map_source result ≡ self) × (map_callee result ≡ f) }
-        ensures gives { MapGives (⟦<Self as SourceWords>⟧.reads)
-            (⟦<Map<Self, F> as SourceWords>⟧.reads) F.FnMut self f result }
-        ensures lists { MapsList F.FnMut f (⟦<Map<Self, F> as SourceWords>⟧.gives_items) self result
-            (⟦<Self as SourceWords>⟧.lists) }
-        ensures shown { MapsShown F.FnMut f (⟦<Map<Self, F> as SourceWords>⟧.gives_items) self
-            result item_view (⟦<Self as SourceWords>⟧.shows) }
+        ensures gives { EachReading (⟦<Map<Self, F> as Source>⟧.reads) result
+            (IsMapped (⟦<Self as Source>⟧.reads) F.FnMut self f) }
+        ensures lists { EachView item_view (⟦<Self as Source>⟧.lists) self (λ view xs.
+            (h : view.Target → U) → ActsAs F.FnMut f (λ x. h (view.of x))
+            → Naming (map h xs) (⟦<Map<Self, F> as Source>⟧.yields_items result)) }
     {
         Map { iter: self, f }
     }
@@ -655,15 +609,14 @@ pub trait NonEmptyIterator: IntoIterator {
     where
         Self: Sized,
         Self::Item: Ord + Drop,
-        requires { ⟦<Self as SourceWords>⟧.ends self }
-        ensures gives { (xs : List Self.Item) × ⟦<Self as SourceWords>⟧.reads true self xs
+        requires { ⟦<Self as Source>⟧.ends self }
+        ensures gives { (xs : List Self.Item) × ⟦<Self as Source>⟧.reads true self xs
             × IsFirstGreatest (less_by Self.Item.cmp) xs result }
-        ensures lists { EachList (⟦<Self as SourceWords>⟧.lists) self (λ xs. Contains xs result
+        ensures lists { EachList (⟦<Self as Source>⟧.lists itself) self
+            (λ xs. Contains xs result
             × All (λ x. less_by Self.Item.cmp result x ≡ false) xs) }
         ensures runs { RunsWhole Self.into_iter_gives Self.IntoIter.next_gives self (λ p.
-            AnyItem p (λ x. x ≡ result)
-            × AllItems p (λ x. less_by Self.Item.cmp result x ≡ false)
-            × ((xs : List Self.Item) → p.items ≡ xs → Contains xs result)) }
+            IsBestOfRun p (λ x m. less_by Self.Item.cmp m x) result) }
     {
         best(self, |kept, next| kept < next)
     }
@@ -683,15 +636,13 @@ pub trait NonEmptyIterator: IntoIterator {
     where
         Self: Sized,
         Self::Item: Drop,
-        requires ends { ⟦<Self as SourceWords>⟧.ends self }
+        requires ends { ⟦<Self as Source>⟧.ends self }
         requires callable { (it : Self.IntoIter) → Self.into_iter_gives self it
             → CallableOnTwo Self.IntoIter.next_gives F.Fn it compare }
-        ensures gives { (xs : List Self.Item) × ⟦<Self as SourceWords>⟧.reads true self xs
+        ensures gives { (xs : List Self.Item) × ⟦<Self as Source>⟧.reads true self xs
             × PicksGreatest F.Fn compare xs result }
-        ensures lists { EachList (⟦<Self as SourceWords>⟧.lists) self (λ xs.
+        ensures lists { EachList (⟦<Self as Source>⟧.lists itself) self (λ xs.
             PicksGreatest F.Fn compare xs result) }
-        ensures runs { RunsWhole Self.into_iter_gives Self.IntoIter.next_gives self (λ p.
-            AnyItem p (λ x. x ≡ result) × PicksGreatest F.Fn compare p.items result) }
     {
         best(
             self,
@@ -712,12 +663,12 @@ pub trait NonEmptyIterator: IntoIterator {
     where
         Self: Sized,
         Self::Item: Drop,
-        requires ends { ⟦<Self as SourceWords>⟧.ends self }
+        requires ends { ⟦<Self as Source>⟧.ends self }
         requires callable { (it : Self.IntoIter) → Self.into_iter_gives self it
             → CallableOnAllAt Self.IntoIter.next_gives F.FnMut it key }
-        ensures gives { PicksGreatestKey (⟦<Self as SourceWords>⟧.reads) F.FnMut B.cmp
+        ensures gives { PicksGreatestKey (⟦<Self as Source>⟧.reads) F.FnMut B.cmp
             self key result }
-        ensures lists { EachList (⟦<Self as SourceWords>⟧.lists) self (λ xs.
+        ensures lists { EachList (⟦<Self as Source>⟧.lists itself) self (λ xs.
             HasGreatestKey F.FnMut B.cmp key xs result) }
         ensures runs { RunsWhole Self.into_iter_gives Self.IntoIter.next_gives self (λ p.
             AnyItem p (λ x. x ≡ result)
@@ -735,15 +686,14 @@ pub trait NonEmptyIterator: IntoIterator {
     where
         Self: Sized,
         Self::Item: Ord + Drop,
-        requires { ⟦<Self as SourceWords>⟧.ends self }
-        ensures gives { (xs : List Self.Item) × ⟦<Self as SourceWords>⟧.reads true self xs
+        requires { ⟦<Self as Source>⟧.ends self }
+        ensures gives { (xs : List Self.Item) × ⟦<Self as Source>⟧.reads true self xs
             × IsFirstLeast (less_by Self.Item.cmp) xs result }
-        ensures lists { EachList (⟦<Self as SourceWords>⟧.lists) self (λ xs. Contains xs result
+        ensures lists { EachList (⟦<Self as Source>⟧.lists itself) self
+            (λ xs. Contains xs result
             × All (λ x. less_by Self.Item.cmp x result ≡ false) xs) }
         ensures runs { RunsWhole Self.into_iter_gives Self.IntoIter.next_gives self (λ p.
-            AnyItem p (λ x. x ≡ result)
-            × AllItems p (λ x. less_by Self.Item.cmp x result ≡ false)
-            × ((xs : List Self.Item) → p.items ≡ xs → Contains xs result)) }
+            IsBestOfRun p (λ x m. less_by Self.Item.cmp x m) result) }
     {
         best(self, |kept, next| next < kept)
     }
@@ -762,15 +712,13 @@ pub trait NonEmptyIterator: IntoIterator {
     where
         Self: Sized,
         Self::Item: Drop,
-        requires ends { ⟦<Self as SourceWords>⟧.ends self }
+        requires ends { ⟦<Self as Source>⟧.ends self }
         requires callable { (it : Self.IntoIter) → Self.into_iter_gives self it
             → CallableOnTwo Self.IntoIter.next_gives F.Fn it compare }
-        ensures gives { (xs : List Self.Item) × ⟦<Self as SourceWords>⟧.reads true self xs
+        ensures gives { (xs : List Self.Item) × ⟦<Self as Source>⟧.reads true self xs
             × PicksLeast F.Fn compare xs result }
-        ensures lists { EachList (⟦<Self as SourceWords>⟧.lists) self (λ xs.
+        ensures lists { EachList (⟦<Self as Source>⟧.lists itself) self (λ xs.
             PicksLeast F.Fn compare xs result) }
-        ensures runs { RunsWhole Self.into_iter_gives Self.IntoIter.next_gives self (λ p.
-            AnyItem p (λ x. x ≡ result) × PicksLeast F.Fn compare p.items result) }
     {
         best(
             self,
@@ -791,12 +739,12 @@ pub trait NonEmptyIterator: IntoIterator {
     where
         Self: Sized,
         Self::Item: Drop,
-        requires ends { ⟦<Self as SourceWords>⟧.ends self }
+        requires ends { ⟦<Self as Source>⟧.ends self }
         requires callable { (it : Self.IntoIter) → Self.into_iter_gives self it
             → CallableOnAllAt Self.IntoIter.next_gives F.FnMut it key }
-        ensures gives { PicksLeastKey (⟦<Self as SourceWords>⟧.reads) F.FnMut B.cmp
+        ensures gives { PicksLeastKey (⟦<Self as Source>⟧.reads) F.FnMut B.cmp
             self key result }
-        ensures lists { EachList (⟦<Self as SourceWords>⟧.lists) self (λ xs.
+        ensures lists { EachList (⟦<Self as Source>⟧.lists itself) self (λ xs.
             HasLeastKey F.FnMut B.cmp key xs result) }
         ensures runs { RunsWhole Self.into_iter_gives Self.IntoIter.next_gives self (λ p.
             AnyItem p (λ x. x ≡ result)
@@ -824,19 +772,15 @@ pub trait NonEmptyIterator: IntoIterator {
     where
         Self: Sized,
         Self::Item: Drop,
-        requires ends { ⟦<Self as SourceWords>⟧.ends self }
+        requires ends { ⟦<Self as Source>⟧.ends self }
         requires callable { F.IsAlwaysCallable f }
         ensures gives { IfOk result (λ ys. (xs : List Self.Item)
-            × ⟦<Self as SourceWords>⟧.reads true self xs × IsPermutation xs ys
+            × ⟦<Self as Source>⟧.reads true self xs × IsPermutation xs ys
             × IsSortedByKeyClosure F.FnMut K.cmp f ys
             × IsStableByKeyClosure F.FnMut K.cmp f xs ys) }
-        ensures lists { IfOk result (λ ys. WalkGives Global ys ys
-            × EachList (⟦<Self as SourceWords>⟧.lists) self (λ xs.
+        ensures lists { IfOk result (λ ys. ListsItemsByValue Global ys ys
+            × EachList (⟦<Self as Source>⟧.lists itself) self (λ xs.
             SortsByKey F.FnMut K.cmp K.eq f xs ys)) }
-        ensures runs { IfOk result (λ ys.
-            RunsWhole Self.into_iter_gives Self.IntoIter.next_gives self (λ p.
-            IsPermutation p.items ys × IsSortedByKeyClosure F.FnMut K.cmp f ys
-            × IsStableByKeyClosure F.FnMut K.cmp f p.items ys)) }
     {
         let mut items: NEVec<Self::Item> = self.collect(alloc)?;
         items.sort_by_key(f)?;
@@ -854,12 +798,11 @@ pub trait NonEmptyIterator: IntoIterator {
     where
         Self: Sized,
         Self::Item: Drop,
-        requires { ⟦<Self as SourceWords>⟧.starts self }
-        ensures gives { GivesNth (⟦<Self as SourceWords>⟧.reads) self n result }
-        ensures lists { EachList (⟦<Self as SourceWords>⟧.lists) self (λ xs.
-            result ≡ slice_get xs n) }
-        ensures shown { EachShown item_view (⟦<Self as SourceWords>⟧.shows) self (λ xs.
-            option_map item_view.of result ≡ slice_get xs n) }
+        requires { ⟦<Self as Source>⟧.starts self }
+        ensures gives { Becomes Self.into_iter_gives self (λ it. (t : Self.IntoIter)
+            × SkipsThenYields Self.IntoIter.next_gives it n result t) }
+        ensures lists { EachView item_view (⟦<Self as Source>⟧.lists) self (λ view xs.
+            option_map view.of result ≡ slice_get xs n) }
         ensures runs { RunsSome Self.into_iter_gives Self.IntoIter.next_gives self (λ p.
             MatchOption result (IsTrue p.whole × (p.len ≤ n))
             (λ x. (p.len ≡ n + 1) × (p.at n ≡ Some x))) }
@@ -888,24 +831,16 @@ pub trait NonEmptyIterator: IntoIterator {
         Self: Sized,
         ensures holds { (scan_source result ≡ self) × (scan_init result ≡ init)
             × (scan_callee result ≡ f) }
-        ensures ends { ⟦<Self as SourceWords>⟧.ends self → F.IsAlwaysCallable f
-            → ⟦<Scan<Self, St, F> as SourceWords>⟧.ends result }
-        ensures gives { ScanGives (⟦<Self as SourceWords>⟧.reads)
-            (⟦<Scan<Self, St, F> as SourceWords>⟧.reads)
-            F.FnMut self init f result }
-        ensures lists { EachList (⟦<Self as SourceWords>⟧.lists) self (λ xs.
-            (step : St → Self.Item → St) (out : St → Self.Item → B)
-            → ActsAsWithState F.FnMut f step out
-            → (list_scan step out init xs ≡ list_scan step out init xs)
-            × ⟦<Scan<Self, St, F> as SourceWords>⟧.gives_items result
-            (list_scan step out init xs)) }
-        ensures shown { EachShown item_view (⟦<Self as SourceWords>⟧.shows) self (λ xs.
-            (step : St → item_view.Shown → St) (out : St → item_view.Shown → B)
-            → ActsAsWithState F.FnMut f (λ s x. step s (item_view.of x))
-            (λ s x. out s (item_view.of x))
-            → (list_scan step out init xs ≡ list_scan step out init xs)
-            × ⟦<Scan<Self, St, F> as SourceWords>⟧.gives_items result
-            (list_scan step out init xs)) }
+        ensures ends { ⟦<Self as Source>⟧.ends self → F.IsAlwaysCallable f
+            → ⟦<Scan<Self, St, F> as Source>⟧.ends result }
+        ensures gives { EachReading (⟦<Scan<Self, St, F> as Source>⟧.reads) result
+            (IsScanned (⟦<Self as Source>⟧.reads) F.FnMut self init f) }
+        ensures lists { EachView item_view (⟦<Self as Source>⟧.lists) self (λ view xs.
+            (step : St → view.Target → St) (out : St → view.Target → B)
+            → ActsAsWithState F.FnMut f (λ s x. step s (view.of x))
+            (λ s x. out s (view.of x))
+            → Naming (list_scan step out init xs)
+            (⟦<Scan<Self, St, F> as Source>⟧.yields_items result)) }
     {
         Scan {
             iter: self,
@@ -926,15 +861,13 @@ pub trait NonEmptyIterator: IntoIterator {
         Self: Sized,
         Self::Item: Drop,
         ensures holds { Self.into_iter_gives self (skip_source result) × (skip_count result ≡ n) }
-        ensures gives { SkipGives (⟦<Self as SourceWords>⟧.reads)
-            (⟦<iter::Skip<Self::IntoIter> as SourceWords>⟧.reads) n self result }
-        ensures lists { EachList (⟦<Self as SourceWords>⟧.lists) self (λ xs.
-            GivesFronts (skip_steps Self.IntoIter.next_gives) (drop n xs) result) }
-        ensures shown { EachShown item_view (⟦<Self as SourceWords>⟧.shows) self (λ xs.
-            ShowsItems (skip_steps Self.IntoIter.next_gives) item_view (drop n xs) result) }
-        ensures runs { (it : Self.IntoIter) × Self.into_iter_gives self it
-            × EachRunFrom (skip_steps Self.IntoIter.next_gives) result (λ p.
-            SomeRun Self.IntoIter.next_gives it (λ q. IsSkipRun p q n)) }
+        ensures gives { EachReading (⟦<iter::Skip<Self::IntoIter> as Source>⟧.reads) result
+            (IsSkipped (⟦<Self as Source>⟧.reads) n self) }
+        ensures lists { EachView item_view (⟦<Self as Source>⟧.lists) self (λ view xs.
+            StdYields (skip_steps Self.IntoIter.next_gives) view (drop n xs) result) }
+        ensures runs { Becomes Self.into_iter_gives self (λ it.
+            EachRunFrom (skip_steps Self.IntoIter.next_gives) result (λ p.
+            SomeRun Self.IntoIter.next_gives it (λ q. IsSkipRun p q n))) }
     {
         self.into_iter().skip(n)
     }
@@ -955,22 +888,12 @@ pub trait NonEmptyIterator: IntoIterator {
         Self::Item: Drop,
         ensures holds { Self.into_iter_gives self (skip_while_source result)
             × (skip_while_callee result ≡ pred) × (skip_while_done_skipping result ≡ false) }
-        ensures gives { SkipWhileGives (⟦<Self as SourceWords>⟧.reads)
-            (⟦<iter::SkipWhile<Self::IntoIter, P> as SourceWords>⟧.reads) P.FnMut self pred result }
-        ensures lists { EachList (⟦<Self as SourceWords>⟧.lists) self
-            (λ xs. (test : Self.Item → Bool)
-            → ActsAsAt P.FnMut pred test → (prefix_len test xs ≡ prefix_len test xs)
-            × GivesFronts (skip_while_steps Self.IntoIter.next_gives P.FnMut)
-            (drop (prefix_len test xs) xs) result) }
-        ensures shown { EachShown item_view (⟦<Self as SourceWords>⟧.shows) self (λ xs.
-            (test : item_view.Shown → Bool)
-            → ActsAsAt P.FnMut pred (λ x. test (item_view.of x))
-            → (prefix_len test xs ≡ prefix_len test xs)
-            × ShowsItems (skip_while_steps Self.IntoIter.next_gives P.FnMut) item_view
-            (drop (prefix_len test xs) xs) result) }
-        ensures runs { (it : Self.IntoIter) × Self.into_iter_gives self it
-            × EachRunFrom (skip_while_steps Self.IntoIter.next_gives P.FnMut) result (λ u.
-            SomeRun Self.IntoIter.next_gives it (λ q. IsSkipWhileRun u q P.FnMut pred)) }
+        ensures gives { EachReading (⟦<iter::SkipWhile<Self::IntoIter, P> as Source>⟧.reads) result
+            (IsSkippedWhile (⟦<Self as Source>⟧.reads) P.FnMut self pred) }
+        ensures lists { EachKept item_view (⟦<Self as Source>⟧.lists) self
+            (skip_while_steps Self.IntoIter.next_gives P.FnMut) result (λ view xs gives.
+            (test : view.Target → Bool) → ActsAsAt P.FnMut pred (λ x. test (view.of x))
+            → Naming (prefix_len test xs) (λ n. gives (drop n xs))) }
     {
         self.into_iter().skip_while(pred)
     }
@@ -983,15 +906,14 @@ pub trait NonEmptyIterator: IntoIterator {
     final fn sum<S: Sum<Self::Item>>(self) -> S
     where
         Self: Sized,
-        requires ends { ⟦<Self as SourceWords>⟧.ends self }
-        requires fits { ⟦<Self as SourceWords>⟧.each_front S.can_sum self }
+        requires ends { ⟦<Self as Source>⟧.ends self }
+        requires fits { ⟦<Self as Source>⟧.each_prefix S.can_sum self }
         ensures gives { (xs : List Self.Item)
-            × (S.is_complete result → ⟦<Self as SourceWords>⟧.reads true self xs)
+            × (S.is_complete result → ⟦<Self as Source>⟧.reads true self xs)
             × S.sum_gives xs result }
-        ensures lists { EachList (⟦<Self as SourceWords>⟧.lists) self (λ xs.
+        ensures lists { EachList (⟦<Self as Source>⟧.lists itself) self (λ xs.
             S.is_complete result → S.sum_gives xs result) }
-        ensures runs { (it : Self.IntoIter) × Self.into_iter_gives self it
-            × (S.is_complete result
+        ensures runs { Becomes Self.into_iter_gives self (λ it. S.is_complete result
             → WholeRun Self.IntoIter.next_gives it (λ p. S.sum_gives p.items result)) }
     {
         self.into_iter().sum()
@@ -1007,12 +929,10 @@ pub trait NonEmptyIterator: IntoIterator {
     where
         Self: Sized,
         ensures holds { (take_source result ≡ self) × (take_count result ≡ non_zero_usize_get n) }
-        ensures gives { TakeGives (⟦<Self as SourceWords>⟧.reads)
-            (⟦<Take<Self> as SourceWords>⟧.reads) (non_zero_usize_get n) self result }
-        ensures lists { EachList (⟦<Self as SourceWords>⟧.lists) self (λ xs.
-            ⟦<Take<Self> as SourceWords>⟧.gives_items result (take (non_zero_usize_get n) xs)) }
-        ensures shown { EachShown item_view (⟦<Self as SourceWords>⟧.shows) self (λ xs.
-            ⟦<Take<Self> as SourceWords>⟧.gives_shown item_view result
+        ensures gives { EachReading (⟦<Take<Self> as Source>⟧.reads) result
+            (IsTaken (⟦<Self as Source>⟧.reads) (non_zero_usize_get n) self) }
+        ensures lists { EachView item_view (⟦<Self as Source>⟧.lists) self (λ view xs.
+            ⟦<Take<Self> as Source>⟧.yields_through view result
             (take (non_zero_usize_get n) xs)) }
     {
         Take { iter: self, n }
@@ -1023,7 +943,7 @@ pub trait NonEmptyIterator: IntoIterator {
     ///
     /// ```
     /// let items = nev![alloc; 2, 4, 7, 8, 9]?.into_nonempty_iter();
-    /// let front: Vec<u32> = items.take_while(|x| *x % 2 == 0).collect(alloc)?; // [2, 4]
+    /// let first: Vec<u32> = items.take_while(|x| *x % 2 == 0).collect(alloc)?; // [2, 4]
     /// ```
     final fn take_while<P: FnMut(&Self::Item) -> bool>(
         self,
@@ -1034,23 +954,12 @@ pub trait NonEmptyIterator: IntoIterator {
         Self::Item: Drop,
         ensures holds { Self.into_iter_gives self (take_while_source result)
             × (take_while_callee result ≡ pred) × (take_while_done result ≡ false) }
-        ensures gives { TakeWhileGives (⟦<Self as SourceWords>⟧.reads)
-            (⟦<iter::TakeWhile<Self::IntoIter, P> as SourceWords>⟧.reads) P.FnMut self pred result }
-        ensures lists { EachList (⟦<Self as SourceWords>⟧.lists) self
-            (λ xs. (test : Self.Item → Bool)
-            → ActsAsAt P.FnMut pred test
-            → (list_take_while test xs ≡ list_take_while test xs)
-            × GivesFronts (take_while_steps Self.IntoIter.next_gives P.FnMut)
-            (list_take_while test xs) result) }
-        ensures shown { EachShown item_view (⟦<Self as SourceWords>⟧.shows) self (λ xs.
-            (test : item_view.Shown → Bool)
-            → ActsAsAt P.FnMut pred (λ x. test (item_view.of x))
-            → (list_take_while test xs ≡ list_take_while test xs)
-            × ShowsItems (take_while_steps Self.IntoIter.next_gives P.FnMut) item_view
-            (list_take_while test xs) result) }
-        ensures runs { (it : Self.IntoIter) × Self.into_iter_gives self it
-            × EachRunFrom (take_while_steps Self.IntoIter.next_gives P.FnMut) result (λ u.
-            SomeRun Self.IntoIter.next_gives it (λ q. IsTakeWhileRun u q P.FnMut pred)) }
+        ensures gives { EachReading (⟦<iter::TakeWhile<Self::IntoIter, P> as Source>⟧.reads) result
+            (IsTakenWhile (⟦<Self as Source>⟧.reads) P.FnMut self pred) }
+        ensures lists { EachKept item_view (⟦<Self as Source>⟧.lists) self
+            (take_while_steps Self.IntoIter.next_gives P.FnMut) result (λ view xs gives.
+            (test : view.Target → Bool) → ActsAsAt P.FnMut pred (λ x. test (view.of x))
+            → Naming (list_take_while test xs) gives) }
     {
         self.into_iter().take_while(pred)
     }
@@ -1064,15 +973,14 @@ pub trait NonEmptyIterator: IntoIterator {
     final fn product<P: Product<Self::Item>>(self) -> P
     where
         Self: Sized,
-        requires ends { ⟦<Self as SourceWords>⟧.ends self }
-        requires fits { ⟦<Self as SourceWords>⟧.each_front P.can_product self }
+        requires ends { ⟦<Self as Source>⟧.ends self }
+        requires fits { ⟦<Self as Source>⟧.each_prefix P.can_product self }
         ensures gives { (xs : List Self.Item)
-            × (P.is_complete result → ⟦<Self as SourceWords>⟧.reads true self xs)
+            × (P.is_complete result → ⟦<Self as Source>⟧.reads true self xs)
             × P.product_gives xs result }
-        ensures lists { EachList (⟦<Self as SourceWords>⟧.lists) self (λ xs.
+        ensures lists { EachList (⟦<Self as Source>⟧.lists itself) self (λ xs.
             P.is_complete result → P.product_gives xs result) }
-        ensures runs { (it : Self.IntoIter) × Self.into_iter_gives self it
-            × (P.is_complete result
+        ensures runs { Becomes Self.into_iter_gives self (λ it. P.is_complete result
             → WholeRun Self.IntoIter.next_gives it (λ p. P.product_gives p.items result)) }
     {
         self.into_iter().product()
@@ -1094,32 +1002,14 @@ pub trait NonEmptyIterator: IntoIterator {
         Self: Sized,
         Self::Item: Drop,
         ensures holds { (zip_first result ≡ self) × (zip_second result ≡ other) }
-        ensures gives { ZipGives (⟦<Self as SourceWords>⟧.reads) (⟦<U as SourceWords>⟧.reads)
-            (⟦<Zip<Self, U> as SourceWords>⟧.reads) self other result }
-        ensures lists { ZipsKnown (mark self) (⟦<Self as SourceWords>⟧.lists self)
-            (mark other) (⟦<U as SourceWords>⟧.lists other)
+        ensures gives { EachReading (⟦<Zip<Self, U> as Source>⟧.reads) result
+            (IsZipped (⟦<Self as Source>⟧.reads) (⟦<U as Source>⟧.reads) self other) }
+        ensures lists { ZipsLists item_view U.IntoNEIter.item_view
+            (⟦<Self as Source>⟧.lists) (⟦<U as Source>⟧.lists)
             (BecomesList U.into_nonempty_iter_gives U.IntoNEIter.into_iter_gives
-            U.IntoNEIter.IntoIter.next_gives other)
-            (⟦<Zip<Self, U> as SourceWords>⟧.gives_items result) }
-        ensures shown { ZipsKnown
-            (shown_mark self) (⟦<Self as SourceWords>⟧.shows item_view self)
-            (shown_mark other) (⟦<U as SourceWords>⟧.shows U.IntoNEIter.item_view other)
-            (BecomesShown U.into_nonempty_iter_gives U.IntoNEIter.into_iter_gives
-            U.IntoNEIter.IntoIter.next_gives U.IntoNEIter.item_view other)
-            (⟦<Zip<Self, U> as SourceWords>⟧.gives_shown
-            (in_pairs item_view U.IntoNEIter.item_view) result) }
-        ensures shown_first { ZipsKnown
-            (shown_mark self) (⟦<Self as SourceWords>⟧.shows item_view self)
-            (mark other) (⟦<U as SourceWords>⟧.lists other)
-            (BecomesList U.into_nonempty_iter_gives U.IntoNEIter.into_iter_gives
-            U.IntoNEIter.IntoIter.next_gives other)
-            (⟦<Zip<Self, U> as SourceWords>⟧.gives_shown (in_pairs item_view itself) result) }
-        ensures shown_second { ZipsKnown (mark self) (⟦<Self as SourceWords>⟧.lists self)
-            (shown_mark other) (⟦<U as SourceWords>⟧.shows U.IntoNEIter.item_view other)
-            (BecomesShown U.into_nonempty_iter_gives U.IntoNEIter.into_iter_gives
-            U.IntoNEIter.IntoIter.next_gives U.IntoNEIter.item_view other)
-            (⟦<Zip<Self, U> as SourceWords>⟧.gives_shown
-            (in_pairs itself U.IntoNEIter.item_view) result) }
+            U.IntoNEIter.IntoIter.next_gives)
+            (⟦<Zip<Self, U> as Source>⟧.yields_items)
+            (⟦<Zip<Self, U> as Source>⟧.yields_through) self other result }
     {
         Zip { a: self, b: other }
     }
@@ -1143,11 +1033,12 @@ pub trait NonEmptyIterator: IntoIterator {
     >(self, alloc: Global) -> Result<(FromA, FromB), AllocError>
     where
         Self: Sized + IntoIterator<Item = (A, B)>,
-        requires { ⟦<Self as SourceWords>⟧.ends self }
+        requires { ⟦<Self as Source>⟧.ends self }
         ensures gives { IfOk result (λ r. (ps : List (A × B))
-            × ⟦<Self as SourceWords>⟧.reads true self ps × FromA.collected (map (λ p. p.0) ps) r.0
+            × ⟦<Self as Source>⟧.reads true self ps × FromA.collected (map (λ p. p.0) ps) r.0
             × FromB.collected (map (λ p. p.1) ps) r.1) }
-        ensures lists { IfOk result (λ r. EachList (⟦<Self as SourceWords>⟧.lists) self (λ ps.
+        ensures lists { IfOk result (λ r. EachList (⟦<Self as Source>⟧.lists itself) self
+            (λ ps.
             FromA.collected (map (λ p. p.0) ps) r.0
             × FromB.collected (map (λ p. p.1) ps) r.1)) }
         ensures runs { IfOk result (λ r.
@@ -1176,12 +1067,13 @@ pub trait NonEmptyIterator: IntoIterator {
     final fn reduce<F: FnMut(Self::Item, Self::Item) -> Self::Item>(self, f: F) -> Self::Item
     where
         Self: Sized,
-        requires ends { ⟦<Self as SourceWords>⟧.ends self }
+        requires ends { ⟦<Self as Source>⟧.ends self }
         requires callable { (it : Self.IntoIter) → Self.into_iter_gives self it
             → AfterFirst Self.IntoIter.next_gives it
             (λ x rest. CallableInFold Self.IntoIter.next_gives F.FnMut rest f x) }
-        ensures gives { ReducesAll (⟦<Self as SourceWords>⟧.reads) F.FnMut self f result }
-        ensures lists { EachList (⟦<Self as SourceWords>⟧.lists) self (λ xs.
+        ensures gives { Becomes Self.into_iter_gives self
+            (λ it. ReducesItems Self.IntoIter.next_gives F.FnMut it f (Some result)) }
+        ensures lists { EachList (⟦<Self as Source>⟧.lists itself) self (λ xs.
             (h : Self.Item → Self.Item → Self.Item) → ActsAsOnTwo F.FnMut f h
             → Some result ≡ list_reduce h xs) }
         ensures runs { RunsWhole Self.into_iter_gives Self.IntoIter.next_gives self (λ p.

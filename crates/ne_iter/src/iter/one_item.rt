@@ -1,6 +1,6 @@
 //! [`Once`]: a source of one item.
 
-use super::NonEmptyIterator;
+use super::{NonEmptyIterator, Source};
 use std::iter;
 
 /// A source of one item: see [`once`](super::once).
@@ -12,7 +12,7 @@ pub struct Once<T> {
 impl<T: Drop> IntoIterator for Once<T> {
     ghost use Rattle.std.specs.Prelude.{◌≡◌, Some};
     ghost use Rattle.std.specs.Iterator.Adapters.{once_item as std_once_item, OnceYieldsItsItem};
-    ghost use Rattle.ne_iter.specs.Parts.{once_item};
+    ghost use Rattle.ne_iter.specs.Once.{once_item};
 
     type Item = T;
 
@@ -27,8 +27,12 @@ impl<T: Drop> IntoIterator for Once<T> {
 }
 
 impl<T: Drop> NonEmptyIterator for Once<T> {
-    ghost use Rattle.ne_iter.specs.SourceLaws.{HasFirst-once};
-    ghost use Rattle.ne_iter.specs.Parts.{once_item};
+    ghost use Rattle.ne_iter.specs.Once.{HasFirst-once, once_item};
 
     ghost not_empty = { λ s it made. HasFirst-once it (once_item s) made.0 };
 }
+
+/// A source of one item ends.
+pub fn once_ends<T: Drop>()
+    ensures { (s : _) → ⟦<Once<T> as Source>⟧.ends s }
+{}

@@ -1,6 +1,7 @@
 //! The adapter whose closure has a state.
+ghost use Rattle.ne_iter.specs.Scan.{scan_source, scan_callee};
 
-use super::NonEmptyIterator;
+use super::{NonEmptyIterator, Source};
 
 /// A source of what a closure with a state returns for the items of a source: see
 /// [`NonEmptyIterator::scan`].
@@ -14,8 +15,8 @@ pub struct Scan<I, St, F> {
 impl<St: Drop, B, I: IntoIterator, F: FnMut(&mut St, I::Item) -> B> IntoIterator
     for Scan<I, St, F> {
     ghost use Rattle.std.specs.Prelude.{◌≡◌};
-    ghost use Rattle.ne_iter.specs.Parts.{scan_source, scan_init, scan_callee};
-    ghost use Rattle.ne_iter.specs.Scanned.{scanned_from, state_of, callee_of};
+    ghost use Rattle.ne_iter.specs.Scan.{scan_source, scan_init, scan_callee, scanned_from};
+    ghost use Rattle.ne_iter.specs.Scan.{state_of, callee_of};
 
     type Item = B;
 
@@ -35,8 +36,7 @@ impl<St: Drop, B, I: IntoIterator, F: FnMut(&mut St, I::Item) -> B> IntoIterator
 
 impl<St: Drop, B, I: NonEmptyIterator, F: FnMut(&mut St, I::Item) -> B> NonEmptyIterator
     for Scan<I, St, F> {
-    ghost use Rattle.ne_iter.specs.Parts.{scan_source};
-    ghost use Rattle.ne_iter.specs.Scanned.{scanned_from};
+    ghost use Rattle.ne_iter.specs.Scan.{scan_source, scanned_from};
 
     ghost not_empty = { λ s it made t ended.
         I.not_empty (scan_source s) (scanned_from it) made.0 (scanned_from t) ended.0 };
@@ -55,13 +55,8 @@ pub struct ScanIter<I, St, F> {
 }
 
 impl<St: Drop, B, I: Iterator, F: FnMut(&mut St, I::Item) -> B> Iterator for ScanIter<I, St, F> {
-    ghost use Rattle.ne_iter.specs.Scanned.{
-      scanned_from,
-      state_of,
-      callee_of,
-      ScansNext,
-      CallableInScan,
-    };
+    ghost use Rattle.ne_iter.specs.Scan.{scanned_from, state_of, callee_of, ScansNext};
+    ghost use Rattle.ne_iter.specs.Scan.{CallableInScan};
 
     type Item = B;
 
@@ -81,3 +76,10 @@ impl<St: Drop, B, I: Iterator, F: FnMut(&mut St, I::Item) -> B> Iterator for Sca
         self.iter.size_hint()
     }
 }
+
+/// `scan` ends if its source does and its closure can be called with any value.
+pub fn scan_ends<St: Drop, S: IntoIterator, B, F: FnMut(&mut St, S::Item) -> B>()
+    ensures { (scanned : _) → ⟦<S as Source>⟧.ends (scan_source scanned)
+        → F.IsAlwaysCallable (scan_callee scanned)
+        → ⟦<Scan<S, St, F> as Source>⟧.ends scanned }
+{}

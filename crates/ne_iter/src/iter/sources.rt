@@ -1,55 +1,51 @@
-//! What a source may give, in contracts; and values that become sources.
+//! What a source may yield, in contracts; and values that become sources.
 ghost use Rattle.std.specs.Prelude.{◌≡◌, Bool, List};
 ghost use Rattle.std.specs.Iterator.{IsFiniteIterable};
-ghost use Rattle.ne_vec.specs.Fronts.{Lists, Shows, EachFront, GivesItems, GivesShown};
+ghost use Rattle.ne_vec.specs.Lists.{Lists, EachPrefix, YieldsItems, YieldsThrough, View};
 ghost use Rattle.ne_iter.specs.Sources.{Reads, SameLists};
 ghost use Rattle.ne_iter.specs.SourceLaws.{SameLists-self};
-ghost use Rattle.ne_iter.specs.Views.{View};
 
 use super::NonEmptyIterator;
 
-/// Says what a source may give; every `IntoIterator` implements it. It is used in contracts only,
+/// Says what a source may yield; every `IntoIterator` implements it. It is used in contracts only,
 /// and has no method.
 ///
-/// `reads whole source xs` says that `source` may first give the items `xs`, and, if `whole` is
+/// `reads whole source xs` says that `source` may first yield the items `xs`, and, if `whole` is
 /// true, may end after them. `starts source` says that the first item may be taken. `ends source`
 /// says that all items may be taken, and that they come to an end.
 ///
-/// `lists source xs` says that `source` gives the items `xs` and no others, as far as they are
-/// taken. `shows view source xs` says the same of what its items show by `view`. The search of the
-/// checker does not unfold these two; `gives_items` and `gives_shown` add what it learns about each
-/// run of the iterator. `each_front P source` says that `P` holds for the first items that come,
-/// however many are taken.
-pub trait SourceWords: IntoIterator {
+/// `lists view source xs` says that the items of `source`, through `view`, are `xs`, and no others,
+/// as far as they are taken; through `itself` it is about the items themselves. The automatic proof
+/// does not unfold it; `yields_items` and `yields_through` add what it needs of each run of the
+/// iterator. `each_prefix P source` says that `P` holds for the first items that come, however many
+/// are taken.
+pub trait Source: IntoIterator {
     ghost reads: { Bool → Self → List Self.Item → Type 0 };
 
-    ghost lists: { Self → List Self.Item → Type 0 };
+    ghost lists: { (view : View Self.Item) → Self → List view.Target → Type 0 };
 
-    ghost shows: { (view : View Self.Item) → Self → List view.Shown → Type 0 };
+    ghost yields_items: { Self → List Self.Item → Type 0 };
 
-    ghost gives_items: { Self → List Self.Item → Type 0 };
+    ghost yields_through: { (view : View Self.Item) → Self → List view.Target → Type 0 };
 
-    ghost gives_shown: { (view : View Self.Item) → Self → List view.Shown → Type 0 };
-
-    ghost each_front: { (List Self.Item → Type 0) → Self → Type 0 };
+    ghost each_prefix: { (List Self.Item → Type 0) → Self → Type 0 };
 
     ghost starts: { Self → Type 0 };
 
     ghost ends: { Self → Type 0 };
 }
 
-impl<S: IntoIterator> SourceWords for S {
+impl<S: IntoIterator> Source for S {
     ghost reads = { Reads S.into_iter_gives S.IntoIter.next_gives };
 
-    ghost lists = { Lists S.into_iter_gives S.IntoIter.next_gives };
+    ghost lists = { λ view. Lists S.into_iter_gives S.IntoIter.next_gives view.of };
 
-    ghost shows = { λ view. Shows S.into_iter_gives S.IntoIter.next_gives view.of };
+    ghost yields_items = { YieldsItems S.into_iter_gives S.IntoIter.next_gives };
 
-    ghost gives_items = { GivesItems S.into_iter_gives S.IntoIter.next_gives };
+    ghost yields_through = { λ view.
+        YieldsThrough S.into_iter_gives S.IntoIter.next_gives view.of };
 
-    ghost gives_shown = { λ view. GivesShown S.into_iter_gives S.IntoIter.next_gives view.of };
-
-    ghost each_front = { EachFront S.into_iter_gives S.IntoIter.next_gives };
+    ghost each_prefix = { EachPrefix S.into_iter_gives S.IntoIter.next_gives };
 
     ghost starts = { λ s. (it : S.IntoIter) → S.into_iter_gives s it → S.IntoIter.can_next it };
 

@@ -1,13 +1,12 @@
 //! Laws about collecting, and about lists with separators.
-ghost use Rattle.std.specs.Prelude.{◌≡◌, ◌↔◌, ◌+◌, ◌-◌, ◌*◌, ℕ, true, List, [], ◌∷◌, ◌++◌};
-ghost use Rattle.std.specs.Prelude.{Option, Some};
+ghost use Rattle.std.specs.Prelude.{◌≡◌, ◌↔◌, ◌+◌, ◌-◌, ◌*◌, ℕ, true, List, [], ◌∷◌, ◌++◌, Some};
 ghost use Rattle.std.specs.Prelude.{Result, Ok, Err, is_ok, MatchResult, IsSomeAnd, IfOk, length};
 ghost use Rattle.std.specs.Prelude.{map, slice_get};
-ghost use Rattle.std.specs.List.{flat_map, join_by, list_all};
-ghost use Rattle.ne_iter.specs.Clones.{TriesClone};
-ghost use Rattle.ne_iter.specs.Interspersed.{Interspersed, interspersed};
+ghost use Rattle.std.specs.List.{list_all};
+ghost use Rattle.ne_iter.specs.Cloned.{TriesClone};
+ghost use Rattle.ne_iter.specs.Intersperse.{Interspersed};
 
-use crate::iter::{FromNonEmptyIterator, SourceWords};
+use crate::iter::{FromNonEmptyIterator, Source};
 use ne_vec::{NEVec, Singleton};
 use std::alloc::AllocError;
 
@@ -36,9 +35,9 @@ pub fn results_make_a_vector<T: Drop, E: Drop>()
 /// each in `Ok`, and ended. What is before the last arrow is the clause `gives` of `collect`.
 pub fn results_are_read_whole<T: Drop, E: Drop, S: IntoIterator<Item = Result<T, E>>>()
     ensures { (source : S) (result : Result (List T) E)
-        → (items : List (Result T E)) × ⟦<S as SourceWords>⟧.reads (is_ok result) source items
+        → (items : List (Result T E)) × ⟦<S as Source>⟧.reads (is_ok result) source items
         × ⟦<Result<NEVec<T>, E> as FromNonEmptyIterator<Result<T, E>>>⟧.collected items result
-        → IfOk result (λ v. ⟦<S as SourceWords>⟧.reads true source (map Ok v)) }
+        → IfOk result (λ v. ⟦<S as Source>⟧.reads true source (map Ok v)) }
 {
     results_make_a_vector::<T, E>();
 }
@@ -62,11 +61,4 @@ pub fn interspersed_lists_have_their_places<T: Clone>()
         → Interspersed (TriesClone T.is_clone T.is_infallible separator) xs zs
         → (i : ℕ) (refused : AllocError) → slice_get zs i ≡ Some (Err refused)
         → length zs ≡ i + 1 }
-{}
-
-/// If `f` gives the list that an item stands for, such as the bytes of a text, then the lists of
-/// the items with a separator between each two, one after the other, are std's `join` of the items.
-pub fn interspersed_lists_are_joined<T, X>()
-    ensures { (f : T → List X) (separator : T) (xs : List T)
-        → flat_map f (interspersed separator xs) ≡ join_by f (f separator) xs }
 {}

@@ -3,9 +3,9 @@ ghost use Rattle.std.specs.Prelude.{◌≡◌, ◌≢◌, Bool, List, [], ◌++�
 ghost use Rattle.std.specs.Iterator.{ActsAsAt, Drains};
 ghost use Rattle.std.specs.List.{AllByRecursion, FoldsTo};
 ghost use Rattle.ne_vec.specs.Divisions.{IsDivision, by_first, concat};
-ghost use Rattle.ne_iter.specs.Calls.{ShownEach};
+ghost use Rattle.ne_iter.specs.Calls.{CallsEachAt};
 ghost use Rattle.ne_iter.specs.Keys.{items_of, DividesByKey, IsDividedBy};
-ghost use Rattle.ne_iter.specs.GroupingRuns.{IsOver, HasRead, GivesRun, AnswersOn};
+ghost use Rattle.ne_iter.specs.GroupingRuns.{IsOver, HasRead, GivesRun, ReturnsOn};
 ghost use Rattle.ne_iter.specs.Grouping.{Grouping, Unread};
 
 use ne_vec::laws;
@@ -23,7 +23,7 @@ pub fn groupings_stand_at_any_moment<I: Iterator, K: PartialEq, F: FnMut(&I::Ite
         (answers : List (Option (Result (List I.Item) AllocError)))
         → HasRead I.next_gives F.FnMut K.eq s f done g
         → FoldsTo (GivesRun I.next_gives F.FnMut K.eq) g answers h
-        → AnswersOn I.next_gives F.FnMut K.eq s f done answers h }
+        → ReturnsOn I.next_gives F.FnMut K.eq s f done answers h }
 {}
 
 /// A grouping that has nothing ahead has taken everything that its source gave, and has returned
@@ -32,7 +32,7 @@ pub fn whole_reading_gives_the_division<I: Iterator, K: PartialEq, F: FnMut(&I::
     ensures { (s : I) (f : F) (rs : List (List I.Item)) (g : Grouping I K I.Item F)
         → HasRead I.next_gives F.FnMut K.eq s f rs g → IsOver g
         → (ps : List (I.Item × K)) × Drains I.next_gives s (items_of ps)
-        × ShownEach F.FnMut f ps g.closure × DividesByKey K.eq ps rs }
+        × CallsEachAt F.FnMut f ps g.closure × DividesByKey K.eq ps rs }
 {}
 
 /// A grouping may be stopped at any moment: whatever items come after those that it has taken, and
@@ -66,7 +66,7 @@ pub fn runs_make_the_whole<T, K>()
 /// If the closure acts as a function, the runs are those of the items by the function's values.
 pub fn runs_by_a_function<T, K, F: FnMut(&T) -> K>(f: &F)
     ensures { (eq : K → K → Bool) (h : T → K) (ps : List (T × K)) (rs : List (List T)) (g : F)
-        → ActsAsAt F.FnMut f.now h → ShownEach F.FnMut f.now ps g → DividesByKey eq ps rs
+        → ActsAsAt F.FnMut f.now h → CallsEachAt F.FnMut f.now ps g → DividesByKey eq ps rs
         → IsDivision (by_first (λ x y. eq (h x) (h y))) (items_of ps) rs }
 {
     laws::has_one_division::<(T, K)>();

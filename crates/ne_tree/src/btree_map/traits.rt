@@ -1,11 +1,11 @@
 //! The traits of an [`NEBTreeMap`]: conversions, clones, equality as a map, collecting, printing.
 ghost use Rattle.std.specs.Prelude.{◌≡◌, ◌<◌, ◌↔◌, ◌++◌, ◌&&◌, IsTrue, MatchResult};
-ghost use Rattle.std.specs.BTreeMap.{IsEmpty, IsOrdered, btree_map_len};
+ghost use Rattle.std.specs.BTreeMap.{IsClone, IsEmpty, IsOrdered, btree_map_len, get};
 ghost use Rattle.std.specs.Cmp.{and_equiv, and_per, on_equiv, on_per};
 ghost use Rattle.std.specs.Cmp.Lexicographic.{lists_equiv, lists_per, pointwise};
 ghost use Rattle.ne_iter.specs.Collected.{IsMapOf};
-ghost use Rattle.ne_tree.specs.Clones.{IsCloneOfMap};
-ghost use Rattle.ne_tree.specs.SameMap.{IsSameMap};
+ghost use Rattle.ne_iter.specs.KeyClones.{KeepsEntries};
+ghost use Rattle.ne_iter.specs.SameMap.{IsSameMap};
 
 use super::NEBTreeMap;
 use ne_iter::{Error, FromNonEmptyIterator, IntoNonEmptyIterator, Singleton};
@@ -39,7 +39,8 @@ impl<K: Ord, V: PartialEq> PartialEq for NEBTreeMap<K, V> {
     fn eq(&self, other: &NEBTreeMap<K, V>) -> bool
         ensures eq { result ≡ pointwise (λ p q. K.eq p.0 q.0 && V.eq p.1 q.1) self.now.entries
             other.now.entries }
-        ensures same_map { IsTrue result ↔ IsSameMap K.cmp V.eq self.now other.now }
+        ensures same_map { IsTrue result
+            ↔ IsSameMap V.eq (get K.cmp self.now) (get K.cmp other.now) }
     {
         // The contract of `len` says that the keys ascend.
         let _lens = (self.inner.len(), other.inner.len());
@@ -81,7 +82,8 @@ impl<K: Ord + Drop, V: Drop> TryFrom<BTreeMap<K, V>> for NEBTreeMap<K, V> {
 
 /// Calls the inherent method `clone`.
 impl<K: Ord + Clone, V: Clone> Clone for NEBTreeMap<K, V> {
-    ghost is_clone = { IsCloneOfMap K.is_clone V.is_clone };
+    ghost is_clone = { λ m n. IsClone K.is_clone V.is_clone m n
+        × KeepsEntries K.is_clone V.is_clone m.entries n.entries };
 
     fn clone(&self) -> Result<NEBTreeMap<K, V>, AllocError> {
         NEBTreeMap::clone(self)

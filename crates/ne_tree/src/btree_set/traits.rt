@@ -1,10 +1,10 @@
 //! The traits of an [`NEBTreeSet`]: conversions, clones, equality as a set, collecting, printing.
 ghost use Rattle.std.specs.Prelude.{◌≡◌, ◌<◌, ◌↔◌, ◌++◌, IsTrue, MatchResult};
-ghost use Rattle.std.specs.BTreeSet.{IsEmpty, IsOrdered, IsSameSet, btree_set_len};
+ghost use Rattle.std.specs.BTreeSet.{IsClone, IsEmpty, IsOrdered, IsSameSet, btree_set_len};
 ghost use Rattle.std.specs.Cmp.{on_equiv, on_per};
 ghost use Rattle.std.specs.Cmp.Lexicographic.{lists_equiv, lists_per, pointwise};
 ghost use Rattle.ne_iter.specs.Collected.{IsSetOf};
-ghost use Rattle.ne_tree.specs.Clones.{IsCloneOfSet};
+ghost use Rattle.ne_iter.specs.KeyClones.{KeepsItems};
 
 use super::NEBTreeSet;
 use ne_iter::{Error, FromNonEmptyIterator, IntoNonEmptyIterator, Singleton};
@@ -38,12 +38,12 @@ impl<T: Ord> PartialEq for NEBTreeSet<T> {
         ensures eq { result ≡ pointwise T.eq self.now.keys other.now.keys }
         ensures same_set { IsTrue result ↔ IsSameSet T.cmp self.now other.now }
     {
-        equal_walks(self.inner.iter(), other.inner.iter())
+        equal_iterators(self.inner.iter(), other.inner.iter())
     }
 }
 
 // Returns whether the two iterators have equal items at each place and end together.
-fn equal_walks<'a, T: Ord>(mine: btree_set::Iter<'a, T>, theirs: btree_set::Iter<'a, T>) -> bool
+fn equal_iterators<'a, T: Ord>(mine: btree_set::Iter<'a, T>, theirs: btree_set::Iter<'a, T>) -> bool
     ensures { result ≡ pointwise T.eq mine.entry theirs.entry }
 {
     let mut mine = mine;
@@ -114,7 +114,7 @@ impl<T: Ord + Drop> TryFrom<BTreeSet<T>> for NEBTreeSet<T> {
 
 /// Calls the inherent method `clone`.
 impl<T: Ord + Clone> Clone for NEBTreeSet<T> {
-    ghost is_clone = { IsCloneOfSet T.is_clone };
+    ghost is_clone = { λ s t. IsClone T.is_clone s t × KeepsItems T.is_clone s.keys t.keys };
 
     fn clone(&self) -> Result<NEBTreeSet<T>, AllocError> {
         NEBTreeSet::clone(self)

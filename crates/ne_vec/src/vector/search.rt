@@ -5,11 +5,11 @@
 //! can be called with any value, while these need only one that can be called with the items of the
 //! slice.
 ghost use Rattle.std.specs.Prelude.{◌≡◌, ◌<◌, ◌≤◌, Bool, true, false, length};
-ghost use Rattle.std.specs.List.Sorted.{IsBinarySearchResult, IsSearchInRange};
-ghost use Rattle.std.specs.List.Sorted.{IsPartitionedBy, IsPartitionPoint};
+ghost use Rattle.std.specs.List.Sorted.{IsBinarySearchResult, IsSearchInRange, IsPartitionedBy};
+ghost use Rattle.std.specs.List.Sorted.{IsPartitionPoint};
 ghost use Rattle.std.specs.Fn.{ComputesKey};
 ghost use Rattle.std.specs.declared.cmp.Ordering.{Ordering};
-ghost use Rattle.ne_vec.specs.Calls.{CallableAtItems};
+ghost use Rattle.ne_vec.specs.Searches.{CallableAtItems};
 
 use super::NEVec;
 use std::cmp::Ordering;
@@ -81,7 +81,7 @@ impl<T> NEVec<T> {
         binary_search_by_key(self.inner.as_slice(), b, f)
     }
 
-    /// Returns how many items at the front meet `pred`.
+    /// Returns how many of the first items meet `pred`.
     ///
     /// `pred` must be callable with the vector's items, in any order. The result has this meaning
     /// if what `pred` returns depends on the item alone, and no item that meets `pred` comes after

@@ -4,8 +4,8 @@ ghost use Rattle.std.specs.Prelude.{slice_get};
 ghost use Rattle.std.specs.Cmp.Lexicographic.{pointwise, slice_cmp, slice_partial_cmp, lists_equiv};
 ghost use Rattle.std.specs.Cmp.Lexicographic.{lists_agrees, lists_total, lists_ties, lists_po};
 ghost use Rattle.std.specs.Cmp.Lexicographic.{lists_per};
-ghost use Rattle.std.specs.Hash as fed;
 ghost use Rattle.std.specs.Hash.{items_Alike};
+ghost use Rattle.std.specs.Hash as fed;
 
 use super::NEVec;
 use crate::{Error, Singleton};
@@ -84,7 +84,7 @@ impl<T> Index<usize> for NEVec<T> {
 /// ```
 impl<T> IndexMut<usize> for NEVec<T> {
     ghost use Rattle.std.specs.Borrow.{sem};
-    ghost use Rattle.ne_vec.specs.Lends.{LendsItem};
+    ghost use Rattle.ne_vec.specs.VectorLends.{LendsItem};
 
     fn index_mut(&mut self, index: usize) -> &mut T
         requires { index ≤ length self.old - 1 }

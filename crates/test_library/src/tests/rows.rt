@@ -2,7 +2,7 @@
 ghost use Rattle.std.specs.Prelude.{false, refl};
 
 use super::{list, prints, same};
-use nonempty_collections::iter::SourceWords;
+use nonempty_collections::iter::Source;
 use nonempty_collections::{
     IntoNonEmptyIterator, NEBTreeMap, NEBTreeSet, NESlice, NEVec, NonEmptyIterator,
 };
@@ -16,7 +16,7 @@ fn have_lengths<'a, R: NonEmptyIterator<Item = NESlice<'a, u32>>>(
     runs: R,
     wanted: &[usize],
 ) -> Result<(), Fail>
-    requires { ⟦<R as SourceWords>⟧.ends runs }
+    requires { ⟦<R as Source>⟧.ends runs }
 {
     let lengths: NEVec<usize> = runs.map(|run| run.len().get()).collect(alloc)?;
     same(lengths.as_slice(), wanted)

@@ -1,9 +1,10 @@
 //! Hashed maps and sets.
 ghost use Rattle.std.specs.Prelude.{◌≡◌, ◌+◌, ◌++◌, ◌↔◌, [], ◌∷◌, map, nat_eq, IfOk, IsTrue};
 ghost use Rattle.std.specs.Prelude.{OnOk, Some};
+ghost use Rattle.std.specs.HashMap.{get};
 ghost use Rattle.std.specs.HashSet.{IsSameSet, IsUnion};
 ghost use Rattle.ne_iter.specs.Collected.{IsMapOf, IsSetOf};
-ghost use Rattle.ne_hash.specs.SameMap.{IsSameMap};
+ghost use Rattle.ne_iter.specs.SameMap.{IsSameMap};
 
 use super::two;
 use nonempty_collections::{IntoNonEmptyIterator, NEMap, NESet, NEVec, NonEmptyIterator};
@@ -35,7 +36,7 @@ pub fn extended(map: &mut NEMap<u32, u32>, more: NEVec<(u32, u32)>) -> Result<()
 
 /// Returns whether they are the same map.
 pub fn same(a: &NEMap<u32, u32>, b: &NEMap<u32, u32>) -> bool
-    ensures { IsTrue result ↔ IsSameMap nat_eq nat_eq a.now b.now }
+    ensures { IsTrue result ↔ IsSameMap nat_eq (get nat_eq a.now) (get nat_eq b.now) }
 {
     *a == *b
 }

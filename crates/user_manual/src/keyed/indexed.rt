@@ -4,7 +4,7 @@ ghost use Rattle.std.specs.Prelude.{All, IsTrue, OnOk, Some, true};
 ghost use Rattle.indexmap.specs.IndexMap.{get, hasher_of};
 ghost use Rattle.indexmap.specs.IndexSet.{union, IsSameSet};
 ghost use Rattle.ne_iter.specs.KeyList.{key_list, IsKeyListMapOf};
-ghost use Rattle.ne_index.specs.SameMap.{IsSameMap};
+ghost use Rattle.ne_iter.specs.SameMap.{IsSameMap};
 
 use super::two;
 use indexmap::{IndexMap, IndexSet};
@@ -86,7 +86,7 @@ pub fn extended(map: &mut NEIndexMap<u32, u32>, more: NEVec<(u32, u32)>) -> Resu
 
 /// Returns whether they are the same map.
 pub fn same(a: &NEIndexMap<u32, u32>, b: &NEIndexMap<u32, u32>) -> bool
-    ensures { IsTrue result ↔ IsSameMap nat_eq nat_eq a.now b.now }
+    ensures { IsTrue result ↔ IsSameMap nat_eq (get nat_eq a.now) (get nat_eq b.now) }
 {
     *a == *b
 }

@@ -1,11 +1,11 @@
 //! Tree maps and sets.
 ghost use Rattle.std.specs.Prelude.{◌≡◌, ◌+◌, ◌≤◌, ◌≢◌, ◌/◌, ◌++◌, ◌↔◌, [], ◌∷◌, map, nat_eq};
 ghost use Rattle.std.specs.Prelude.{All, Contains, IfOk, IsTrue, OnOk, Some};
-ghost use Rattle.std.specs.BTreeMap.{values};
+ghost use Rattle.std.specs.BTreeMap.{get, values};
 ghost use Rattle.std.specs.BTreeSet.{union, IsSameSet};
 ghost use Rattle.std.specs.Ordering.{nat_cmp};
 ghost use Rattle.ne_iter.specs.Collected.{IsMapOf, IsSetOf};
-ghost use Rattle.ne_tree.specs.SameMap.{IsSameMap};
+ghost use Rattle.ne_iter.specs.SameMap.{IsSameMap};
 
 use super::two;
 use nonempty_collections::{IntoNonEmptyIterator, NEBTreeMap, NEBTreeSet, NEVec, NonEmptyIterator};
@@ -93,7 +93,7 @@ pub fn extended(map: &mut NEBTreeMap<u32, u32>, more: NEVec<(u32, u32)>) -> Resu
 
 /// Returns whether they are the same map.
 pub fn same(a: &NEBTreeMap<u32, u32>, b: &NEBTreeMap<u32, u32>) -> bool
-    ensures { IsTrue result ↔ IsSameMap nat_cmp nat_eq a.now b.now }
+    ensures { IsTrue result ↔ IsSameMap nat_eq (get nat_cmp a.now) (get nat_cmp b.now) }
 {
     *a == *b
 }

@@ -1,6 +1,6 @@
+use Rattle.ne_hash.proofs.map.of_one_key.Goals as goal
 use Rattle.std.proofs.Common.{rules}
 use Rattle.ne_hash.proofs.Single.{one_entry}
-use Rattle.ne_hash.proofs.map.of_one_key.Goals as goal
 
 pub returns-clause-entries : goal.returns-clause-entries
 returns-clause-entries g c =

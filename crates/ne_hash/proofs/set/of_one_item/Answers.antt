@@ -1,6 +1,6 @@
+use Rattle.ne_hash.proofs.set.of_one_item.Goals as goal
 use Rattle.std.proofs.Common.{rules}
 use Rattle.ne_hash.proofs.Single.{one_item}
-use Rattle.ne_hash.proofs.set.of_one_item.Goals as goal
 
 pub returns-clause-keys : goal.returns-clause-keys
 returns-clause-keys g c =

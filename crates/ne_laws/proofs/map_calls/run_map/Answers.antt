@@ -1,8 +1,8 @@
+use Rattle.ne_laws.proofs.map_calls.run_map.Goals as goal
 use Rattle.std.proofs.Common.{◌∷◌, [], ◌++◌, sym}
 use Rattle.std.specs.Vec.Iter.{into_iter_items}
 use Rattle.ne_laws.proofs.CallsSoFar.{as_many, left_after, on_err}
 use Rattle.ne_laws.proofs.MapCalls.{one_more}
-use Rattle.ne_laws.proofs.map_calls.run_map.Goals as goal
 
 pub loop-call-preserved : goal.loop-call-preserved
 loop-call-preserved g c = record {

@@ -1,8 +1,8 @@
+use Rattle.ne_laws.proofs.map_calls.run_map.Given as goal
 use Rattle.std.proofs.Common.{◌≡◌, ◌++◌, length}
 use Rattle.std.specs.Vec.Iter.{into_iter_items}
 use Rattle.ne_laws.specs.MapCalls.{RunsTo}
 use Rattle.ne_laws.specs.Maps.{IsMap}
-use Rattle.ne_laws.proofs.map_calls.run_map.Given as goal
 
 abbrev pub invariant-loop-call : goal.invariant-loop-call
 invariant-loop-call g l = record {

@@ -1,5 +1,5 @@
-use Rattle.std.proofs.Common.{refl}
 use Rattle.ne_laws.proofs.vector_calls.answer.Goals as goal
+use Rattle.std.proofs.Common.{refl}
 
 pub returns-in-Len-clause-step : goal.returns-in-Len-clause-step
 returns-in-Len-clause-step g c =

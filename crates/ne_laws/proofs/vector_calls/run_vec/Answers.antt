@@ -1,8 +1,8 @@
+use Rattle.ne_laws.proofs.vector_calls.run_vec.Goals as goal
 use Rattle.std.proofs.Common.{rules, ◌<◌, ◌∷◌, [], ◌++◌, length, sym}
 use Rattle.std.specs.Vec.Iter.{into_iter_items}
 use Rattle.ne_laws.proofs.CallsSoFar.{as_many, left_after, on_err}
 use Rattle.ne_laws.proofs.VectorCalls.{one_more}
-use Rattle.ne_laws.proofs.vector_calls.run_vec.Goals as goal
 
 pub loop-call-preserved : goal.loop-call-preserved
 loop-call-preserved g c =

@@ -1,7 +1,7 @@
+use Rattle.ne_laws.proofs.vector_calls.run_vec.Given as goal
 use Rattle.std.proofs.Common.{◌≡◌, ◌<◌, ◌++◌, length}
 use Rattle.std.specs.Vec.Iter.{into_iter_items}
 use Rattle.ne_laws.specs.VectorCalls.{RunsTo}
-use Rattle.ne_laws.proofs.vector_calls.run_vec.Given as goal
 
 abbrev pub invariant-loop-call : goal.invariant-loop-call
 invariant-loop-call g l = record {

@@ -1,7 +1,7 @@
+use Rattle.ne_products.proofs.laws.cartesian_product_ends.Goals as goal
 use Rattle.ne_products.specs.Product.{left_of, product_second, restart_of, right_of}
 use Rattle.ne_products.proofs.ProductProgress.{fresh_finite}
 use Rattle.ne_products.proofs.Restarted.{each_some, restarts}
-use Rattle.ne_products.proofs.laws.cartesian_product_ends.Goals as goal
 
 pub returns : goal.returns
 returns g c product left right again it made =

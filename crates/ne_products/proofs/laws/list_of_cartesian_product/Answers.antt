@@ -1,6 +1,6 @@
+use Rattle.ne_products.proofs.laws.list_of_cartesian_product.Goals as goal
 use Rattle.ne_products.specs.Product.{product_second}
 use Rattle.ne_products.proofs.ProductLists.{product_list}
-use Rattle.ne_products.proofs.laws.list_of_cartesian_product.Goals as goal
 
 pub returns : goal.returns
 returns g c product xs ys gives again sure exact first second =

@@ -1,8 +1,8 @@
+use Rattle.ne_runs.proofs.lines.first_line.Goals as goal
 use Rattle.std.proofs.Common.{◌≤◌, ◌+◌, ◌-◌, length, drop, sym, arith, add-one, eqb}
 use Rattle.std.proofs.lemmas.List.{take_all, length-drop}
 use Rattle.std.proofs.lemmas.List.Quantifiers.{position-Some}
 use Rattle.ne_runs.proofs.FirstLine.{lines_of-at_feed, lines_of-no_feed, no_line_feed}
-use Rattle.ne_runs.proofs.lines.first_line.Goals as goal
 
 pub returns-in-Some-clause-lines : goal.returns-in-Some-clause-lines
 returns-in-Some-clause-lines c =

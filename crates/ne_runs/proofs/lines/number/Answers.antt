@@ -1,6 +1,6 @@
+use Rattle.ne_runs.proofs.lines.number.Goals as goal
 use Rattle.std.proofs.Common.{arith}
 use Rattle.ne_runs.proofs.Numbers.{nine_digits_fit}
-use Rattle.ne_runs.proofs.lines.number.Goals as goal
 
 pub overflow_mul-value : goal.overflow_mul-value
 overflow_mul-value c =

@@ -1,7 +1,7 @@
+use Rattle.ne_runs.proofs.lines.number.Given as goal
 use Rattle.std.proofs.Common.{◌≡◌, ◌^◌, ◌<◌, drop}
 use Rattle.std.specs.Str.{all_ascii_digits}
 use Rattle.std.specs.Str.Parse.{digits_value, digits_value_after}
-use Rattle.ne_runs.proofs.lines.number.Given as goal
 
 -- The bytes that are left decide whether all are digits, and continue from the value so far.
 abbrev pub invariant-loop-byte : goal.invariant-loop-byte

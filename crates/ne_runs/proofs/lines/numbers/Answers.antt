@@ -1,5 +1,5 @@
-use Rattle.std.proofs.Common.{arith}
 use Rattle.ne_runs.proofs.lines.numbers.Goals as goal
+use Rattle.std.proofs.Common.{arith}
 
 pub returns-clause-fits : goal.returns-clause-fits
 returns-clause-fits c = omega (

@@ -1,7 +1,7 @@
+use Rattle.ne_runs.proofs.lines.numbers.Given as goal
 use Rattle.std.proofs.Common.{◌≡◌, ◌+◌, ◌*◌, ◌++◌, ◌≤◌, length, sum, vec_len}
 use Rattle.std.specs.List.{position_or_len}
 use Rattle.ne_runs.specs.Lines.{lines_of, numbers_of, is_bad}
-use Rattle.ne_runs.proofs.lines.numbers.Given as goal
 
 -- The numbers so far and those of the rest are all the numbers. None of the numbers so far is from
 -- a bad line, and each of them fits in 32 bits.

@@ -1,5 +1,5 @@
-use Rattle.ne_runs.proofs.Numbers.{number_of-weighed, is_number-decimal, number_of-decimal}
 use Rattle.ne_runs.proofs.lines.numbers_are_decimal.Goals as goal
+use Rattle.ne_runs.proofs.Numbers.{number_of-weighed, is_number-decimal, number_of-decimal}
 
 pub returns : goal.returns
 returns c = record {

@@ -1,7 +1,7 @@
+use Rattle.ne_runs.proofs.texts.equal_text.Goals as goal
 use Rattle.std.proofs.Common.{rules}
 use Rattle.std.proofs.lemmas.Result.{IfOk-weaker}
 use Rattle.std.specs.Prelude.{nat_eq}
-use Rattle.ne_runs.proofs.texts.equal_text.Goals as goal
 
 pub returns : goal.returns
 returns c = IfOk-weaker c.text_by_first.result _ _ (λ text says.

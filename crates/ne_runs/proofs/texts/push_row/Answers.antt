@@ -1,6 +1,6 @@
+use Rattle.ne_runs.proofs.texts.push_row.Goals as goal
 use Rattle.std.proofs.Common.{lit<}
 use Rattle.ne_runs.proofs.Rows.{row_ended}
-use Rattle.ne_runs.proofs.texts.push_row.Goals as goal
 
 pub returns : goal.returns
 returns c =

@@ -1,10 +1,10 @@
+use Rattle.ne_runs.proofs.texts.push_run.Goals as goal
 use Rattle.std.proofs.Common.{lit<, sym, subst, ◌≡◌, ◌∷◌, ◌++◌, string_bytes, OnOk, drop, take}
 use Rattle.std.proofs.Common.{length, ◌-◌, ◌∙◌, arith, List, ℕ, [], ap}
 use Rattle.std.specs.Prelude.{slice_get, Some}
 use Rattle.std.proofs.Math.Seq.{take-length}
 use Rattle.ne_runs.specs.Modes.{row_text}
 use Rattle.ne_runs.proofs.Rows.{row_ended}
-use Rattle.ne_runs.proofs.texts.push_run.Goals as goal
 
 -- A list that has a first item is that item followed by the others.
 first_and_rest : (xs : List ℕ) (first : ℕ) → slice_get xs 0 ≡ Some first

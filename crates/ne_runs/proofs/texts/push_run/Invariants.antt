@@ -1,7 +1,7 @@
+use Rattle.ne_runs.proofs.texts.push_run.Given as goal
 use Rattle.std.proofs.Common.{◌≡◌, ◌++◌, drop, string_bytes}
 use Rattle.std.specs.List.{flat_map}
 use Rattle.ne_runs.proofs.Rows.{behind}
-use Rattle.ne_runs.proofs.texts.push_run.Given as goal
 
 -- The text so far, followed by the numbers that are left, is the whole text.
 abbrev pub invariant-loop-number : goal.invariant-loop-number

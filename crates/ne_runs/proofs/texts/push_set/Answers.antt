@@ -1,8 +1,8 @@
+use Rattle.ne_runs.proofs.texts.push_set.Goals as goal
 use Rattle.std.proofs.Common.{lit<, sym, subst, ap, ◌≡◌, ◌++◌, ◌∙◌, string_bytes, OnOk}
 use Rattle.std.specs.List.{flat_map}
 use Rattle.ne_runs.specs.Modes.{row_text}
 use Rattle.ne_runs.proofs.Rows.{behind, row_written, walked}
-use Rattle.ne_runs.proofs.texts.push_set.Goals as goal
 
 pub returns : goal.returns
 returns c =

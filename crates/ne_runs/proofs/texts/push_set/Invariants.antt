@@ -1,7 +1,7 @@
+use Rattle.ne_runs.proofs.texts.push_set.Given as goal
 use Rattle.std.proofs.Common.{◌≡◌, ◌++◌, string_bytes}
 use Rattle.std.specs.List.{flat_map}
 use Rattle.ne_runs.proofs.Rows.{behind}
-use Rattle.ne_runs.proofs.texts.push_set.Given as goal
 
 -- The text is the initial text followed by the numbers so far.
 abbrev pub invariant-loop-number : goal.invariant-loop-number

@@ -1,5 +1,5 @@
-use Rattle.ne_runs.proofs.ModeRows.{has_rows, only_rows}
 use Rattle.ne_runs.proofs.texts.rows_are_one.Goals as goal
+use Rattle.ne_runs.proofs.ModeRows.{has_rows, only_rows}
 
 pub returns : goal.returns
 returns c =

@@ -1,5 +1,5 @@
-use Rattle.std.proofs.Common.{◌∷◌, [], rules}
 use Rattle.ne_runs.proofs.texts.stats_text.Goals as goal
+use Rattle.std.proofs.Common.{◌∷◌, [], rules}
 
 pub returns : goal.returns
 returns c = record {

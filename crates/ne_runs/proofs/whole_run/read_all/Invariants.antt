@@ -1,6 +1,6 @@
+use Rattle.ne_runs.proofs.whole_run.read_all.Given as goal
 use Rattle.std.proofs.Common.{◌≡◌, ◌-◌, ◌≤◌, false, vec_len}
 use Rattle.std.specs.Io.KnownBytes.{Consumes}
-use Rattle.ne_runs.proofs.whole_run.read_all.Given as goal
 
 abbrev pub invariant-loop-chunk : goal.invariant-loop-chunk
 invariant-loop-chunk g l = record {

@@ -1,6 +1,6 @@
+use Rattle.ne_runs.proofs.whole_run.write_all.Goals as goal
 use Rattle.std.proofs.Common.{rules}
 use Rattle.ne_runs.proofs.Writes.{takes_more}
-use Rattle.ne_runs.proofs.whole_run.write_all.Goals as goal
 
 pub loop-rest-preserved : goal.loop-rest-preserved
 loop-rest-preserved g c = record {

@@ -1,6 +1,6 @@
-use Rattle.std.proofs.Common.{◌≡◌, false, length}
-use Rattle.ne_runs.specs.Runs.{TakesPart}
 use Rattle.ne_runs.proofs.whole_run.write_all.Given as goal
+use Rattle.std.proofs.Common.{◌≡◌, false, length}
+use Rattle.ne_runs.specs.ProgramRuns.{TakesPart}
 
 -- So far a first part of the text was taken, and no call failed.
 abbrev pub invariant-loop-rest : goal.invariant-loop-rest

@@ -1,5 +1,5 @@
-use Rattle.ne_tree.proofs.Collect.{one_map}
 use Rattle.ne_tree.proofs.laws.maps_one_by_one_are_collected.Goals as goal
+use Rattle.ne_tree.proofs.TreeInserts.{one_map}
 
 pub returns-clause-same_map : goal.returns-clause-same_map
 returns-clause-same_map g c = λ pairs m n a b.

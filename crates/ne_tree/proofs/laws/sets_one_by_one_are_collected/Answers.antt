@@ -1,5 +1,5 @@
-use Rattle.ne_tree.proofs.Collect.{one_set}
 use Rattle.ne_tree.proofs.laws.sets_one_by_one_are_collected.Goals as goal
+use Rattle.ne_tree.proofs.TreeInserts.{one_set}
 
 pub returns-clause-same_set : goal.returns-clause-same_set
 returns-clause-same_set g c = λ items s t a b.

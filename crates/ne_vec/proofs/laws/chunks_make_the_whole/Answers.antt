@@ -1,5 +1,5 @@
-use Rattle.ne_vec.proofs.Chunked.{chunk_there, chunk_is, chunks_joined, chunks_fit}
 use Rattle.ne_vec.proofs.laws.chunks_make_the_whole.Goals as goal
+use Rattle.ne_vec.proofs.Chunked.{chunk_there, chunk_is, chunks_joined, chunks_fit}
 
 pub returns-clause-count : goal.returns-clause-count
 returns-clause-count g c size xs j some = chunk_there size xs j some

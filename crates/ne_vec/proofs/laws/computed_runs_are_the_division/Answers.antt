@@ -1,6 +1,6 @@
+use Rattle.ne_vec.proofs.laws.computed_runs_are_the_division.Goals as goal
 use Rattle.std.specs.Prelude.{[], ◌∷◌}
 use Rattle.ne_vec.proofs.Divisions.{divides, divide_only}
-use Rattle.ne_vec.proofs.laws.computed_runs_are_the_division.Goals as goal
 
 pub returns-clause-divides : goal.returns-clause-divides
 returns-clause-divides g c place same [] = divides (place same) []

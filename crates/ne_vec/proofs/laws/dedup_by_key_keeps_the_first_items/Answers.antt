@@ -1,6 +1,6 @@
+use Rattle.ne_vec.proofs.laws.dedup_by_key_keeps_the_first_items.Goals as goal
 use Rattle.std.proofs.Common.{ap, ◌∙◌, Bool}
 use Rattle.ne_vec.specs.Divisions.{by_first, heads}
-use Rattle.ne_vec.proofs.laws.dedup_by_key_keeps_the_first_items.Goals as goal
 
 pub returns : goal.returns
 returns g c read xs ys runs keeps divides =

@@ -1,5 +1,5 @@
-use Rattle.ne_vec.proofs.Compared.{differs, shorter, longer, same_list}
 use Rattle.ne_vec.proofs.laws.lists_are_in_lexicographic_order.Goals as goal
+use Rattle.ne_vec.proofs.Compared.{differs, shorter, longer, same_list}
 
 pub returns-clause-differs : goal.returns-clause-differs
 returns-clause-differs g c front v w x y n = differs g.T.Ord.cmp g.met.T.Ord.total front v w x y n

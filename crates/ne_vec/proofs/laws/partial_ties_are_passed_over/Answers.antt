@@ -1,6 +1,6 @@
+use Rattle.ne_vec.proofs.laws.partial_ties_are_passed_over.Goals as goal
 use Rattle.ne_vec.proofs.Compared.{partial_ties_differ, partial_ties_shorter, partial_ties_longer}
 use Rattle.ne_vec.proofs.Compared.{partial_ties_equal}
-use Rattle.ne_vec.proofs.laws.partial_ties_are_passed_over.Goals as goal
 
 pub returns-clause-differs : goal.returns-clause-differs
 returns-clause-differs g c front other v w x y h n =

@@ -1,5 +1,5 @@
-use Rattle.ne_vec.proofs.Compared.{ties_differ, ties_shorter, ties_longer, ties_equal}
 use Rattle.ne_vec.proofs.laws.ties_are_passed_over.Goals as goal
+use Rattle.ne_vec.proofs.Compared.{ties_differ, ties_shorter, ties_longer, ties_equal}
 
 pub returns-clause-differs : goal.returns-clause-differs
 returns-clause-differs g c front other v w x y h n = ties_differ g.T.Ord.cmp front other v w x y h n

@@ -1,9 +1,9 @@
+use Rattle.user_generic.proofs.numbering.numbered.Goals as goal
 use Rattle.std.proofs.Common.{subst, ap, ◌∙◌, length, ltb, ◌&&◌, ◌≤◌}
 use Rattle.std.specs.Int.NonZero.{non_zero_usize_get}
 use Rattle.std.specs.List.{enumerate_from}
 use Rattle.std.proofs.lemmas.List.FromFn.{length-enumerate_from}
 use Rattle.std.proofs.lemmas.Result.{IfOk-weaker}
-use Rattle.user_generic.proofs.numbering.numbered.Goals as goal
 
 -- What was collected, back through the adapters to the two sources.
 pub returns : goal.returns

@@ -1,14 +1,14 @@
+use Rattle.user_generic.proofs.runs.runs_of_answers.Goals as goal
 use Rattle.std.proofs.Common.{rules, true, refl, subst}
 use Rattle.std.proofs.lemmas.Result.{IfOk-weaker}
-use Rattle.ne_iter.specs.Gives.{and_held}
+use Rattle.ne_iter.specs.GroupBy.{and_held}
 use Rattle.ne_iter.specs.Sources.{Reads}
 use Rattle.ne_iter.specs.Keys.{items_of, DividesByKey}
-use Rattle.user_generic.proofs.runs.runs_of_answers.Goals as goal
 
 -- From the runs collected back to what `map` returned, and to the source's items.
 pub returns : goal.returns
 returns g c = IfOk-weaker c.in_ok-collect.field-0 _ _ (λ v h.
-    let runs = c.group_by.ensures.gives true v h in
+    let runs = c.group_by.ensures.gives.0 true v h in
     let end = runs.over refl in
     let mapped = c.map.ensures.gives runs.ended (items_of runs.drawn) runs.read in record {
       items = mapped.items;

@@ -1,10 +1,10 @@
+use Rattle.user_generic.proofs.two_collections.parted.Goals as goal
 use Rattle.std.proofs.Common.{subst, sym, ap, ◌∙◌, length, map, ◌<◌, ◌≤◌, true}
 use Rattle.std.specs.Int.NonZero.{non_zero_usize_get}
 use Rattle.std.proofs.lemmas.Result.{IfOk-weaker}
 use Rattle.std.proofs.lemmas.Slice.Zip.{firsts-zip, seconds-zip}
 use Rattle.std.proofs.lemmas.List.{length-map}
 use Rattle.std.proofs.lemmas.Bool.{lt-ltb}
-use Rattle.user_generic.proofs.two_collections.parted.Goals as goal
 
 -- The two collections, back through the adapters to the two sources.
 pub returns : goal.returns

@@ -1,6 +1,6 @@
+use Rattle.user_queries.proofs.builder.push_joined.Given as goal
 use Rattle.std.proofs.Common.{◌≡◌, ◌++◌, take, string_bytes}
 use Rattle.std.specs.List.{flat_map}
-use Rattle.user_queries.proofs.builder.push_joined.Given as goal
 
 -- the parts so far, each after the separator
 abbrev pub invariant-loop-part : goal.invariant-loop-part

@@ -1,7 +1,7 @@
+use Rattle.user_queries.proofs.description.query.Goals as goal
 use Rattle.std.proofs.Common.{[], ◌∷◌, ◌++◌, filter_map, ap, ap₂, sym, ◌∙◌, append_assoc}
 use Rattle.user_queries.specs.Descriptions.{table_of, column_of, condition_of, all_of}
 use Rattle.user_queries.proofs.Described.{passes, gains, one_more, two_tables}
-use Rattle.user_queries.proofs.description.query.Goals as goal
 
 pub returns-in-Table : goal.returns-in-Table
 returns-in-Table c =

@@ -1,6 +1,6 @@
+use Rattle.user_queries.proofs.description.query.Given as goal
 use Rattle.std.proofs.Common.{◌≡◌, ◌++◌, [], filter_map}
 use Rattle.user_queries.specs.Descriptions.{table_of, column_of, condition_of, all_of}
-use Rattle.user_queries.proofs.description.query.Given as goal
 
 -- the query has what the first two lines and those so far name, and no other table was named
 abbrev pub invariant-loop-line : goal.invariant-loop-line

@@ -1,9 +1,9 @@
+use Rattle.user_report.proofs.report.report.Goals as goal
 use Rattle.std.proofs.Common.{◌<◌, ◌^◌, subst, sym}
 use Rattle.std.proofs.lemmas.Result.{IfOk-weaker}
 use Rattle.user_report.specs.Reports.{AreSummaries, IsReport}
 use Rattle.user_report.proofs.Groups.{groups_fit, sums_stay}
-use Rattle.user_report.proofs.Grouped.{is_report}
-use Rattle.user_report.proofs.report.report.Goals as goal
+use Rattle.user_report.proofs.GroupsOfRows.{is_report}
 
 pub summaries-requires : goal.summaries-requires
 summaries-requires c =

@@ -1,8 +1,8 @@
+use Rattle.user_schedule.proofs.schedule.put.Goals as goal
 use Rattle.std.proofs.Common.{◌≡◌, Bool, true, false, cond, List, [], ◌∷◌, refl, ap, sym, ◌∙◌}
 use Rattle.std.proofs.Common.{nat_eq}
 use Rattle.std.specs.Prelude.{Option, Some, None}
 use Rattle.std.specs.Map.{lookup, set_value}
-use Rattle.user_schedule.proofs.schedule.put.Goals as goal
 
 -- a key that is not there gets no value
 absent_at : {K X : Type 0} (b : Bool) (e : K × X) (es rest : List (K × X)) (found : Option X)

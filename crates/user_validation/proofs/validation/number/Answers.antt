@@ -1,7 +1,7 @@
+use Rattle.user_validation.proofs.validation.number.Goals as goal
 use Rattle.std.proofs.Common.{◌∙◌}
 use Rattle.std.specs.Str.Parse.{digits_value, without_leading_plus}
 use Rattle.user_validation.proofs.Numerals.{value_by_test, passes_numeral, numeral_passes}
-use Rattle.user_validation.proofs.validation.number.Goals as goal
 
 pub returns : goal.returns
 returns c =

@@ -1,8 +1,8 @@
+use Rattle.user_validation.proofs.validation.validate.Goals as goal
 use Rattle.std.proofs.Common.{ap, ◌∙◌, map}
 use Rattle.std.specs.Prelude.{Ok}
 use Rattle.user_validation.specs.Fields.{readings}
 use Rattle.user_validation.proofs.Readings.{are_numbers, some_reading}
-use Rattle.user_validation.proofs.validation.validate.Goals as goal
 
 pub unreachable-requires : goal.unreachable-requires
 unreachable-requires c =

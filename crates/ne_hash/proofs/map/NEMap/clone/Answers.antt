@@ -1,13 +1,9 @@
-use Rattle.std.proofs.Common.{rules}
-use Rattle.ne_hash.proofs.Cloned.{clone_of_map, nonempty_clone}
 use Rattle.ne_hash.proofs.map.NEMap.clone.Goals as goal
+use Rattle.ne_iter.specs.KeyCloneLaws.{keeps_entries, nonempty_clones}
 
 pub returns-clause-clones : goal.returns-clause-clones
-returns-clause-clones g c =
-    clone_of_map g.K.Clone.is_clone g.V.Clone.is_clone c.args.self.now c.in_ok-inner.inner
-    (search rules)
+returns-clause-clones g c = let made = c.in_ok-inner.ensures.cases in
+    rw (← c.self.view_is) (made, keeps_entries _ _ _ _ made)
 
 pub returns-clause-nonempty : goal.returns-clause-nonempty
-returns-clause-nonempty g c =
-    nonempty_clone g.K.Clone.is_clone g.V.Clone.is_clone c.args.self.now c.in_ok-inner.inner
-    (search rules) (search rules)
+returns-clause-nonempty g c = nonempty_clones _ _ _ c.in_ok-inner.ensures.cases c.self.invariant

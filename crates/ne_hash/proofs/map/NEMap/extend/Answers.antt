@@ -1,8 +1,8 @@
+use Rattle.ne_hash.proofs.map.NEMap.extend.Goals as goal
 use Rattle.std.specs.HashMap.{InsertsAll}
 use Rattle.ne_iter.specs.Collected.{IsMapOf}
 use Rattle.ne_iter.specs.ExtendListLaws.{extends_by_list}
-use Rattle.ne_hash.proofs.Collect.{map_of-inserts_all, nonempty-inserts_all}
-use Rattle.ne_hash.proofs.map.NEMap.extend.Goals as goal
+use Rattle.ne_hash.proofs.HashInserts.{map_of-inserts_all, nonempty-inserts_all}
 
 pub invariant_of-self : goal.invariant_of-self
 invariant_of-self g c = let r = c.extend.ensures.ran in

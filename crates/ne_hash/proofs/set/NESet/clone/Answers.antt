@@ -1,12 +1,9 @@
-use Rattle.std.proofs.Common.{rules}
-use Rattle.ne_hash.proofs.Cloned.{clone_of_set, nonempty_clone_of_set}
 use Rattle.ne_hash.proofs.set.NESet.clone.Goals as goal
+use Rattle.ne_iter.specs.KeyCloneLaws.{keeps_items, nonempty_clones}
 
 pub returns-clause-clones : goal.returns-clause-clones
-returns-clause-clones g c =
-    clone_of_set g.T.Clone.is_clone c.args.self.now c.in_ok-inner.inner (search rules)
+returns-clause-clones g c = let made = c.in_ok-inner.ensures.cases in
+    rw (← c.self.view_is) (made, keeps_items _ _ _ made)
 
 pub returns-clause-nonempty : goal.returns-clause-nonempty
-returns-clause-nonempty g c =
-    nonempty_clone_of_set g.T.Clone.is_clone c.args.self.now c.in_ok-inner.inner (search rules)
-    (search rules)
+returns-clause-nonempty g c = nonempty_clones _ _ _ c.in_ok-inner.ensures.cases c.self.invariant

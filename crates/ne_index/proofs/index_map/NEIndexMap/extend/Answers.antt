@@ -1,8 +1,8 @@
+use Rattle.ne_index.proofs.index_map.NEIndexMap.extend.Goals as goal
 use Rattle.indexmap.specs.IndexMap.{Extends}
 use Rattle.ne_iter.specs.ExtendListLaws.{extends_by_list}
 use Rattle.ne_iter.specs.KeyList.{IsKeyListMapOf}
-use Rattle.ne_index.proofs.Collect.{key_list_map-extends, nonempty-extends}
-use Rattle.ne_index.proofs.index_map.NEIndexMap.extend.Goals as goal
+use Rattle.ne_index.proofs.IndexInserts.{key_list_map-extends, nonempty-extends}
 
 pub invariant_of-self : goal.invariant_of-self
 invariant_of-self g c = let r = c.extend.ensures.ran in

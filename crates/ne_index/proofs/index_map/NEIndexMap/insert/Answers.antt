@@ -1,9 +1,8 @@
+use Rattle.ne_index.proofs.index_map.NEIndexMap.insert.Goals as goal
 use Rattle.std.proofs.Common.{ap, ◌∙◌}
 use Rattle.std.specs.Map.{keys_of}
 use Rattle.indexmap.proofs.SetLemmas.{keys_insert_entry}
-use Rattle.ne_index.proofs.Put.{keys-stay, new-last, put_entry-insert}
-use Rattle.ne_index.proofs.Put.{put_item-insert}
-use Rattle.ne_index.proofs.index_map.NEIndexMap.insert.Goals as goal
+use Rattle.ne_index.proofs.Put.{keys-stay, new-last, put_entry-insert, put_item-insert}
 
 pub returns-clause-entries : goal.returns-clause-entries
 returns-clause-entries g c = rw (← c.self.view_is) (c.in_ok-insert.ensures.entries

@@ -1,8 +1,8 @@
+use Rattle.ne_index.proofs.index_set.NEIndexSet.extend.Goals as goal
 use Rattle.indexmap.specs.IndexSet.{Extends}
 use Rattle.ne_iter.specs.ExtendListLaws.{extends_by_list}
 use Rattle.ne_index.specs.KeyListSets.{IsKeyListSetOf}
-use Rattle.ne_index.proofs.Collect.{key_list_set-extends, nonempty_set-extends}
-use Rattle.ne_index.proofs.index_set.NEIndexSet.extend.Goals as goal
+use Rattle.ne_index.proofs.IndexInserts.{key_list_set-extends, nonempty_set-extends}
 
 pub invariant_of-self : goal.invariant_of-self
 invariant_of-self g c = let r = c.extend.ensures.ran in

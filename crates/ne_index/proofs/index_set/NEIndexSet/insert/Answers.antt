@@ -1,6 +1,6 @@
+use Rattle.ne_index.proofs.index_set.NEIndexSet.insert.Goals as goal
 use Rattle.std.proofs.Common.{◌∙◌}
 use Rattle.ne_index.proofs.Put.{item-last, put_item-insert}
-use Rattle.ne_index.proofs.index_set.NEIndexSet.insert.Goals as goal
 
 pub returns-clause-keys : goal.returns-clause-keys
 returns-clause-keys g c = rw (← c.self.view_is) (c.in_ok-insert.ensures.keys

@@ -1,6 +1,6 @@
+use Rattle.ne_index.proofs.index_set.NEIndexSet.replace.Goals as goal
 use Rattle.std.proofs.Common.{◌∙◌}
 use Rattle.ne_index.proofs.Put.{put_in_place-replace, replaced-last}
-use Rattle.ne_index.proofs.index_set.NEIndexSet.replace.Goals as goal
 
 pub returns-clause-keys : goal.returns-clause-keys
 returns-clause-keys g c = rw (← c.self.view_is) (c.in_ok-replace.ensures.keys

@@ -1,6 +1,6 @@
+use Rattle.ne_iter.proofs.iter.best.best.Given as goal
 use Rattle.std.specs.List.{FoldsTo}
 use Rattle.ne_iter.specs.Consumers.{KeepsBetter}
-use Rattle.ne_iter.proofs.iter.best.best.Given as goal
 
 abbrev pub invariant-loop-x : goal.invariant-loop-x
 invariant-loop-x g l =

@@ -1,8 +1,8 @@
+use Rattle.ne_iter.proofs.iter.best.best_by_key.Goals as goal
 use Rattle.std.proofs.Common.{true, ◌∷◌, map, rules, subst}
 use Rattle.std.specs.Iterator.Adapters.{map_source, map_callee}
 use Rattle.ne_iter.specs.Sources.{Reads}
-use Rattle.ne_iter.proofs.Keyed.{CallableOnAll-pairs, KeepsBetter-keyed, keyed, ShownEach-pairs}
-use Rattle.ne_iter.proofs.iter.best.best_by_key.Goals as goal
+use Rattle.ne_iter.proofs.Keyed.{CallableOnAll-pairs, KeepsBetter-keyed, keyed, CallsEachAt-pairs}
 
 pub best-key-requires-clause-ends : goal.best-key-requires-clause-ends
 best-key-requires-clause-ends g c it made =
@@ -27,7 +27,7 @@ returns g c =
     let kept = c.best-key.ensures in
     let pairs = kept.0 ∷ kept.1 in
     let behind = c.map-pairs.ensures.gives true pairs kept.2 in
-    let shown = ShownEach-pairs g.F.FnMut _ (λ f. f.0.now)
+    let shown = CallsEachAt-pairs g.F.FnMut _ (λ f. f.0.now)
     (λ f x p h one. search (rules, one)) _ behind.items pairs behind.f_then behind.called in (
       keyed kept.0,
       map keyed kept.1,

@@ -1,8 +1,8 @@
+use Rattle.ne_iter.proofs.laws.closures.always_callable_is_callable_on_all_items.Goals as goal
 use Rattle.std.proofs.Common.{[], ◌∷◌, refl}
 use Rattle.std.proofs.lemmas.Fn.{serves_by}
 use Rattle.std.specs.Fn.{CalledAt, TakesAt}
 use denote.Param.Always.{always_mut, mut_next}
-use Rattle.ne_iter.proofs.laws.closures.always_callable_is_callable_on_all_items.Goals as goal
 
 -- The closure is still always callable after each call.
 pub returns : goal.returns

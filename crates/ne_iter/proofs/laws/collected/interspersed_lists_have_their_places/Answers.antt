@@ -1,6 +1,6 @@
-use Rattle.ne_iter.specs.Clones.{TriesClone}
-use Rattle.ne_iter.proofs.InterspersedPlaces.{count_of, items_at, separators_at, err_is_last}
 use Rattle.ne_iter.proofs.laws.collected.interspersed_lists_have_their_places.Goals as goal
+use Rattle.ne_iter.specs.Cloned.{TriesClone}
+use Rattle.ne_iter.proofs.InterspersedPlaces.{count_of, items_at, separators_at, err_is_last}
 
 pub returns-clause-count : goal.returns-clause-count
 returns-clause-count g c separator = count_of

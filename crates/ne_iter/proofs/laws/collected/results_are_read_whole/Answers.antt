@@ -1,7 +1,7 @@
+use Rattle.ne_iter.proofs.laws.collected.results_are_read_whole.Goals as goal
 use Rattle.std.proofs.Common.{subst}
 use Rattle.std.specs.Prelude.{true, Ok, Err}
 use Rattle.ne_iter.specs.Sources.{Reads}
-use Rattle.ne_iter.proofs.laws.collected.results_are_read_whole.Goals as goal
 
 pub returns : goal.returns
 returns g c source (Ok v) h =

@@ -1,5 +1,5 @@
-use Rattle.ne_iter.proofs.Extremes.{greatest_there, only_greatest}
 use Rattle.ne_iter.proofs.laws.extremes.numbers_have_one_greatest.Goals as goal
+use Rattle.ne_iter.proofs.Extremes.{greatest_there, only_greatest}
 
 pub returns-clause-there : goal.returns-clause-there
 returns-clause-there c x xs = let m = greatest_there x xs in (m.0, m.1.0, m.1.1)

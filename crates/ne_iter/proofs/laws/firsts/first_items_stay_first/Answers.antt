@@ -1,12 +1,15 @@
-use Rattle.ne_iter.proofs.ListFronts.{whole_front, map_front, enumerate_front, take_front}
-use Rattle.ne_iter.proofs.ListFronts.{append_front}
 use Rattle.ne_iter.proofs.laws.firsts.first_items_stay_first.Goals as goal
+use Rattle.ne_iter.proofs.SourceLists.{whole_prefix}
+use Rattle.ne_iter.proofs.Map.{map_prefix}
+use Rattle.ne_iter.proofs.Enumerate.{enumerate_prefix}
+use Rattle.ne_iter.proofs.Take.{take_prefix}
+use Rattle.ne_iter.proofs.Chain.{append_prefix}
 
 pub returns : goal.returns
 returns g c = record {
-  all = whole_front;
-  mapped = map_front;
-  numbered = enumerate_front;
-  taken = take_front;
-  joined = append_front;
+  all = whole_prefix;
+  mapped = map_prefix;
+  numbered = enumerate_prefix;
+  taken = take_prefix;
+  joined = append_prefix;
 }

@@ -1,7 +1,7 @@
+use Rattle.ne_iter.proofs.laws.groupings.runs_by_a_function.Goals as goal
 use Rattle.ne_vec.specs.Divisions.{by_first}
 use Rattle.ne_iter.specs.Keys.{items_of, same_key}
 use Rattle.ne_iter.proofs.Divided.{keyed, keyed_alike, divided_by_function}
-use Rattle.ne_iter.proofs.laws.groupings.runs_by_a_function.Goals as goal
 
 pub returns : goal.returns
 returns g c eq h ps rs last acts shown d =

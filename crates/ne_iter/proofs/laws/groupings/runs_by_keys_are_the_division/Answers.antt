@@ -1,5 +1,5 @@
-use Rattle.ne_iter.specs.Keys.{IsDividedBy}
 use Rattle.ne_iter.proofs.laws.groupings.runs_by_keys_are_the_division.Goals as goal
+use Rattle.ne_iter.specs.Keys.{IsDividedBy}
 
 pub returns : goal.returns
 unfolding IsDividedBy

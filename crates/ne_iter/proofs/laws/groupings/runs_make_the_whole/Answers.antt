@@ -1,8 +1,8 @@
+use Rattle.ne_iter.proofs.laws.groupings.runs_make_the_whole.Goals as goal
 use Rattle.std.proofs.Common.{map, refl, sym, ap, ◌∙◌}
 use Rattle.ne_vec.specs.Divisions.{by_first}
 use Rattle.ne_iter.specs.Keys.{items_of, same_key}
 use Rattle.ne_iter.proofs.Divided.{runs_join, no_run_is_empty}
-use Rattle.ne_iter.proofs.laws.groupings.runs_make_the_whole.Goals as goal
 
 pub returns-clause-exists : goal.returns-clause-exists
 returns-clause-exists g c eq ps = let runs = c.has_one_division.ensures.exists

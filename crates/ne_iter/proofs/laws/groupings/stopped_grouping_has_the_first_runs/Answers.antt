@@ -1,7 +1,7 @@
+use Rattle.ne_iter.proofs.laws.groupings.stopped_grouping_has_the_first_runs.Goals as goal
 use Rattle.ne_vec.specs.Divisions.{by_first}
 use Rattle.ne_iter.specs.Keys.{same_key}
 use Rattle.ne_iter.proofs.Divided.{first_runs}
-use Rattle.ne_iter.proofs.laws.groupings.stopped_grouping_has_the_first_runs.Goals as goal
 
 pub returns : goal.returns
 returns g c s f =

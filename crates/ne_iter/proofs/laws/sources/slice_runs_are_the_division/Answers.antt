@@ -1,6 +1,6 @@
+use Rattle.ne_iter.proofs.laws.sources.slice_runs_are_the_division.Goals as goal
 use Rattle.ne_vec.specs.Divisions.{by_first, by_previous}
 use Rattle.ne_iter.proofs.SliceDivisions.{gives_division}
-use Rattle.ne_iter.proofs.laws.sources.slice_runs_are_the_division.Goals as goal
 
 pub returns : goal.returns
 returns g c =

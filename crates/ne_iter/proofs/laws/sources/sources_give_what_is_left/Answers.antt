@@ -1,6 +1,6 @@
-use Rattle.std.proofs.Common.{sym, ◌∙◌}
-use Rattle.ne_vec.specs.FrontLaws.{front}
 use Rattle.ne_iter.proofs.laws.sources.sources_give_what_is_left.Goals as goal
+use Rattle.std.proofs.Common.{sym, ◌∙◌}
+use Rattle.ne_vec.specs.ListLaws.{front}
 
 pub returns : goal.returns
 returns g c left took ended source xs made whole ys h =

@@ -1,9 +1,9 @@
+use Rattle.ne_products.proofs.products.NonEmptyItertools.all_unique.Goals as goal
 use Rattle.std.proofs.Common.{subst, ap, sym, ◌∙◌}
 use Rattle.std.specs.List.{IsDistinct, list_any}
 use Rattle.std.proofs.lemmas.Map.Keys.{IsDistinct-push}
 use Rattle.ne_products.proofs.Uniques.{was_there, was_not, is_member-push, Reads-up_to}
-use Rattle.ne_products.proofs.Uniques.{tells_lists}
-use Rattle.ne_products.proofs.products.NonEmptyItertools.all_unique.Goals as goal
+use Rattle.ne_products.proofs.Uniques.{checks_lists}
 
 pub loop-item-init : goal.loop-item-init
 loop-item-init g c =
@@ -42,7 +42,7 @@ returns-then-not-is_new-clause-gives g c =
     )
 
 pub returns-then-not-is_new-clause-lists : goal.returns-then-not-is_new-clause-lists
-returns-then-not-is_new-clause-lists g c = tells_lists g.met.Self.Item.Eq.laws _ _ _ _
+returns-then-not-is_new-clause-lists g c = checks_lists g.met.Self.Item.Eq.laws _ _ _ _
     (returns-then-not-is_new-clause-gives g c)
 
 pub returns-clause-gives : goal.returns-clause-gives
@@ -61,4 +61,4 @@ returns-clause-gives g c = (
 )
 
 pub returns-clause-lists : goal.returns-clause-lists
-returns-clause-lists g c = tells_lists g.met.Self.Item.Eq.laws _ _ _ _ (returns-clause-gives g c)
+returns-clause-lists g c = checks_lists g.met.Self.Item.Eq.laws _ _ _ _ (returns-clause-gives g c)

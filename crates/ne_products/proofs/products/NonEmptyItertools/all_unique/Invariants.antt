@@ -1,8 +1,8 @@
+use Rattle.ne_products.proofs.products.NonEmptyItertools.all_unique.Given as goal
 use Rattle.std.proofs.Common.{◌≡◌}
 use Rattle.std.specs.List.{IsDistinct}
 use Rattle.std.specs.HashSet.{contains}
 use Rattle.std.specs.Set.{is_member}
-use Rattle.ne_products.proofs.products.NonEmptyItertools.all_unique.Given as goal
 
 -- The items so far are distinct, and the set holds them and nothing else.
 abbrev pub invariant-loop-item : goal.invariant-loop-item

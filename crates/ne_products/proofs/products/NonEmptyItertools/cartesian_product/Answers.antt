@@ -1,3 +1,4 @@
+use Rattle.ne_products.proofs.products.NonEmptyItertools.cartesian_product.Goals as goal
 use Rattle.std.specs.Prelude.{◌≡◌, true}
 use Rattle.std.specs.Iterator.{DrainsIf}
 use Rattle.ne_products.specs.Product.{left_of, right_of, restart_of}
@@ -5,7 +6,6 @@ use Rattle.ne_products.proofs.ProductLists.{pairs_lists}
 use Rattle.ne_products.proofs.ProductProgress.{fresh_finite}
 use Rattle.ne_products.proofs.ProductRuns.{DrainsIf-product}
 use Rattle.ne_products.proofs.Restarted.{always, each_some, restarts}
-use Rattle.ne_products.proofs.products.NonEmptyItertools.cartesian_product.Goals as goal
 
 pub returns-clause-ends : goal.returns-clause-ends
 returns-clause-ends g c left right again it made =

@@ -1,8 +1,8 @@
+use Rattle.ne_products.proofs.products.ProductIterIterator.next.Goals as goal
 use Rattle.std.proofs.Common.{◌≡◌, inl, inr, None, Some, sym, ap, ◌∙◌, subst, true}
 use Rattle.ne_products.specs.Product.{RowItem, RowEnds, restart_of, left_of, right_of, is_over}
 use Rattle.ne_products.proofs.ProductSteps.{begins_row, goes_on, no_restart, no_row}
 use Rattle.ne_products.proofs.ProductProgress.{row_goes}
-use Rattle.ne_products.proofs.products.ProductIterIterator.next.Goals as goal
 use Rattle.ne_products.proofs.products.ProductIterIterator.next.Goals.{in-Some}
 use Rattle.ne_products.proofs.products.ProductIterIterator.next.Goals.{in-None+in_ok-row-in-None}
 

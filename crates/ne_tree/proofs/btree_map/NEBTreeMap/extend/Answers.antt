@@ -1,8 +1,8 @@
+use Rattle.ne_tree.proofs.btree_map.NEBTreeMap.extend.Goals as goal
 use Rattle.std.specs.BTreeMap.{InsertsAll}
 use Rattle.ne_iter.specs.Collected.{IsMapOf}
 use Rattle.ne_iter.specs.ExtendListLaws.{extends_by_list}
-use Rattle.ne_tree.proofs.Collect.{map_of-inserts_all, nonempty-inserts_all}
-use Rattle.ne_tree.proofs.btree_map.NEBTreeMap.extend.Goals as goal
+use Rattle.ne_tree.proofs.TreeInserts.{map_of-inserts_all, nonempty-inserts_all}
 
 pub invariant_of-self : goal.invariant_of-self
 invariant_of-self g c = let r = c.extend.ensures.ran in

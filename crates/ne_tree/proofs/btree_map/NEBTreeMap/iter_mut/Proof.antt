@@ -58,7 +58,7 @@ use Rattle.std_collections.specs.contracts.btree_map.BTreeMap as inner
 use Rattle.std_collections.proofs.btree_map.BTreeMap.TheLaws as inner_laws
 use Rattle.std_collections.specs.contracts.btree_map.iter.lent.IterMut as iter
 use Rattle.std_collections.proofs.btree_map.iter.lent.IterMut.TheLaws as iter_laws
-use Rattle.ne_tree.specs.Lends.{LendsValues, LendsValuesInside}
+use Rattle.ne_tree.specs.TreeLends.{LendsValues, LendsValuesInside}
 use Rattle.ne_tree.specs.contracts.btree_map.NEBTreeMap as outer
 use Rattle.ne_tree.specs.contracts.btree_map.NEBTreeMap.TheInside as inside
 use Rattle.ne_tree.proofs.btree_map.NEBTreeMap.TheLaws as outer_laws

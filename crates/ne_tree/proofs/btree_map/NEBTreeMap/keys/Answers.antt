@@ -1,7 +1,7 @@
+use Rattle.ne_tree.proofs.btree_map.NEBTreeMap.keys.Goals as goal
 use Rattle.std.proofs.Common.{rules}
 use Rattle.std.specs.Map.Iter.{deref}
-use Rattle.ne_iter.specs.KeyWalkLaws.{key_walk_shows}
-use Rattle.ne_tree.proofs.btree_map.NEBTreeMap.keys.Goals as goal
+use Rattle.ne_iter.specs.KeyIteratorLaws.{lists_known}
 
-pub returns-clause-shows : goal.returns-clause-shows
-returns-clause-shows g c = key_walk_shows deref c.keys.result _ (search rules)
+pub returns-clause-lists : goal.returns-clause-lists
+returns-clause-lists g c = lists_known _ deref c.new.result _ (search rules)

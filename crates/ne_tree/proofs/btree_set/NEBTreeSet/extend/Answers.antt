@@ -1,8 +1,8 @@
+use Rattle.ne_tree.proofs.btree_set.NEBTreeSet.extend.Goals as goal
 use Rattle.std.specs.BTreeSet.{InsertsAll}
 use Rattle.ne_iter.specs.Collected.{IsSetOf}
 use Rattle.ne_iter.specs.ExtendListLaws.{extends_by_list}
-use Rattle.ne_tree.proofs.Collect.{set_of-inserts_all, nonempty_set-inserts_all}
-use Rattle.ne_tree.proofs.btree_set.NEBTreeSet.extend.Goals as goal
+use Rattle.ne_tree.proofs.TreeInserts.{set_of-inserts_all, nonempty_set-inserts_all}
 
 pub invariant_of-self : goal.invariant_of-self
 invariant_of-self g c = let r = c.extend.ensures.ran in

@@ -1,6 +1,7 @@
-use Rattle.std.proofs.Common.{rules}
-use Rattle.ne_tree.proofs.UnionShown.{union_shows}
 use Rattle.ne_tree.proofs.btree_set.NEBTreeSet.union.Goals as goal
+use Rattle.std.proofs.Common.{rules}
+use Rattle.std.specs.Map.Iter.{deref}
+use Rattle.ne_iter.specs.KeyIteratorLaws.{lists_known}
 
-pub returns-clause-shows : goal.returns-clause-shows
-returns-clause-shows g c = union_shows c.union.result _ (search rules)
+pub returns-clause-lists : goal.returns-clause-lists
+returns-clause-lists g c = lists_known _ deref c.new.result _ (search rules)

@@ -1,6 +1,6 @@
+use Rattle.ne_vec.proofs.slice.ChunksIterIterator.next.Goals as goal
 use Rattle.std.proofs.Common.{ap, length, arith}
 use Rattle.ne_vec.proofs.Chunked.{first_chunk}
-use Rattle.ne_vec.proofs.slice.ChunksIterIterator.next.Goals as goal
 
 pub returns-clause-steps : goal.returns-clause-steps
 returns-clause-steps g c =

@@ -1,8 +1,8 @@
+use Rattle.ne_vec.proofs.slice.runs.run_by_first.Given as goal
 use Rattle.std.proofs.Common.{length, ◌-◌, ◌≡◌, ◌<◌, ◌≤◌, Bool, take}
 use Rattle.std.specs.Prelude.{slice_get, Some}
 use Rattle.ne_vec.specs.Divisions.{IsRun, by_first}
 use Rattle.ne_vec.specs.SliceRuns.{ActsAsAtPair}
-use Rattle.ne_vec.proofs.slice.runs.run_by_first.Given as goal
 
 -- the items before `end` are a run
 abbrev pub invariant-loop-end : goal.invariant-loop-end

@@ -1,15 +1,10 @@
+use Rattle.ne_vec.proofs.slice.runs.run_by_previous.Goals as goal
 use Rattle.std.proofs.Common.{rules, arith, refl, sym, ◌∙◌, ◌≡◌, ◌-◌, ◌<◌, length, true, false}
 use Rattle.std.proofs.lemmas.Fn.{says_at_two}
 use Rattle.std.proofs.lemmas.Option.{slice_get_read}
 use Rattle.ne_vec.specs.Divisions.{by_previous}
-use Rattle.ne_vec.proofs.FirstRuns.{
-  run_of_one,
-  longer_run,
-  run_breaks,
-  run_is_all,
-  by_previous-take,
-}
-use Rattle.ne_vec.proofs.slice.runs.run_by_previous.Goals as goal
+use Rattle.ne_vec.proofs.FirstRuns.{run_of_one, longer_run, run_breaks, run_is_all}
+use Rattle.ne_vec.proofs.FirstRuns.{by_previous-take}
 
 pub loop-end-init : goal.loop-end-init
 loop-end-init g c = (

@@ -1,7 +1,7 @@
+use Rattle.ne_vec.proofs.slice.runs.run_by_previous.Given as goal
 use Rattle.std.proofs.Common.{length, ◌-◌, ◌<◌, ◌≤◌, Bool, take}
 use Rattle.ne_vec.specs.Divisions.{IsRun, by_previous}
 use Rattle.ne_vec.specs.SliceRuns.{ActsAsAtPair}
-use Rattle.ne_vec.proofs.slice.runs.run_by_previous.Given as goal
 
 -- the items before `end` are a run
 abbrev pub invariant-loop-end : goal.invariant-loop-end

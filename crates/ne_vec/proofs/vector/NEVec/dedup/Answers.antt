@@ -1,6 +1,6 @@
+use Rattle.ne_vec.proofs.vector.NEVec.dedup.Goals as goal
 use Rattle.std.proofs.lemmas.List.Filters.{dedup_is}
 use Rattle.ne_vec.proofs.Kept.{keeps_firsts, some_kept}
-use Rattle.ne_vec.proofs.vector.NEVec.dedup.Goals as goal
 
 pub invariant_of-self : goal.invariant_of-self
 invariant_of-self g c = some_kept _ _ _ (dedup_is _ _ _ c.dedup.ensures.filtered) c.self.invariant

@@ -1,6 +1,6 @@
+use Rattle.ne_vec.proofs.vector.NEVec.dedup_by_key.Goals as goal
 use Rattle.std.proofs.lemmas.Fn.{dedup_same}
 use Rattle.ne_vec.proofs.Kept.{stays, keeps_firsts, compares}
-use Rattle.ne_vec.proofs.vector.NEVec.dedup_by_key.Goals as goal
 
 pub invariant_of-self : goal.invariant_of-self
 invariant_of-self g c = stays _ _ _ _ c.dedup_by_key.ensures.filtered c.self.invariant

@@ -1,5 +1,5 @@
-use Rattle.ne_vec.proofs.PartLists.{chunks_give}
 use Rattle.ne_vec.proofs.vector.NEVec.nonempty_chunks.Goals as goal
+use Rattle.ne_vec.proofs.PartLists.{chunks_give}
 
 pub returns-clause-lists : goal.returns-clause-lists
 returns-clause-lists g c =

@@ -1,8 +1,8 @@
-use Rattle.ne_vec.specs.WalkLaws.{walk_shows}
 use Rattle.ne_vec.proofs.vector.NEVec.nonempty_iter.Goals as goal
+use Rattle.ne_vec.specs.IteratorLaws.{lists_items}
 
-pub returns-clause-shows : goal.returns-clause-shows
-returns-clause-shows g c =
+pub returns-clause-lists : goal.returns-clause-lists
+returns-clause-lists g c =
     let e = c.self.view_is in
     let s = c.as_slice.ensures.value in
-    walk_shows _ _ cc
+    lists_items _ _ cc

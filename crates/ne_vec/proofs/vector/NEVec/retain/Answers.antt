@@ -1,5 +1,5 @@
-use Rattle.std.proofs.lemmas.Fn.{filter_same}
 use Rattle.ne_vec.proofs.vector.NEVec.retain.Goals as goal
+use Rattle.std.proofs.lemmas.Fn.{filter_same}
 
 pub returns-clause-kept : goal.returns-clause-kept
 returns-clause-kept g c keeps pure =

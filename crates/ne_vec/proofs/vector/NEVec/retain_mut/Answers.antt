@@ -1,5 +1,5 @@
-use Rattle.ne_vec.proofs.Kept.{retains_filtered}
 use Rattle.ne_vec.proofs.vector.NEVec.retain_mut.Goals as goal
+use Rattle.ne_vec.proofs.Kept.{retains_filtered}
 
 pub returns-clause-kept : goal.returns-clause-kept
 returns-clause-kept g c keeps writes pure =

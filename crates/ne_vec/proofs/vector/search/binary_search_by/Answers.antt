@@ -1,12 +1,12 @@
+use Rattle.ne_vec.proofs.vector.search.binary_search_by.Goals as goal
 use Rattle.std.proofs.Common.{◌+◌, ◌-◌, ◌/◌, ◌≡◌, true, false, refl, sym, ap, ◌∙◌, arith}
 use Rattle.std.proofs.lemmas.Fn.{called_at}
 use Rattle.std.proofs.lemmas.List.Elements.{at_read}
 use Rattle.std.specs.Ordering.{is_gt}
 use Rattle.std.specs.declared.cmp.Ordering.TheVariants.{Less, Equal, Greater}
-use Rattle.ne_vec.proofs.Halving.{items_next, items_take, answers_next}
-use Rattle.ne_vec.proofs.Halving.{lower, upper, after_less, at_greater}
+use Rattle.ne_vec.proofs.Halving.{items_next, items_take, answers_next, lower, upper, after_less}
+use Rattle.ne_vec.proofs.Halving.{at_greater}
 use Rattle.ne_vec.proofs.vector.search.binary_search_by.Goals.{then-not-is_gt, else-not-is_gt}
-use Rattle.ne_vec.proofs.vector.search.binary_search_by.Goals as goal
 
 pub f-requires : goal.f-requires
 f-requires g c =

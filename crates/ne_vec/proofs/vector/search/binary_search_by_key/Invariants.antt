@@ -1,8 +1,8 @@
+use Rattle.ne_vec.proofs.vector.search.binary_search_by_key.Given as goal
 use Rattle.std.proofs.Common.{◌<◌, ◌≤◌, ◌+◌, length}
 use Rattle.std.specs.Fn.{ComputesKey}
-use Rattle.ne_vec.specs.Calls.{CallableAtItems}
+use Rattle.ne_vec.specs.Searches.{CallableAtItems}
 use Rattle.ne_vec.proofs.Halving.{Narrowed}
-use Rattle.ne_vec.proofs.vector.search.binary_search_by_key.Given as goal
 
 abbrev pub invariant-loop-size : goal.invariant-loop-size
 invariant-loop-size g l = record {

@@ -1,10 +1,10 @@
+use Rattle.ne_vec.proofs.vector.search.partition_point.Goals as goal
 use Rattle.std.proofs.Common.{◌+◌, ◌-◌, ◌/◌, ◌≡◌, true, false, refl, sym, ◌∙◌, arith}
 use Rattle.std.proofs.lemmas.Fn.{called_at}
 use Rattle.std.proofs.lemmas.List.Elements.{at_read}
-use Rattle.ne_vec.proofs.Halving.{items_next, items_take, answers_next}
-use Rattle.ne_vec.proofs.Halving.{passed, failed, after_passing, at_failing}
+use Rattle.ne_vec.proofs.Halving.{items_next, items_take, answers_next, passed, failed}
+use Rattle.ne_vec.proofs.Halving.{after_passing, at_failing}
 use Rattle.ne_vec.proofs.vector.search.partition_point.Goals.{then-pred, else-pred}
-use Rattle.ne_vec.proofs.vector.search.partition_point.Goals as goal
 
 pub pred-requires : goal.pred-requires
 pred-requires g c =

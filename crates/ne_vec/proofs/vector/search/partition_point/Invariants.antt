@@ -1,8 +1,8 @@
+use Rattle.ne_vec.proofs.vector.search.partition_point.Given as goal
 use Rattle.std.proofs.Common.{◌<◌, ◌≤◌, ◌+◌, Bool, length}
 use Rattle.std.specs.Fn.{ComputesKey}
-use Rattle.ne_vec.specs.Calls.{CallableAtItems}
+use Rattle.ne_vec.specs.Searches.{CallableAtItems}
 use Rattle.ne_vec.proofs.Halving.{Halved}
-use Rattle.ne_vec.proofs.vector.search.partition_point.Given as goal
 
 abbrev pub invariant-loop-size : goal.invariant-loop-size
 invariant-loop-size g l = record {

@@ -1,5 +1,5 @@
-use Rattle.user_generic.proofs.Pairs.{one_pair}
 use Rattle.user_generic.proofs.own_maps.PairMap.new.Goals as goal
+use Rattle.user_generic.proofs.PairLists.{one_pair}
 
 pub invariant_of-result : goal.invariant_of-result
 invariant_of-result g c =

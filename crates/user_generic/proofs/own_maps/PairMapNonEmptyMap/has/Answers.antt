@@ -1,6 +1,6 @@
-use Rattle.std.proofs.Common.{rules}
-use Rattle.user_generic.proofs.Pairs.{is_there}
 use Rattle.user_generic.proofs.own_maps.PairMapNonEmptyMap.has.Goals as goal
+use Rattle.std.proofs.Common.{rules}
+use Rattle.user_generic.proofs.PairLists.{is_there}
 
 pub returns : goal.returns
 returns g c =

@@ -1,6 +1,6 @@
-use Rattle.std.proofs.Common.{sym, ◌∙◌}
-use Rattle.user_generic.proofs.Pairs.{added_last}
 use Rattle.user_generic.proofs.own_maps.PairMapNonEmptyMap.put.Goals as goal
+use Rattle.std.proofs.Common.{sym, ◌∙◌}
+use Rattle.user_generic.proofs.PairLists.{added_last}
 
 pub invariant_of-self-2 : goal.invariant_of-self-2
 invariant_of-self-2 g c =

@@ -1,6 +1,6 @@
-use Rattle.std.proofs.Common.{Some, ap, refl, sym, ◌∙◌}
-use Rattle.user_generic.proofs.Pairs.{absent, written_there}
 use Rattle.user_generic.proofs.own_maps.PairMapNonEmptyMap.set.Goals as goal
+use Rattle.std.proofs.Common.{Some, ap, refl, sym, ◌∙◌}
+use Rattle.user_generic.proofs.PairLists.{absent, written_there}
 
 pub returns-in_err-place-clause-old : goal.returns-in_err-place-clause-old
 returns-in_err-place-clause-old g c =

@@ -1,3 +1,4 @@
+use Rattle.user_schedule.proofs.schedule.Schedule.next.Goals as goal
 use Rattle.std.proofs.Common.{◌≡◌, ℕ, List, [], ◌∷◌, ltb, ap, sym, ◌∙◌}
 use Rattle.std.proofs.lemmas.List.MinMax.{IsFirstBest-from_best_of, IsStrictWeakOrder-by_number}
 use Rattle.std.proofs.lemmas.Option.{slice_get-get_or}
@@ -5,7 +6,6 @@ use Rattle.std.specs.Prelude.{Some}
 use Rattle.std.specs.List.{reduce}
 use Rattle.user_schedule.specs.Turns.{ComesNext, earlier}
 use Rattle.user_schedule.specs.declared.schedule.Job.{Job}
-use Rattle.user_schedule.proofs.schedule.Schedule.next.Goals as goal
 
 comes_next : (jobs : List (ℕ × Job)) (next : ℕ × Job)
     → Some next ≡ reduce (λ p q. earlier p q) jobs → ComesNext jobs next

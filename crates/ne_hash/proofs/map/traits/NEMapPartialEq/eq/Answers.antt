@@ -1,6 +1,6 @@
+use Rattle.ne_hash.proofs.map.traits.NEMapPartialEq.eq.Goals as goal
 use Rattle.std.proofs.Common.{rules}
 use Rattle.ne_hash.proofs.Same.{maps_equal_iff_same}
-use Rattle.ne_hash.proofs.map.traits.NEMapPartialEq.eq.Goals as goal
 
 pub returns-clause-same_map : goal.returns-clause-same_map
 returns-clause-same_map g c =

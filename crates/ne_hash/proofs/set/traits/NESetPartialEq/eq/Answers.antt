@@ -1,6 +1,6 @@
+use Rattle.ne_hash.proofs.set.traits.NESetPartialEq.eq.Goals as goal
 use Rattle.std.proofs.Common.{rules}
 use Rattle.ne_hash.proofs.Same.{sets_equal_iff_same}
-use Rattle.ne_hash.proofs.set.traits.NESetPartialEq.eq.Goals as goal
 
 pub returns-clause-same_set : goal.returns-clause-same_set
 returns-clause-same_set g c =

@@ -1,6 +1,6 @@
+use Rattle.ne_index.proofs.index_map.traits.NEIndexMapPartialEq.eq.Goals as goal
 use Rattle.std.proofs.Common.{◌∙◌, rules, sym}
 use Rattle.std.specs.HashMap.Eq.{get_from_hash_map_eq, hash_map_eq_from_get}
-use Rattle.ne_index.proofs.index_map.traits.NEIndexMapPartialEq.eq.Goals as goal
 
 pub returns-clause-same_map : goal.returns-clause-same_map
 returns-clause-same_map g c =

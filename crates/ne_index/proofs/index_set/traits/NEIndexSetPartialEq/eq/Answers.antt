@@ -1,6 +1,6 @@
+use Rattle.ne_index.proofs.index_set.traits.NEIndexSetPartialEq.eq.Goals as goal
 use Rattle.std.proofs.Common.{◌∙◌, rules, sym}
 use Rattle.std.specs.HashSet.Eq.{hash_set_eq_decides}
-use Rattle.ne_index.proofs.index_set.traits.NEIndexSetPartialEq.eq.Goals as goal
 
 pub returns-clause-same_set : goal.returns-clause-same_set
 returns-clause-same_set g c =

@@ -1,6 +1,6 @@
-use Rattle.std.proofs.Common.{rules}
-use Rattle.ne_index.proofs.Collect.{key_list_set-put}
 use Rattle.ne_index.proofs.index_set.traits.NEIndexSetSingleton.extend_one.Goals as goal
+use Rattle.std.proofs.Common.{rules}
+use Rattle.ne_index.proofs.IndexInserts.{key_list_set-put}
 
 pub returns-clause-added : goal.returns-clause-added
 returns-clause-added g c = λ xs h. (

@@ -1,12 +1,12 @@
+use Rattle.ne_iter.proofs.iter.collected.ResultFromNonEmptyIterator.from_nonempty_iter.Goals as goal
 use Rattle.std.proofs.Common.{◌≡◌, List, [], ◌∷◌, ◌++◌, length, map, sym, ap, ◌∙◌, append_assoc}
 use Rattle.std.proofs.Common.{refl, true, false}
 use Rattle.std.proofs.lemmas.List.{map-append}
 use Rattle.std.specs.Prelude.{Result, Ok, Err}
-use Rattle.ne_vec.specs.FrontLaws.{counted_front}
+use Rattle.ne_vec.specs.ListLaws.{counted_prefix}
 use Rattle.ne_iter.specs.Collected.{values_or_first_err}
-use Rattle.ne_iter.proofs.FrontsMade.{all_values, first_err_at, front_makes}
+use Rattle.ne_iter.proofs.PrefixesMade.{all_values, first_err_at, prefix_makes}
 use Rattle.ne_iter.proofs.Loops.{Reads-first, Reads-left, Reads-loop}
-use Rattle.ne_iter.proofs.iter.collected.ResultFromNonEmptyIterator.from_nonempty_iter.Goals as goal
 
 module _ {T E : Type 0} where
   -- the values so far are those of the items so far, the first one among them
@@ -75,7 +75,7 @@ returns g c =
     let items = c.next-first.result.0 ∷ c.loop-item.yielded in
     let made = c.in_ok-from_nonempty_iter.ensures in
     let walk = made.1 in
-    let rest = counted_front walk.it made.0 (walk.made.2 ∙ sym (ap length walk.made.1)) walk.given
+    let rest = counted_prefix walk.it made.0 (walk.made.2 ∙ sym (ap length walk.made.1)) walk.given
     in
     let values = c.loop-item.values in
     let is = are_values c.next-first.result.0 c.in-Ok.value c.in_ok-values-in-Ok.values values
@@ -90,7 +90,7 @@ returns g c =
         values,
         is,
         ap values_or_first_err is ∙ all_values values,
-        front_makes g.V.FromNonEmptyIterator.collected _ values made.0
+        prefix_makes g.V.FromNonEmptyIterator.collected _ values made.0
             g.V.FromNonEmptyIterator.is_complete (rest.0, sym walk.made.1 ∙ rest.1, rest.2) made.2,
       ),
     )

@@ -1,6 +1,6 @@
+use Rattle.ne_iter.proofs.iter.collected.ResultFromNonEmptyIterator.from_nonempty_iter.Given as goal
 use Rattle.std.proofs.Common.{◌≡◌, ◌++◌, map}
 use Rattle.std.specs.Prelude.{Ok}
-use Rattle.ne_iter.proofs.iter.collected.ResultFromNonEmptyIterator.from_nonempty_iter.Given as goal
 
 -- the values are that of the first item and those of the items so far
 abbrev pub invariant-loop-item : goal.invariant-loop-item

@@ -1,3 +1,4 @@
+use Rattle.ne_iter.proofs.iter.group_by.GroupByItemIterator.next.Goals as goal
 use Rattle.std.proofs.Common.{arith, refl, true, false, sym, ap, subst, ◌∙◌, ◌≡◌, ◌+◌, ◌≤◌}
 use Rattle.std.proofs.lemmas.Fn.{called_at}
 use Rattle.std.proofs.iter.Next.{served, Serves-on}
@@ -14,7 +15,6 @@ use Rattle.ne_iter.proofs.iter.group_by.GroupByItemIterator.next.Goals.{in-Held}
 use Rattle.ne_iter.proofs.iter.group_by.GroupByItemIterator.next.Goals.{
   in-Unread+in_ok-item-in-Unread,
 }
-use Rattle.ne_iter.proofs.iter.group_by.GroupByItemIterator.next.Goals as goal
 
 pub loop-item-init : goal.loop-item-init
 loop-item-init g c =

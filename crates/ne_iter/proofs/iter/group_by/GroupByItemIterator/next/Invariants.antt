@@ -1,9 +1,9 @@
+use Rattle.ne_iter.proofs.iter.group_by.GroupByItemIterator.next.Given as goal
 use Rattle.std.proofs.Common.{◌≡◌, ◌+◌, ◌≤◌, List}
 use Rattle.std.specs.Iterator.{size, IsFinite, CallableOnAllAt}
 use Rattle.ne_iter.specs.GroupingRuns.{HasRead, IsOver, runs_left}
 use Rattle.ne_iter.specs.declared.iter.group_by.State.TheVariants.{Ended}
 use Rattle.ne_iter.proofs.Groupings.{OpenRun}
-use Rattle.ne_iter.proofs.iter.group_by.GroupByItemIterator.next.Given as goal
 
 abbrev pub invariant-loop-item : goal.invariant-loop-item
 invariant-loop-item g l =

@@ -1,6 +1,6 @@
+use Rattle.ne_iter.proofs.iter.group_by.NEGroupByIntoIterator.into_iter.Goals as goal
 use Rattle.std.proofs.Common.{refl}
 use Rattle.ne_iter.proofs.Grouped.{runs_grouped}
-use Rattle.ne_iter.proofs.iter.group_by.NEGroupByIntoIterator.into_iter.Goals as goal
 
 pub returns : goal.returns
 returns g c = record {

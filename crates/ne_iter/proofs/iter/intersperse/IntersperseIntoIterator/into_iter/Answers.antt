@@ -1,6 +1,6 @@
-use Rattle.std.proofs.Common.{refl}
-use Rattle.ne_iter.proofs.InterspersedLists.{runs_interspersed}
 use Rattle.ne_iter.proofs.iter.intersperse.IntersperseIntoIterator.into_iter.Goals as goal
+use Rattle.std.proofs.Common.{refl}
+use Rattle.ne_iter.proofs.Intersperse.{runs_interspersed}
 
 pub returns : goal.returns
 returns g c = record {

@@ -1,30 +1,14 @@
-use Rattle.ne_iter.proofs.Stops.{TellsAny-from_run}
-use Rattle.ne_iter.specs.Sources.{Reads}
-use Rattle.ne_vec.specs.FrontLaws.{marked, shown_marked}
-use Rattle.ne_iter.proofs.FirstAnswers.{tells_any, views_any}
-use Rattle.ne_iter.proofs.ReadLists.{lists_read, shows_read}
 use Rattle.ne_iter.proofs.iter.non_empty.NonEmptyIterator.any.Goals as goal
-
-pub returns-clause-gives : goal.returns-clause-gives
-returns-clause-gives g c = TellsAny-from_run g.Self.IntoIterator.into_iter_gives
-    g.Self.IntoIter.Iterator.next_gives c.args.self c.into_iter.result c.any.new.self
-    c.into_iter.ensures.into_iter_gives g.F.FnMut c.args.f c.any.result c.any.ensures.ran
+use Rattle.std.specs.Prelude.{◌≡◌, Bool}
+use Rattle.std.specs.Iterator.{ActsAs}
+use Rattle.std.specs.List.{list_any}
+use Rattle.ne_iter.proofs.Consumers.{views_any}
+use Rattle.ne_iter.proofs.SourceLists.{each_view}
 
 pub returns-clause-lists : goal.returns-clause-lists
-returns-clause-lists g c xs lists = (
-  marked _ xs,
-  λ test acts. tells_any
-      (Reads g.Self.IntoIterator.into_iter_gives g.Self.IntoIter.Iterator.next_gives)
-      c.args.self xs (lists_read _ _ _ xs lists) test c.args.f g.F.FnMut acts c.any.result
-      (returns-clause-gives g c),
-)
-
-pub returns-clause-shown : goal.returns-clause-shown
-returns-clause-shown g c xs shows =
-    let view = g.Self.NonEmptyIterator.item_view.of in (
-      shown_marked _ xs,
-      λ test acts. views_any
-          (Reads g.Self.IntoIterator.into_iter_gives g.Self.IntoIter.Iterator.next_gives)
-          c.args.self view xs (shows_read _ _ _ view xs shows) test c.args.f g.F.FnMut acts
-          c.any.result (returns-clause-gives g c),
-    )
+returns-clause-lists g c = each_view (λ view xs. (test : view.Target → Bool)
+    → ActsAs g.F.FnMut c.args.f (λ x. test (view.of x)) → c.any.result ≡ list_any test xs)
+    g.Self.NonEmptyIterator.item_view (λ view xs known test acts.
+    views_any g.Self.IntoIterator.into_iter_gives g.Self.IntoIter.Iterator.next_gives c.args.self
+    view.of xs known c.into_iter.result c.any.new.self c.into_iter.ensures.into_iter_gives test
+    c.args.f g.F.FnMut acts c.any.result c.any.ensures.ran)

@@ -1,8 +1,6 @@
-use Rattle.std.specs.Iterator.Adapters.{chain_first, chain_second}
-use Rattle.ne_iter.proofs.Runs.{DrainsIf-chain}
-use Rattle.ne_iter.proofs.AdapterLists.{chain_list, chain_view}
-use Rattle.ne_iter.proofs.ClauseLists.{chains_lists, chains_shown}
 use Rattle.ne_iter.proofs.iter.non_empty.NonEmptyIterator.chain.Goals as goal
+use Rattle.std.specs.Iterator.Adapters.{chain_first, chain_second}
+use Rattle.ne_iter.proofs.Chain.{DrainsIf-chain, chains_lists}
 
 pub returns-clause-gives : goal.returns-clause-gives
 returns-clause-gives g c whole zs h =
@@ -16,9 +14,5 @@ returns-clause-gives g c whole zs h =
     }
 
 pub returns-clause-lists : goal.returns-clause-lists
-returns-clause-lists g c = chains_lists (chain_list (returns-clause-gives g c))
-
-pub returns-clause-shown : goal.returns-clause-shown
-returns-clause-shown g c =
-    let view = g.Self.NonEmptyIterator.item_view in
-    chains_shown view (chain_view (returns-clause-gives g c) view.of)
+returns-clause-lists g c =
+    chains_lists g.Self.NonEmptyIterator.item_view (returns-clause-gives g c)

@@ -1,12 +1,11 @@
-use Rattle.std.proofs.Common.{◌≡◌, true}
-use Rattle.ne_iter.specs.Clones.{TriesClone}
-use Rattle.ne_iter.proofs.CopiedRuns.{DrainsIf-cloned}
-use Rattle.std.specs.Prelude.{map, Ok}
-use Rattle.ne_vec.specs.FrontLaws.{marked}
-use Rattle.ne_iter.proofs.AdapterLists.{cloned_list}
-use Rattle.ne_iter.proofs.FrontsMade.{all_values}
-use Rattle.ne_iter.proofs.ReadLists.{shows_read, read_lists}
 use Rattle.ne_iter.proofs.iter.non_empty.NonEmptyIterator.cloned.Goals as goal
+use Rattle.std.proofs.Common.{◌≡◌, true}
+use Rattle.std.specs.Prelude.{map, Ok}
+use Rattle.ne_vec.specs.ListLaws.{triggered}
+use Rattle.ne_iter.specs.Cloned.{TriesClone}
+use Rattle.ne_iter.proofs.Cloned.{DrainsIf-cloned, cloned_list}
+use Rattle.ne_iter.proofs.PrefixesMade.{all_values}
+use Rattle.ne_iter.proofs.SourceLists.{reads_through, read_lists}
 
 pub returns-clause-gives : goal.returns-clause-gives
 returns-clause-gives g c whole ys h =
@@ -16,11 +15,11 @@ returns-clause-gives g c whole ys h =
 
 pub returns-clause-lists : goal.returns-clause-lists
 returns-clause-lists g c xs shows = (
-  marked _ xs,
+  triggered _ xs,
   λ none same. (
     all_values xs,
     read_lists _ _ _ (map Ok xs)
         (cloned_list g.T.Clone.is_clone g.T.Clone.is_infallible (returns-clause-gives g c) xs none
-        same (shows_read _ _ _ (λ y. y.now) xs shows)),
+        same (reads_through _ _ _ (λ y. y.now) xs shows)),
   ),
 )

@@ -1,9 +1,9 @@
-use Rattle.std.proofs.lemmas.Result.{IfOk-weaker}
-use Rattle.ne_iter.proofs.Traced.{run_of}
-use Rattle.ne_vec.specs.FrontLaws.{marked}
-use Rattle.ne_iter.proofs.FrontsMade.{front_makes}
-use Rattle.ne_iter.proofs.ReadLists.{lists_read}
 use Rattle.ne_iter.proofs.iter.non_empty.NonEmptyIterator.collect.Goals as goal
+use Rattle.std.proofs.lemmas.Result.{IfOk-weaker}
+use Rattle.ne_vec.specs.ListLaws.{triggered}
+use Rattle.ne_iter.proofs.Traced.{run_of}
+use Rattle.ne_iter.proofs.PrefixesMade.{prefix_makes}
+use Rattle.ne_iter.proofs.SourceLists.{lists_read}
 
 pub returns-clause-runs : goal.returns-clause-runs
 returns-clause-runs g c = IfOk-weaker c.from_nonempty_iter.result _ _
@@ -15,7 +15,7 @@ returns-clause-lists g c =
     let collected = g.B.FromNonEmptyIterator.collected in
     let complete = g.B.FromNonEmptyIterator.is_complete in
     IfOk-weaker c.from_nonempty_iter.result _ _ (λ v h xs lists. (
-      marked c.args.self xs,
-      front_makes collected v xs h.0 complete
+      triggered c.args.self xs,
+      prefix_makes collected v xs h.0 complete
           (lists_read _ _ c.args.self xs lists (complete v) h.0 h.1) h.2,
     )) c.from_nonempty_iter.ensures

@@ -1,10 +1,9 @@
+use Rattle.ne_iter.proofs.iter.non_empty.NonEmptyIterator.copied.Goals as goal
 use Rattle.std.proofs.Common.{◌≡◌, true}
 use Rattle.std.specs.Iterator.Adapters.{copied_source}
-use Rattle.ne_iter.proofs.CopiedRuns.{DrainsIf-copied}
-use Rattle.ne_vec.specs.FrontLaws.{marked}
-use Rattle.ne_iter.proofs.AdapterLists.{copied_list}
-use Rattle.ne_iter.proofs.ReadLists.{shows_read, read_lists}
-use Rattle.ne_iter.proofs.iter.non_empty.NonEmptyIterator.copied.Goals as goal
+use Rattle.ne_vec.specs.ListLaws.{triggered}
+use Rattle.ne_iter.proofs.Copied.{DrainsIf-copied, copied_list}
+use Rattle.ne_iter.proofs.SourceLists.{reads_through, read_lists}
 
 pub returns-clause-gives : goal.returns-clause-gives
 returns-clause-gives g c whole ys h =
@@ -13,7 +12,7 @@ returns-clause-gives g c whole ys h =
 
 pub returns-clause-lists : goal.returns-clause-lists
 returns-clause-lists g c xs shows = (
-  marked _ xs,
+  triggered _ xs,
   read_lists _ _ _ xs
-      (copied_list (returns-clause-gives g c) xs (shows_read _ _ _ (λ y. y.now) xs shows)),
+      (copied_list (returns-clause-gives g c) xs (reads_through _ _ _ (λ y. y.now) xs shows)),
 )

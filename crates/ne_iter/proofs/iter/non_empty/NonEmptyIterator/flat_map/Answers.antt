@@ -1,12 +1,10 @@
-use Rattle.std.proofs.Common.{subst}
-use Rattle.std.specs.Iterator.Adapters.{map_source, flatten_source}
-use Rattle.ne_iter.specs.Calls.{Calls}
-use Rattle.ne_iter.proofs.Runs.{DrainsIf-map}
-use Rattle.ne_iter.proofs.FlatRuns.{DrainsIf-flatten}
-use Rattle.ne_iter.proofs.AdapterLists.{flat_map_list}
-use Rattle.ne_iter.proofs.ClauseLists.{spreads_lists}
-use Rattle.std.specs.Iterator.Adapters.{map_steps}
 use Rattle.ne_iter.proofs.iter.non_empty.NonEmptyIterator.flat_map.Goals as goal
+use Rattle.std.proofs.Common.{subst}
+use Rattle.std.specs.Iterator.Adapters.{map_source, flatten_source, map_steps}
+use Rattle.ne_iter.specs.Calls.{Calls}
+use Rattle.ne_iter.proofs.Map.{DrainsIf-map}
+use Rattle.ne_iter.proofs.Flatten.{DrainsIf-flatten}
+use Rattle.ne_iter.proofs.FlatMap.{flat_map_list, spreads_lists}
 
 pub returns-clause-gives : goal.returns-clause-gives
 returns-clause-gives g c whole zs h =

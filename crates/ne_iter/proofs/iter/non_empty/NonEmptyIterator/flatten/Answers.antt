@@ -1,8 +1,6 @@
-use Rattle.std.specs.Iterator.Adapters.{flatten_source}
-use Rattle.ne_iter.proofs.FlatRuns.{DrainsIf-flatten}
-use Rattle.ne_iter.proofs.AdapterLists.{flatten_list}
-use Rattle.ne_iter.proofs.ClauseLists.{flattens_lists}
 use Rattle.ne_iter.proofs.iter.non_empty.NonEmptyIterator.flatten.Goals as goal
+use Rattle.std.specs.Iterator.Adapters.{flatten_source}
+use Rattle.ne_iter.proofs.Flatten.{DrainsIf-flatten, flatten_list, flattens_lists}
 
 pub returns-clause-gives : goal.returns-clause-gives
 returns-clause-gives g c whole zs h =

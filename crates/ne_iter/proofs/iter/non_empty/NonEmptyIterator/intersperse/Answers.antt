@@ -1,18 +1,16 @@
+use Rattle.ne_iter.proofs.iter.non_empty.NonEmptyIterator.intersperse.Goals as goal
 use Rattle.std.proofs.Common.{subst}
-use Rattle.std.specs.Prelude.{◌∷◌, ◌≡◌, true, ◌&&◌, is_ok}
+use Rattle.std.specs.Prelude.{◌∷◌, ◌≡◌, true, ◌&&◌, is_ok, map, Ok}
 use Rattle.std.specs.Iterator.{DrainsIf}
 use Rattle.std.specs.List.{list_all}
-use Rattle.ne_iter.specs.Clones.{TriesClone}
-use Rattle.ne_iter.proofs.InterspersedItems.{joined_items, only_its_values}
-use Rattle.ne_iter.proofs.InterspersedRuns.{DrainsIf-interspersed}
-use Rattle.ne_iter.proofs.Traced.{begins}
-use Rattle.std.specs.Prelude.{map, Ok}
 use Rattle.std.specs.declared.alloc.AllocError.{AllocError}
-use Rattle.ne_iter.specs.Interspersed.{interspersed}
-use Rattle.ne_vec.specs.FrontLaws.{marked}
-use Rattle.ne_iter.proofs.AdapterLists.{intersperse_list}
-use Rattle.ne_iter.proofs.ReadLists.{lists_read, read_lists}
-use Rattle.ne_iter.proofs.iter.non_empty.NonEmptyIterator.intersperse.Goals as goal
+use Rattle.ne_vec.specs.ListLaws.{triggered}
+use Rattle.ne_iter.specs.Cloned.{TriesClone}
+use Rattle.ne_iter.specs.Intersperse.{interspersed}
+use Rattle.ne_iter.proofs.Intersperse.{joined_items, only_its_values, DrainsIf-interspersed}
+use Rattle.ne_iter.proofs.Intersperse.{intersperse_list}
+use Rattle.ne_iter.proofs.Traced.{begins}
+use Rattle.ne_iter.proofs.SourceLists.{lists_read, read_lists}
 
 pub returns-clause-gives : goal.returns-clause-gives
 returns-clause-gives g c whole zs h =
@@ -38,6 +36,18 @@ returns-clause-gives g c whole zs h =
       over = p.4;
     }
 
+pub returns-clause-lists : goal.returns-clause-lists
+returns-clause-lists g c xs lists = (
+  triggered _ xs,
+  (
+    λ none same. read_lists _ _ _ (map Ok (interspersed c.args.separator xs))
+        (intersperse_list g.Self.Item.Clone.is_clone g.Self.Item.Clone.is_infallible
+        (returns-clause-gives g c) xs none same (lists_read _ _ _ xs lists)),
+    λ f. joined_items f c.args.separator xs,
+    only_its_values AllocError c.args.separator xs,
+  ),
+)
+
 pub returns-clause-runs : goal.returns-clause-runs
 returns-clause-runs g c =
     let f = c.next-first.ensures.first in (
@@ -46,17 +56,3 @@ returns-clause-runs g c =
       begins g.Self.IntoIter.Iterator.next_gives f.0 c.next-first.result.0
           c.next-first.result.1 f.2,
     )
-
-pub returns-clause-lists : goal.returns-clause-lists
-returns-clause-lists g c xs lists = (
-  marked _ xs,
-  λ none same. read_lists _ _ _ (map Ok (interspersed c.args.separator xs))
-      (intersperse_list g.Self.Item.Clone.is_clone g.Self.Item.Clone.is_infallible
-      (returns-clause-gives g c) xs none same (lists_read _ _ _ xs lists)),
-)
-
-pub returns-clause-joins : goal.returns-clause-joins
-returns-clause-joins g c xs lists = (
-  marked _ xs,
-  (λ f. joined_items f c.args.separator xs, only_its_values AllocError c.args.separator xs),
-)

@@ -1,10 +1,8 @@
+use Rattle.ne_iter.proofs.iter.non_empty.NonEmptyIterator.map.Goals as goal
 use Rattle.std.proofs.Common.{subst}
 use Rattle.std.specs.Iterator.Adapters.{map_source}
 use Rattle.ne_iter.specs.Calls.{Calls}
-use Rattle.ne_iter.proofs.Runs.{DrainsIf-map}
-use Rattle.ne_iter.proofs.AdapterLists.{map_list, map_view}
-use Rattle.ne_iter.proofs.ClauseLists.{maps_list, maps_shown}
-use Rattle.ne_iter.proofs.iter.non_empty.NonEmptyIterator.map.Goals as goal
+use Rattle.ne_iter.proofs.Map.{DrainsIf-map, maps_lists}
 
 pub returns-clause-gives : goal.returns-clause-gives
 returns-clause-gives g c whole ys h =
@@ -17,9 +15,5 @@ returns-clause-gives g c whole ys h =
     }
 
 pub returns-clause-lists : goal.returns-clause-lists
-returns-clause-lists g c = maps_list (map_list (returns-clause-gives g c))
-
-pub returns-clause-shown : goal.returns-clause-shown
-returns-clause-shown g c =
-    let view = g.Self.NonEmptyIterator.item_view in
-    maps_shown view (map_view (returns-clause-gives g c) view.of)
+returns-clause-lists g c =
+    maps_lists g.Self.NonEmptyIterator.item_view (returns-clause-gives g c)

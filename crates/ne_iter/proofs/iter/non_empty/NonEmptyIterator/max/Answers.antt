@@ -1,13 +1,13 @@
+use Rattle.ne_iter.proofs.iter.non_empty.NonEmptyIterator.max.Goals as goal
 use Rattle.std.proofs.Common.{◌∷◌, rules}
 use Rattle.std.proofs.lemmas.List.MinMax.{ranks_by}
+use Rattle.std.specs.Prelude.{◌≡◌, false, All, Contains}
+use Rattle.ne_vec.specs.ListLaws.{triggered}
 use Rattle.ne_iter.specs.Consumers.{less_by}
 use Rattle.ne_iter.proofs.Best.{IsFirstGreatest-kept, less_by-from_partial_lt}
 use Rattle.ne_iter.proofs.Traced.{best_run_of}
-use Rattle.std.specs.Prelude.{◌≡◌, false, All, Contains}
 use Rattle.ne_iter.proofs.Extremes.{best_is}
-use Rattle.ne_vec.specs.FrontLaws.{marked}
-use Rattle.ne_iter.proofs.ReadLists.{of_read}
-use Rattle.ne_iter.proofs.iter.non_empty.NonEmptyIterator.max.Goals as goal
+use Rattle.ne_iter.proofs.SourceLists.{of_read}
 
 pub returns-clause-gives : goal.returns-clause-gives
 returns-clause-gives g c =
@@ -29,7 +29,7 @@ returns-clause-runs g c =
 pub returns-clause-lists : goal.returns-clause-lists
 returns-clause-lists g c xs lists =
     let r = returns-clause-gives g c in (
-      marked _ xs,
+      triggered _ xs,
       of_read _ _ _ xs lists (λ l. Contains l c.best.result
           × All (λ x. less_by g.Self.Item.Ord.cmp c.best.result x ≡ false) l) r.0 r.1
           (best_is (λ x y. less_by g.Self.Item.Ord.cmp y x)

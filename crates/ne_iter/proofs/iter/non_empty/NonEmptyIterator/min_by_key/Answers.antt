@@ -1,9 +1,9 @@
+use Rattle.ne_iter.proofs.iter.non_empty.NonEmptyIterator.min_by_key.Goals as goal
 use Rattle.std.proofs.Common.{◌∷◌, rules}
 use Rattle.std.proofs.lemmas.List.MinMax.{ranks_by}
 use Rattle.ne_iter.specs.Consumers.{less_by}
 use Rattle.ne_iter.proofs.Best.{IsFirstLeast-kept, less_by-from_partial_lt}
 use Rattle.ne_iter.proofs.KeyedBest.{best_key_run_of, has_best_key}
-use Rattle.ne_iter.proofs.iter.non_empty.NonEmptyIterator.min_by_key.Goals as goal
 
 pub returns-clause-gives : goal.returns-clause-gives
 returns-clause-gives g c =

@@ -1,27 +1,13 @@
-use Rattle.ne_iter.proofs.Stops.{GivesNth-from_run}
-use Rattle.ne_iter.specs.Sources.{Reads}
-use Rattle.ne_vec.specs.FrontLaws.{marked, shown_marked}
-use Rattle.ne_iter.proofs.FirstAnswers.{gives_nth, views_nth}
-use Rattle.ne_iter.proofs.ReadLists.{lists_read, shows_read}
 use Rattle.ne_iter.proofs.iter.non_empty.NonEmptyIterator.nth.Goals as goal
-
-pub returns-clause-gives : goal.returns-clause-gives
-returns-clause-gives g c = GivesNth-from_run g.Self.IntoIterator.into_iter_gives
-    g.Self.IntoIter.Iterator.next_gives c.args.self c.into_iter.result c.nth.new.self
-    c.into_iter.ensures.into_iter_gives c.args.n c.nth.result c.nth.ensures.ran
+use Rattle.std.specs.Prelude.{◌≡◌, slice_get}
+use Rattle.std.specs.Option.{option_map}
+use Rattle.ne_iter.proofs.Consumers.{views_nth}
+use Rattle.ne_iter.proofs.SourceLists.{each_view}
 
 pub returns-clause-lists : goal.returns-clause-lists
-returns-clause-lists g c xs lists = (
-  marked _ xs,
-  gives_nth (Reads g.Self.IntoIterator.into_iter_gives g.Self.IntoIter.Iterator.next_gives)
-      c.args.self xs (lists_read _ _ _ xs lists) c.args.n c.nth.result (returns-clause-gives g c),
-)
-
-pub returns-clause-shown : goal.returns-clause-shown
-returns-clause-shown g c xs shows =
-    let view = g.Self.NonEmptyIterator.item_view.of in (
-      shown_marked _ xs,
-      views_nth (Reads g.Self.IntoIterator.into_iter_gives g.Self.IntoIter.Iterator.next_gives)
-          c.args.self view xs (shows_read _ _ _ view xs shows) c.args.n c.nth.result
-          (returns-clause-gives g c),
-    )
+returns-clause-lists g c = each_view
+    (λ view xs. option_map view.of c.nth.result ≡ slice_get xs c.args.n)
+    g.Self.NonEmptyIterator.item_view (λ view xs known.
+    views_nth g.Self.IntoIterator.into_iter_gives g.Self.IntoIter.Iterator.next_gives c.args.self
+    view.of xs known c.into_iter.result c.nth.new.self c.into_iter.ensures.into_iter_gives c.args.n
+    c.nth.result c.nth.ensures.ran)

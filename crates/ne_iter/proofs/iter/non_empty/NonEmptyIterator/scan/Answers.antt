@@ -1,14 +1,9 @@
-use Rattle.std.proofs.Common.{subst, sym}
-use denote.Param.Always.{always_mut}
-use Rattle.ne_iter.specs.Calls.{CallsWithState}
-use Rattle.ne_iter.specs.Scanned.{scanned_from, state_of, callee_of}
-use Rattle.ne_iter.proofs.ScannedRuns.{DrainsIf-scan, CallableInScan-always}
-use Rattle.std.proofs.Common.{refl}
-use Rattle.std.specs.List.{scan}
-use Rattle.ne_vec.specs.FrontLaws.{marked, shown_marked}
-use Rattle.ne_iter.proofs.AdapterLists.{scan_list, scan_view}
-use Rattle.ne_iter.proofs.ReadLists.{lists_read, read_lists, shows_read}
 use Rattle.ne_iter.proofs.iter.non_empty.NonEmptyIterator.scan.Goals as goal
+use Rattle.std.proofs.Common.{subst, sym}
+use Rattle.ne_iter.specs.Calls.{CallsWithState}
+use Rattle.ne_iter.specs.Scan.{scanned_from, state_of, callee_of}
+use denote.Param.Always.{always_mut}
+use Rattle.ne_iter.proofs.Scan.{DrainsIf-scan, CallableInScan-always, scans_lists}
 
 pub returns-clause-gives : goal.returns-clause-gives
 returns-clause-gives g c whole ys h =
@@ -34,23 +29,5 @@ returns-clause-ends g c runs always it made =
     ((source.0, callable), source.1)
 
 pub returns-clause-lists : goal.returns-clause-lists
-returns-clause-lists g c xs lists = (
-  marked _ xs,
-  λ step out acts. (
-    refl,
-    read_lists _ _ _ (scan step out c.args.init xs)
-        (scan_list (returns-clause-gives g c) step out xs acts (lists_read _ _ _ xs lists)),
-  ),
-)
-
-pub returns-clause-shown : goal.returns-clause-shown
-returns-clause-shown g c xs shows =
-    let view = g.Self.NonEmptyIterator.item_view.of in (
-      shown_marked _ xs,
-      λ step out acts. (
-        refl,
-        read_lists _ _ _ (scan step out c.args.init xs)
-            (scan_view (returns-clause-gives g c) view step out xs acts
-            (shows_read _ _ _ view xs shows)),
-      ),
-    )
+returns-clause-lists g c =
+    scans_lists g.Self.NonEmptyIterator.item_view (returns-clause-gives g c)

@@ -1,10 +1,8 @@
+use Rattle.ne_iter.proofs.iter.non_empty.NonEmptyIterator.take.Goals as goal
 use Rattle.std.proofs.Common.{rules, subst, ◌≤◌, length}
 use Rattle.std.specs.Iterator.Adapters.{take_source}
-use Rattle.ne_iter.proofs.Runs.{DrainsIf-take, both_true}
-use Rattle.std.specs.Prelude.{take}
-use Rattle.ne_iter.proofs.AdapterLists.{take_list, take_view}
-use Rattle.ne_iter.proofs.ClauseLists.{gives_each, shows_each}
-use Rattle.ne_iter.proofs.iter.non_empty.NonEmptyIterator.take.Goals as goal
+use Rattle.ne_iter.proofs.Take.{DrainsIf-take, takes_lists}
+use Rattle.ne_iter.proofs.Zip.{both_true}
 
 pub returns-clause-gives : goal.returns-clause-gives
 returns-clause-gives g c whole xs h =
@@ -23,9 +21,5 @@ returns-clause-gives g c whole xs h =
     )
 
 pub returns-clause-lists : goal.returns-clause-lists
-returns-clause-lists g c = gives_each (take _) (take_list (returns-clause-gives g c))
-
-pub returns-clause-shown : goal.returns-clause-shown
-returns-clause-shown g c =
-    let view = g.Self.NonEmptyIterator.item_view in
-    shows_each view view.of (take _) (take_view (returns-clause-gives g c) view.of)
+returns-clause-lists g c =
+    takes_lists g.Self.NonEmptyIterator.item_view (returns-clause-gives g c)

@@ -1,11 +1,11 @@
+use Rattle.ne_iter.proofs.iter.non_empty.NonEmptyIterator.unzip.Goals as goal
 use Rattle.std.proofs.Common.{subst, sym, map, [], ◌∷◌}
 use Rattle.std.proofs.lemmas.List.{append-nil}
+use Rattle.ne_vec.specs.ListLaws.{triggered}
 use Rattle.ne_iter.proofs.Loops.{Reads-loop}
-use Rattle.ne_iter.proofs.Unzipped.{map-one_more}
 use Rattle.ne_iter.proofs.Traced.{whole_run_of, indexes}
-use Rattle.ne_vec.specs.FrontLaws.{marked}
-use Rattle.ne_iter.proofs.ReadLists.{of_read}
-use Rattle.ne_iter.proofs.iter.non_empty.NonEmptyIterator.unzip.Goals as goal
+use Rattle.ne_iter.proofs.Unzipped.{map-one_more}
+use Rattle.ne_iter.proofs.SourceLists.{of_read}
 
 pub loop-a-init : goal.loop-a-init
 loop-a-init g c = (
@@ -38,15 +38,15 @@ returns-clause-gives g c =
       c.loop-a.invariant.1 (first ∷ []) c.in_ok-seconds.ensures,
     )
 
+pub returns-clause-lists : goal.returns-clause-lists
+returns-clause-lists g c ps lists =
+    let r = returns-clause-gives g c in (
+      triggered _ ps,
+      of_read _ _ _ ps lists (λ l. g.FromA.Singleton.collected (map (λ p. p.0) l) c.loop-a.firsts
+          × g.FromB.Singleton.collected (map (λ p. p.1) l) c.loop-a.seconds) r.0 r.1 (r.2, r.3),
+    )
+
 pub returns-clause-runs : goal.returns-clause-runs
 returns-clause-runs g c =
     let r = returns-clause-gives g c in
     whole_run_of r.1 _ (r.2, r.3, indexes r.0 (λ x. x.0), indexes r.0 (λ x. x.1))
-
-pub returns-clause-lists : goal.returns-clause-lists
-returns-clause-lists g c ps lists =
-    let r = returns-clause-gives g c in (
-      marked _ ps,
-      of_read _ _ _ ps lists (λ l. g.FromA.Singleton.collected (map (λ p. p.0) l) c.loop-a.firsts
-          × g.FromB.Singleton.collected (map (λ p. p.1) l) c.loop-a.seconds) r.0 r.1 (r.2, r.3),
-    )

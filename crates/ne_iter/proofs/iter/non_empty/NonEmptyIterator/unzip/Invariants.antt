@@ -1,5 +1,5 @@
-use Rattle.std.proofs.Common.{List, map, ◌++◌}
 use Rattle.ne_iter.proofs.iter.non_empty.NonEmptyIterator.unzip.Given as goal
+use Rattle.std.proofs.Common.{List, map, ◌++◌}
 
 -- each collection holds what it held before the loop, and the parts of the items s
 abbrev pub invariant-loop-a : goal.invariant-loop-a

@@ -1,7 +1,6 @@
-use Rattle.std.specs.Iterator.Adapters.{zip_first, zip_second}
-use Rattle.ne_iter.proofs.Runs.{DrainsIf-zip}
-use Rattle.ne_iter.proofs.ClauseLists.{zips_lists, zips_shown, zips_shown_first, zips_shown_second}
 use Rattle.ne_iter.proofs.iter.non_empty.NonEmptyIterator.zip.Goals as goal
+use Rattle.std.specs.Iterator.Adapters.{zip_first, zip_second}
+use Rattle.ne_iter.proofs.Zip.{DrainsIf-zip, zips_lists}
 
 pub returns-clause-gives : goal.returns-clause-gives
 returns-clause-gives g c whole ps h =
@@ -21,18 +20,4 @@ returns-clause-gives g c whole ps h =
 pub returns-clause-lists : goal.returns-clause-lists
 returns-clause-lists g c =
     zips_lists g.met.U.IntoNonEmptyIterator.same_lists (returns-clause-gives g c)
-
-pub returns-clause-shown : goal.returns-clause-shown
-returns-clause-shown g c =
-    zips_shown g.met.U.IntoNonEmptyIterator.same_lists (returns-clause-gives g c)
-    g.U.IntoNEIter.NonEmptyIterator.item_view g.Self.NonEmptyIterator.item_view
-
-pub returns-clause-shown_first : goal.returns-clause-shown_first
-returns-clause-shown_first g c =
-    zips_shown_first g.met.U.IntoNonEmptyIterator.same_lists (returns-clause-gives g c)
-    g.Self.NonEmptyIterator.item_view
-
-pub returns-clause-shown_second : goal.returns-clause-shown_second
-returns-clause-shown_second g c =
-    zips_shown_second g.met.U.IntoNonEmptyIterator.same_lists (returns-clause-gives g c)
-    g.U.IntoNEIter.NonEmptyIterator.item_view
+    g.Self.NonEmptyIterator.item_view g.U.IntoNEIter.NonEmptyIterator.item_view

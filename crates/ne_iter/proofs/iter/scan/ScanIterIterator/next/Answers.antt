@@ -1,6 +1,6 @@
+use Rattle.ne_iter.proofs.iter.scan.ScanIterIterator.next.Goals as goal
 use Rattle.std.proofs.Common.{rules, refl}
 use Rattle.std.proofs.iter.Next.{served, Serves-on, Called-on}
-use Rattle.ne_iter.proofs.iter.scan.ScanIterIterator.next.Goals as goal
 
 -- the closure may be called with the item that came
 pub f-requires : goal.f-requires

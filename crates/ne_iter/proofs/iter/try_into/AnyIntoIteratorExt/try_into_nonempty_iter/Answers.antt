@@ -1,19 +1,18 @@
+use Rattle.ne_iter.proofs.iter.try_into.AnyIntoIteratorExt.try_into_nonempty_iter.Goals as goal
 use Rattle.std.proofs.Common.{rules, refl, sym, subst, ◌∙◌}
 use Rattle.std.specs.Iterator.Adapters.{peekable_source, peekable_can}
 use Rattle.std.proofs.iter.runs.Made.{at-is, run, took}
 use Rattle.std.specs.Iterator.{IsFinite}
 use Rattle.std.specs.Prelude.{◌≡◌, ◌∷◌, [], true, false, None, Some}
-use Rattle.ne_iter.proofs.LookedRuns.{looked, reads_looked, found}
-use Rattle.ne_iter.proofs.NextLists.{looks_lists}
+use Rattle.ne_iter.specs.Peeked.{has_peeked}
+use Rattle.ne_iter.proofs.TryInto.{looked, reads_peeked, found, peeks_lists}
 use Rattle.ne_iter.proofs.Traced.{whole_run_of}
-use Rattle.ne_iter.specs.Looked.{has_looked}
-use Rattle.ne_iter.proofs.iter.try_into.AnyIntoIteratorExt.try_into_nonempty_iter.Goals as goal
 
-pub returns-then-is_some-clause-looks : goal.returns-then-is_some-clause-looks
-returns-then-is_some-clause-looks g c =
+pub returns-then-is_some-clause-gives : goal.returns-then-is_some-clause-gives
+returns-then-is_some-clause-gives g c =
     let steps = g.T.IntoIter.Iterator.next_gives in
     let v = c.peek.follows.lender-at-none in
-    let full : has_looked v ≡ true = found _ c.peek.result c.peek.follows.holds-at-none.2
+    let full : has_peeked v ≡ true = found _ c.peek.result c.peek.follows.holds-at-none.2
     (sym c.is_some.ensures ∙ c.if-is_some.true) in
     let h = looked steps c.into_iter.result c.peekable-iter.result v c.peekable-iter.ensures.source
     c.peekable-iter.ensures.peeked c.peek.follows.holds-at-none.0 full in (
@@ -33,37 +32,37 @@ returns-then-is_some-clause-looks g c =
       λ whole xs r. record {
         it = c.into_iter.result;
         made = c.into_iter.ensures.into_iter_gives;
-        given = reads_looked steps c.into_iter.result v r.it xs r.made.0 h full r.given;
+        given = reads_peeked steps c.into_iter.result v r.it xs r.made.0 h full r.given;
       },
     )
 
-pub returns-then-is_some-clause-looks_lists : goal.returns-then-is_some-clause-looks_lists
-returns-then-is_some-clause-looks_lists g c =
-    looks_lists _ _ _ _ _ (Some _) (returns-then-is_some-clause-looks g c)
+pub returns-then-is_some-clause-lists : goal.returns-then-is_some-clause-lists
+returns-then-is_some-clause-lists g c =
+    peeks_lists _ _ _ _ _ (Some _) (returns-then-is_some-clause-gives g c)
 
-pub returns-else-is_some-clause-looks : goal.returns-else-is_some-clause-looks
-returns-else-is_some-clause-looks g c = search rules
+pub returns-else-is_some-clause-gives : goal.returns-else-is_some-clause-gives
+returns-else-is_some-clause-gives g c = search rules
 
-pub returns-else-is_some-clause-looks_lists : goal.returns-else-is_some-clause-looks_lists
-returns-else-is_some-clause-looks_lists g c =
-    looks_lists {V = Unit {0}} {T = Unit {0}} _ _ (λ _ _. Unit {0}) (λ _ _ _. Unit {0}) _ None
-    (returns-else-is_some-clause-looks g c)
+pub returns-else-is_some-clause-lists : goal.returns-else-is_some-clause-lists
+returns-else-is_some-clause-lists g c =
+    peeks_lists {V = Unit {0}} {T = Unit {0}} _ _ (λ _ _. Unit {0}) (λ _ _ _. Unit {0}) _ None
+    (returns-else-is_some-clause-gives g c)
 
 -- the same for a run
-pub returns-then-is_some-clause-looks_runs : goal.returns-then-is_some-clause-looks_runs
-returns-then-is_some-clause-looks_runs g c =
+pub returns-then-is_some-clause-runs : goal.returns-then-is_some-clause-runs
+returns-then-is_some-clause-runs g c =
     let steps = g.T.IntoIter.Iterator.next_gives in
     let it = c.into_iter.result in
     let v = c.peek.follows.lender-at-none in
     let peeked = c.peek.follows.holds-at-none in
-    let full : has_looked v ≡ true =
+    let full : has_peeked v ≡ true =
     found _ c.peek.result peeked.2 (sym c.is_some.ensures ∙ c.if-is_some.true) in
     let h = looked steps it c.peekable-iter.result v c.peekable-iter.ensures.source
     c.peekable-iter.ensures.peeked peeked.0 full in
-    let one = (returns-then-is_some-clause-looks g c).0 in
+    let one = (returns-then-is_some-clause-gives g c).0 in
     let first = one.1 in (
       (λ p seen from.
-          let given = reads_looked steps it v p.from p.items from h full (took p) in (
+          let given = reads_peeked steps it v p.from p.items from h full (took p) in (
             it,
             c.into_iter.ensures.into_iter_gives,
             (
@@ -75,12 +74,12 @@ returns-then-is_some-clause-looks_runs g c =
       (first.it, first.made, (run steps first.it (one.0 ∷ []) false first.given, refl, refl)),
     )
 
-pub returns-else-is_some-clause-looks_runs : goal.returns-else-is_some-clause-looks_runs
-returns-else-is_some-clause-looks_runs g c =
-    whole_run_of (returns-else-is_some-clause-looks g c) _ (refl, refl)
+pub returns-else-is_some-clause-runs : goal.returns-else-is_some-clause-runs
+returns-else-is_some-clause-runs g c =
+    whole_run_of (returns-else-is_some-clause-gives g c) _ (refl, refl)
 
-pub returns-then-is_some-clause-looks_on : goal.returns-then-is_some-clause-looks_on
-returns-then-is_some-clause-looks_on g c finite it made =
+pub returns-then-is_some-clause-ends : goal.returns-then-is_some-clause-ends
+returns-then-is_some-clause-ends g c finite it made =
     let steps = g.T.IntoIter.Iterator in
     let ends = (finite c.into_iter.result c.into_iter.ensures.into_iter_gives).1 in
     let peeked = c.peek.follows.holds-at-none.1 in

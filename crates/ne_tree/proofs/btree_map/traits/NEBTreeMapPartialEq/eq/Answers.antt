@@ -1,6 +1,6 @@
+use Rattle.ne_tree.proofs.btree_map.traits.NEBTreeMapPartialEq.eq.Goals as goal
 use Rattle.std.proofs.Common.{rules}
 use Rattle.ne_tree.proofs.MapEq.{equal_iff_same}
-use Rattle.ne_tree.proofs.btree_map.traits.NEBTreeMapPartialEq.eq.Goals as goal
 
 pub returns-clause-same_map : goal.returns-clause-same_map
 returns-clause-same_map g c =

@@ -1,6 +1,6 @@
-use Rattle.std.proofs.Common.{rules}
-use Rattle.ne_tree.proofs.Collect.{map_of-put}
 use Rattle.ne_tree.proofs.btree_map.traits.NEBTreeMapSingleton.extend_one.Goals as goal
+use Rattle.std.proofs.Common.{rules}
+use Rattle.ne_tree.proofs.TreeInserts.{map_of-put}
 
 pub returns-clause-added : goal.returns-clause-added
 returns-clause-added g c = λ xs h. (

@@ -1,5 +1,5 @@
-use Rattle.ne_tree.proofs.Collect.{one_made}
 use Rattle.ne_tree.proofs.btree_map.traits.NEBTreeMapSingleton.singleton.Goals as goal
+use Rattle.ne_tree.proofs.TreeInserts.{one_made}
 
 pub returns : goal.returns
 returns g c =

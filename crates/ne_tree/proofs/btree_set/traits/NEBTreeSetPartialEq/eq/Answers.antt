@@ -1,6 +1,6 @@
+use Rattle.ne_tree.proofs.btree_set.traits.NEBTreeSetPartialEq.eq.Goals as goal
 use Rattle.std.proofs.Common.{rules}
 use Rattle.ne_tree.proofs.SetEq.{equal_iff_same}
-use Rattle.ne_tree.proofs.btree_set.traits.NEBTreeSetPartialEq.eq.Goals as goal
 
 pub returns-clause-same_set : goal.returns-clause-same_set
 returns-clause-same_set g c =

@@ -1,6 +1,6 @@
-use Rattle.std.proofs.Common.{rules}
-use Rattle.ne_tree.proofs.Collect.{set_of-put}
 use Rattle.ne_tree.proofs.btree_set.traits.NEBTreeSetSingleton.extend_one.Goals as goal
+use Rattle.std.proofs.Common.{rules}
+use Rattle.ne_tree.proofs.TreeInserts.{set_of-put}
 
 pub returns-clause-added : goal.returns-clause-added
 returns-clause-added g c = λ xs h. (

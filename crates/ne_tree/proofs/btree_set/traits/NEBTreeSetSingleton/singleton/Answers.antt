@@ -1,5 +1,5 @@
-use Rattle.ne_tree.proofs.Collect.{one_item_made}
 use Rattle.ne_tree.proofs.btree_set.traits.NEBTreeSetSingleton.singleton.Goals as goal
+use Rattle.ne_tree.proofs.TreeInserts.{one_item_made}
 
 pub returns : goal.returns
 returns g c =

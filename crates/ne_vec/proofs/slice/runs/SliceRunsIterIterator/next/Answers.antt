@@ -1,7 +1,7 @@
+use Rattle.ne_vec.proofs.slice.runs.SliceRunsIterIterator.next.Goals as goal
 use Rattle.std.proofs.Common.{refl, sym}
 use Rattle.std.proofs.lemmas.List.{take-append-drop}
 use Rattle.ne_vec.proofs.FirstRuns.{front_is_some}
-use Rattle.ne_vec.proofs.slice.runs.SliceRunsIterIterator.next.Goals as goal
 
 pub returns-clause-steps : goal.returns-clause-steps
 returns-clause-steps g c =

@@ -1,0 +1,56 @@
+-- What a hashed map or set holds after pairs or items are inserted one after the other.
+use Rattle.std.specs.HashSet as set
+use Rattle.std.proofs.Common.{◌≡◌, ◌<◌, Bool, List, [], ◌∷◌, ◌++◌, Some, true, length}
+use Rattle.std.specs.Prelude.{Result, Ok, Err, IfOk}
+use Rattle.std.specs.Cmp.{IsEquivalence}
+use Rattle.std.specs.HashMap.{HashMap, InsertsAll, IsUnique, Updates, hash_map_len}
+use Rattle.std.specs.HashSet.{HashSet, IsUnique as AreUnique}
+use Rattle.ne_iter.specs.Collected.{IsMapOf, IsSetOf}
+use Rattle.ne_iter.specs.CollectedLaws.{map_of-inserts, map_of-more, map_of-one, nonempty-inserts}
+use Rattle.ne_iter.specs.CollectedLaws.{set_of-inserts, set_of-more, set_of-one}
+use Rattle.ne_iter.specs.CollectedLaws.{nonempty_set-inserts}
+
+-- Pairs inserted one after the other.
+module _ {K V S : Type 0} {eq : K → K → Bool} (laws : IsEquivalence eq) (m n : HashMap K V S)
+    (xs : List (K × V)) (x : InsertsAll eq m xs n) where
+  pub map_of-inserts_all : IsUnique eq m → IsMapOf eq (m.entries ++ xs) n.entries
+  map_of-inserts_all u = map_of-inserts laws m.entries n.entries xs x.0 u x.1
+
+  pub nonempty-inserts_all : 0 < hash_map_len m → 0 < hash_map_len n
+  nonempty-inserts_all some = nonempty-inserts laws m.entries n.entries xs x.0 some
+
+module _ {K V S : Type 0} (eq : K → K → Bool) where
+  -- A map of one pair.
+  pub one_made : {E : Type 0} (r : Result (HashMap K V S) E) (p : K × V)
+      → IfOk r (λ m. m.entries ≡ p ∷ [])
+      → IfOk r (λ m. IsMapOf eq (p ∷ []) m.entries × (0 < length m.entries))
+  one_made (Ok m) p is = map_of-one eq p m.entries is
+  one_made (Err e) p is = tt
+
+  -- The map after one more pair.
+  pub map_of-put : IsEquivalence eq → (xs : List (K × V)) (m n : HashMap K V S) (p : K × V)
+      → IsUnique eq n → Updates eq m n p.0 (Some p.1) → IsMapOf eq xs m.entries
+      → IsMapOf eq (xs ++ p ∷ []) n.entries
+  map_of-put laws xs m n p u put h = map_of-more laws xs m.entries n.entries p u put.0 h
+
+-- Items inserted one after the other.
+module _ {T S : Type 0} {eq : T → T → Bool} (laws : IsEquivalence eq) (s t : HashSet T S)
+    (xs : List T) (x : set.InsertsAll eq s xs t) where
+  pub set_of-inserts_all : IsSetOf eq (s.keys ++ xs) t.keys
+  set_of-inserts_all = set_of-inserts laws s.keys xs t.keys x.0 x.1
+
+  pub nonempty_set-inserts_all : 0 < length s.keys → 0 < length t.keys
+  nonempty_set-inserts_all some = nonempty_set-inserts laws s.keys xs t.keys x.0 some
+
+module _ {T S : Type 0} (eq : T → T → Bool) where
+  -- A set of one item.
+  pub one_item_made : {E : Type 0} (r : Result (HashSet T S) E) (x : T)
+      → IfOk r (λ s. s.keys ≡ x ∷ [])
+      → IfOk r (λ s. IsSetOf eq (x ∷ []) s.keys × (0 < length s.keys))
+  one_item_made (Ok s) x is = set_of-one eq x s.keys is
+  one_item_made (Err e) x is = tt
+
+  -- The set after one more item.
+  pub set_of-put : IsEquivalence eq → (xs : List T) (s t : HashSet T S) (x : T) → AreUnique eq t
+      → set.Updates eq s t x true → IsSetOf eq xs s.keys → IsSetOf eq (xs ++ x ∷ []) t.keys
+  set_of-put laws xs s t x u put h = set_of-more laws xs s.keys t.keys x u put.0 h

@@ -1,0 +1,34 @@
+-- What a hashed map is once the mutable references to its values have ended.
+use Rattle.std.specs.declared.hash.BuildHasher as builder
+use Rattle.std.specs.declared.hash.Hasher as hasher
+use Rattle.std.specs.Prelude.{◌≡◌, Option}
+use Rattle.std.specs.Borrow.{Array, Fml, MutBor, RattleType, LendsSo, follows}
+use Rattle.std.specs.HashMap.{HashMap, WritesThrough}
+use Rattle.std.specs.HashMap.IterMut.{iter_mut_name}
+use Rattle.std.specs.HashMap.Lent.{HashMembers, with_values}
+use Rattle.std_collections.specs.declared.hash_map.iter.lent.IterMut.{IterMut as StdIterMut}
+use Rattle.ne_hash.specs.declared.map.iter.IterMut.{IterMut}
+use Rattle.ne_hash.specs.contracts.map.NEMap.{the_row}
+
+-- The iterator that a non-empty iterator over mutable references holds and is turned into.
+abbrev pub std_iterator : {K V : Type 0} → IterMut K V → StdIterMut K V
+std_iterator w = w.inner
+
+module _ (K V S H : RattleType) (key : HashMembers K.Denot)
+    (build : builder.Ghosts S.Denot H.Denot) (hash : hasher.Ghosts H.Denot) where
+  -- The type of the map in the logic.
+  abbrev pub map_row : RattleType
+  map_row = the_row K V S H (record { eq = key.eq }) (record { hash_input = key.hash_input }) build
+      hash
+
+  -- The map keeps its keys, and its values are those that the iterator leaves.
+  abbrev pub LendsValues : MutBor (HashMap K.Denot V.Denot S.Denot) → StdIterMut K.Denot V.Denot
+      → Fml
+  LendsValues m it = follows map_row (Array V 0) m.ghost_name (iter_mut_name it)
+      (with_values m.now)
+
+  -- The key k has the value that was last written through r. If r is `None`, the map is unchanged.
+  abbrev pub LendsValue : MutBor (HashMap K.Denot V.Denot S.Denot) → K.Denot
+      → Option (MutBor V.Denot) → Fml
+  LendsValue m k r = LendsSo map_row V m r (λ n w. WritesThrough key.eq (key.eq k) m.now w n)
+      (λ n. n ≡ m.now)

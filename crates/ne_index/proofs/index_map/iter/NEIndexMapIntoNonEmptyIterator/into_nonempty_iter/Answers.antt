@@ -1,0 +1,13 @@
+use Rattle.ne_index.proofs.index_map.iter.NEIndexMapIntoNonEmptyIterator.into_nonempty_iter.Goals
+    as goal
+use Rattle.std.proofs.Common.{rules}
+use Rattle.ne_iter.specs.KeyIteratorLaws.{lists_known}
+
+pub returns : goal.returns
+returns g c = record {
+  into_nonempty_iter_gives = (
+    search rules,
+    search rules,
+    lists_known _ (λ x. x) c.new.result _ (search rules),
+  );
+}

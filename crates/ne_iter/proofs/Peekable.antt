@@ -1,0 +1,61 @@
+-- `peekable`: from a run of its iterator to the list that it yields.
+use Rattle.std.proofs.Common.{rules, subst, sym, ap, ◌∙◌}
+use Rattle.std.specs.Prelude.{◌≡◌, List, [], ◌∷◌, ◌++◌, length, Option, Some, None, refl, Bool}
+use Rattle.std.specs.Prelude.{true, false, ltb, ◌||◌}
+use Rattle.std.specs.Iterator.{DrainsIf}
+use Rattle.std.specs.Iterator.Adapters.{once_item, once_steps, chain_first, chain_second}
+use Rattle.std.specs.Iterator.Adapters.{chain_first_done, chain_second_done, chain_steps}
+use Rattle.std.specs.declared.iter.Once.{Once}
+use Rattle.std.specs.declared.iter.Chain.{Chain}
+use Rattle.ne_iter.specs.Peekable.{with_head, PeekableGives, peekable_first}
+use Rattle.ne_iter.specs.Sources.{ReadsList, Reads}
+use Rattle.ne_iter.specs.declared.iter.peekable.Peekable.{Peekable}
+use Rattle.ne_iter.proofs.Chain.{DrainsIf-chain}
+
+no_item : {A : Type 0} (x : A) → Some x ≡ None → ⊥
+no_item x e = let e = e in search rules
+
+some_more : {A : Type 0} (y : A) (ys : List A) → ltb 0 (length (y ∷ ys)) ≡ true
+some_more y ys = search rules
+
+module _ {S A : Type 0} (steps : S → Option A → S → Type 0) (w x : A) (it rest : S)
+    (drawn : steps it (Some x) rest) where
+  abbrev Headed : Bool → List A → Type 0
+  Headed whole zs = DrainsIf steps (whole ≡ true) it (with_head x zs) × (zs ≡ with_head w zs)
+
+  nothing : (whole : Bool) (ys : List A) → ((whole || ltb 0 (length ys)) ≡ true → ⊥)
+      → Headed whole ys
+  nothing true ys h = absurd (h refl)
+  nothing false [] h = ((it, refl, λ e. let e = e in search rules), refl)
+  nothing false (y ∷ ys) h = absurd (h (some_more y ys))
+
+  one_first : (whole : Bool) (o : Once A) (xs ys : List A) → once_item o ≡ Some w
+      → DrainsIf once_steps ((whole || ltb 0 (length ys)) ≡ true) o xs
+      → DrainsIf steps (whole ≡ true) rest ys
+      → Headed whole (xs ++ ys)
+  one_first whole o [] ys e (t, same, fin) k = nothing whole ys
+      (λ h. no_item w (sym e ∙ ap once_item same ∙ sym (fin h).1.0))
+  one_first whole o (q ∷ []) ys e (t, (j, st, more), fin)
+      k = ((k.0, (rest, drawn, k.1), k.2), (let a = st.0 in let b = e in cc))
+  one_first whole o (q ∷ r ∷ xs) ys e (t, (j, st, (i, more, others)), fin) k = absurd
+      (no_item r (more.0 ∙ st.1))
+
+  pub DrainsIf-headed : (whole : Bool) (s : Chain (Once A) S) (zs : List A)
+      → once_item (chain_first s) ≡ Some w → chain_second s ≡ rest → chain_first_done s ≡ false
+      → chain_second_done s ≡ false
+      → DrainsIf (chain_steps once_steps steps) (whole ≡ true) s zs → Headed whole zs
+  DrainsIf-headed whole s zs e second fresh live k =
+      let p = DrainsIf-chain once_steps steps whole s zs fresh live k in
+      subst (Headed whole) (sym p.4) (one_first whole (chain_first s) p.0 p.1 e p.2
+      (subst (λ q. DrainsIf steps (whole ≡ true) q p.1) second p.3))
+
+module _ {U S A T : Type 0} (becomes : U → S → Type 0) (steps : S → Option A → S → Type 0)
+    (made : Peekable S A → T → Type 0) (next : T → Option A → T → Type 0) {u : U} {v : Peekable S A}
+    (gives : PeekableGives (Reads becomes steps) (Reads made next) u v) where
+  pub peekable_list : (xs : List A) → ReadsList (Reads becomes steps) u xs
+      → ReadsList (Reads made next) v xs
+  peekable_list xs list whole zs read =
+      let parts = gives (peekable_first v) whole zs read in
+      let same = parts.1 in
+      let front = list whole _ parts.0 in
+      (front.0, (let a = front.1 in cc), front.2)

@@ -1,0 +1,56 @@
+-- `flat_map`: its parts, and what it yields.
+use Rattle.std.specs.Prelude.{◌≡◌, Bool, List, Option}
+use Rattle.std.specs.Fn.{Mut, Called}
+use Rattle.std.specs.List.{flat_map}
+use Rattle.std.specs.Iterator.Adapters.{map_steps, flatten_steps}
+use Rattle.std.specs.Iterator.Runs.{EachRunFrom, SomeRun, IsFlatMapRun}
+use Rattle.std.specs.declared.iter.Map.{Map as StdMap}
+use Rattle.std.specs.declared.iter.Flatten.{Flatten as StdFlatten}
+use Rattle.ne_vec.specs.Divisions.{concat}
+use Rattle.ne_vec.specs.Lists.{Naming, EachList}
+use Rattle.ne_iter.specs.declared.iter.flat_map.FlatMap.{FlatMap}
+use Rattle.ne_iter.specs.Calls.{Calls}
+use Rattle.ne_iter.specs.Flatten.{ReadsEach}
+
+-- the source and the closure of a `FlatMap`
+abbrev pub flat_map_source : {I U F : Type 0} → FlatMap I U F → I
+flat_map_source s = s.iter
+
+abbrev pub flat_map_callee : {I U F : Type 0} → FlatMap I U F → F
+flat_map_callee s = s.f
+
+module _ {U A : Type 0} (reads : Bool → U → List A → Type 0) where
+  -- zs are the lists of the sources that f returned, one after the other.
+  pub record IsFlatMapped {W B F : Type 0} (inner : Bool → W → List B → Type 0)
+      (calls : Mut F (A × Unit {0}) W) (source : U) (f : F) (whole : Bool) (zs : List B) : Type 0
+    where
+      pub items : List A
+      -- the sources that f returned, and what each of them gave
+      pub sources : List W
+      pub lists : List (List B)
+      pub f_then : F
+      pub read : reads whole source items
+      pub called : Calls calls f items sources f_then
+      pub read_each : ReadsEach inner whole sources lists
+      pub is : zs ≡ concat lists
+
+-- each call of f with x leaves f unchanged and returns a source of the items of `inner x`
+abbrev pub ReturnsLists : {A W B F : Type 0} → Mut F (A × Unit {0}) W → F
+    → (W → List B → Type 0) → (A → List B) → Type 0
+ReturnsLists {A} {W} {F = F} calls f lists inner =
+    (x : A) (w : W) (g : F) → Called calls f (x, tt) w g → (g ≡ f) × lists w (inner x)
+
+-- `flat_map`: the lists of the sources that f returns, one after another. `becomes` says which list
+-- the source gives that such a value becomes.
+abbrev pub SpreadsLists : {U A W B V F : Type 0} → Mut F (A × Unit {0}) W → F
+    → (U → List A → Type 0) → (W → List B → Type 0) → (V → List B → Type 0) → U → V → Type 0
+SpreadsLists {A = A} {B = B} calls f lists becomes gives u v = EachList lists u (λ xs.
+    (inner : A → List B) → Naming (flat_map inner xs) (λ ys.
+    ReturnsLists calls f becomes inner → gives v ys))
+
+abbrev pub FlatMapsRuns : {S A W J B F : Type 0} → (S → Option A → S → Type 0)
+    → (W → J → Type 0) → (J → Option B → J → Type 0) → Mut F (A × Unit {0}) W → F → S
+    → StdFlatten (StdMap S F) J → Type 0
+FlatMapsRuns steps becomes inner calls f source it =
+    EachRunFrom (flatten_steps (map_steps steps calls) becomes inner) it (λ p.
+    SomeRun steps source (λ q. IsFlatMapRun p q inner calls f becomes))

@@ -1,0 +1,50 @@
+-- `group_by`: its parts, and the runs that it yields.
+use Rattle.std.specs.Prelude.{◌≡◌, ◌≢◌, Bool, true, false, List, [], ◌∷◌, ◌++◌, Option, None, Some}
+use Rattle.std.specs.Prelude.{MatchOption, Result, Ok, Err, map}
+use Rattle.std.specs.Fn.{Mut}
+use Rattle.std.specs.Borrow.{Bor}
+use Rattle.std.proofs.Common.{◌⊎◌}
+use Rattle.ne_iter.specs.declared.iter.group_by.NEGroupBy.{NEGroupBy}
+use Rattle.ne_iter.specs.Calls.{CallsEachAt}
+use Rattle.ne_iter.specs.Keys.{items_of, DividesByKey}
+
+-- the source and the closure of a `NEGroupBy`
+abbrev pub group_by_source : {I F : Type 0} → NEGroupBy I F → I
+group_by_source s = s.iter
+
+abbrev pub group_by_callee : {I F : Type 0} → NEGroupBy I F → F
+group_by_callee s = s.f
+
+-- The runs rs, followed by one of the single item that is held, if there is one.
+abbrev pub and_held : {A : Type 0} → List (List A) → Option A → List (List A)
+and_held rs None = rs
+and_held rs (Some x) = rs ++ (x ∷ []) ∷ []
+
+module _ {U A K F : Type 0} (reads : Bool → U → List A → Type 0) (asks : Mut F (Bor A × Unit {0}) K)
+    (eq : K → K → Bool) where
+  -- The items taken from the source, for which f was called in order, are divided by their keys,
+  -- which f returned, into the runs rs and an item that is held. If `whole` is true, the source has
+  -- ended.
+  pub record HasRuns (whole : Bool) (source : U) (f : F) (rs : List (List A)) : Type 0 where
+    pub drawn : List (A × K)
+    pub closure : F
+    pub held : Option A
+    pub ended : Bool
+    pub read : reads ended source (items_of drawn)
+    pub asked : CallsEachAt asks f drawn closure
+    pub divided : DividesByKey eq drawn (and_held rs held)
+    -- no item is held before anything is taken and once the source has ended; otherwise one is
+    -- held, after a run
+    pub holds : MatchOption held ((ended ≡ true) ⊎ (drawn ≡ [])) (λ _. rs ≢ [])
+    pub over : whole ≡ true → (ended ≡ true) × (held ≡ None)
+
+  -- `group_by`: the runs of the source's items by the keys that f returned, each in `Ok`. An `Err`
+  -- may come in place of a run, and then nothing comes after it.
+  abbrev pub GroupByGives : {V E : Type 0} → (Bool → V → List (Result (List A) E) → Type 0) → U → F
+      → V → Type 0
+  GroupByGives {E = E} grouped source f result
+      = ((whole : Bool) (rs : List (List A)) → grouped whole result (map Ok rs)
+      → HasRuns whole source f rs)
+      × ((whole : Bool) (xs : List (Result (List A) E)) → grouped whole result xs
+      → (rs : List (List A)) × ((xs ≡ map Ok rs)
+      ⊎ ((e : E) × (xs ≡ map Ok rs ++ Err e ∷ []) × HasRuns false source f rs)))

@@ -1,0 +1,137 @@
+-- `intersperse`: its parts, the list with separators, one call of its iterator, and what it yields.
+use Rattle.std.specs.Prelude.{◌≡◌, ℕ, ◌+◌, ◌*◌, Bool, false, List, [], ◌∷◌, map, true, Option, None}
+use Rattle.std.specs.Prelude.{Some, MatchOption, IsSomeAnd, Result, Ok, MatchResult, ◌&&◌, ◌++◌}
+use Rattle.std.specs.Prelude.{is_ok}
+use Rattle.std.specs.Bool.{MatchBool}
+use Rattle.std.specs.Option.{option_len}
+use Rattle.std.specs.Iterator.{Count, count_map, count_unless}
+use Rattle.std.specs.Iterator.Runs.{EachRunFrom, SomeRun}
+use Rattle.std.specs.List.{flat_map, join_by, list_all}
+use Rattle.std.specs.declared.alloc.AllocError.{AllocError}
+use Rattle.std.proofs.Common.{rules}
+use Rattle.std.proofs.lemmas.Bool.{MatchBool-at_false}
+use Rattle.std.proofs.lemmas.Option.{MatchOption-at_some}
+use Rattle.ne_vec.specs.Lists.{Naming}
+use Rattle.ne_iter.specs.declared.iter.intersperse.Intersperse.{Intersperse}
+use Rattle.ne_iter.specs.Cloned.{TriesClone}
+use Rattle.ne_iter.specs.declared.iter.intersperse.RawIntersperse.{RawIntersperse}
+use Rattle.ne_iter.specs.Sources.{HasFirst}
+
+-- the item that an `Intersperse` has taken, the iterator over those after it, and the separator
+abbrev pub intersperse_first : {S X : Type 0} → Intersperse S X → X
+intersperse_first s = s.first
+
+abbrev pub intersperse_rest : {S X : Type 0} → Intersperse S X → S
+intersperse_rest s = s.rest
+
+abbrev pub intersperse_separator : {S X : Type 0} → Intersperse S X → X
+intersperse_separator s = s.separator
+
+-- zs are the items xs, each in `Ok`, and between each two of them what cloning the separator
+-- returned; up to the first clone that failed. `came` holds for what a clone may return.
+abbrev pub Interspersed : {A E : Type 0} → (Result A E → Type 0) → List A → List (Result A E)
+    → Type 0
+Interspersed came [] zs = zs ≡ []
+Interspersed came (x ∷ []) zs = zs ≡ Ok x ∷ []
+Interspersed {A} {E} came (x ∷ y ∷ xs) zs = (c : Result A E) × (more : List (Result A E)) × came c
+    × (zs ≡ Ok x ∷ c ∷ more)
+    × MatchResult c (λ _. Interspersed came (y ∷ xs) more) (λ _. more ≡ [])
+
+-- xs with s between each two of its items: std's `join` of lists of one item each
+abbrev pub interspersed : {A : Type 0} → A → List A → List A
+interspersed s xs = join_by (λ x. x ∷ []) (s ∷ []) xs
+
+-- For the automatic proof: the lists that f makes of the items xs, and of the s between each two of
+-- them, one after the other, are std's `join` of the items. If f gives the bytes of texts, this is
+-- the text that they make.
+abbrev pub JoinsLists : {A : Type 0} → A → List A → Type 0
+JoinsLists {A} s xs = (f : A → List ℕ) → flat_map f (interspersed s xs) ≡ join_by f (f s) xs
+
+-- For the automatic proof: if xs with s between each two items, each in `Ok`, equals some values,
+-- each in `Ok`, then it equals these values.
+abbrev pub OnlyItsValues : {A : Type 0} → Type 0 → A → List A → Type 0
+OnlyItsValues {A} E s xs = (values : List A)
+    → map {B = Result A E} Ok (interspersed s xs) ≡ map Ok values
+    → Naming (map {B = Result A E} Ok values) (λ _. values ≡ interspersed s xs)
+
+-- the iterator that a `RawIntersperse` takes items from, the separator, the item that was taken and
+-- comes next, and whether a clone failed
+abbrev pub drawn_from : {I X : Type 0} → RawIntersperse I X → I
+drawn_from s = s.iter
+
+abbrev pub clones_of : {I X : Type 0} → RawIntersperse I X → X
+clones_of s = s.separator
+
+abbrev pub in_hand : {I X : Type 0} → RawIntersperse I X → Option X
+in_hand s = s.next
+
+abbrev pub is_over : {I X : Type 0} → RawIntersperse I X → Bool
+is_over s = s.is_over
+
+-- at most the item held, and two for each item that is left
+abbrev pub interspersed_left : {I X : Type 0} → (I → Count) → RawIntersperse I X → Count
+interspersed_left left s = count_unless (is_over s)
+    (count_map (λ n. 2 * n + option_len (in_hand s)) (left (drawn_from s)))
+
+module _ {S A E : Type 0} (steps : S → Option A → S → Type 0) (tries : A → Result A E → Type 0)
+  where
+    -- If no item is held, the next one is taken. If there is none, the result is `None`. Otherwise
+    -- the result is what cloning the separator returned, and then the item is held, or the clone
+    -- failed.
+    abbrev pub DrawsNext : RawIntersperse S A → Option (Result A E) → RawIntersperse S A → Type 0
+    DrawsNext s r t = (o : Option A) × steps (drawn_from s) o (drawn_from t)
+        × MatchOption o ((r ≡ None) × (in_hand t ≡ None) × (is_over t ≡ false))
+        (λ x. IsSomeAnd r (λ c. tries (clones_of s) c
+        × MatchResult c (λ _. (in_hand t ≡ Some x) × (is_over t ≡ false))
+        (λ _. is_over t ≡ true)))
+
+    -- The item x, which is held, is returned.
+    pub record GivesHeld (s : RawIntersperse S A) (r : Option (Result A E))
+        (t : RawIntersperse S A) (x : A) : Type 0 where
+      pub answer : r ≡ Some (Ok x)
+      pub draws_none : drawn_from t ≡ drawn_from s
+      pub in_hand_then : in_hand t ≡ None
+      pub is_on : is_over t ≡ false
+
+    -- One call. After a failed clone it returns `None` and takes nothing. If an item is held, it is
+    -- returned. Otherwise `DrawsNext` holds.
+    abbrev pub InterspersesNext : RawIntersperse S A → Option (Result A E) → RawIntersperse S A
+        → Type 0
+    InterspersesNext s r t = (clones_of t ≡ clones_of s)
+        × MatchBool (is_over s) ((r ≡ None) × (t ≡ s))
+        (MatchOption (in_hand s) (DrawsNext s r t) (GivesHeld s r t))
+
+-- Each run of `it` has a run of `rest`, whose items come after x. If clones of the separator s
+-- equal it and cannot fail, a whole run gives all of these items with s between each two, each in
+-- `Ok`. If what the run gave equals some values, each in `Ok`, then these values are that list.
+abbrev pub IntersperseRuns : {S A : Type 0} → (S → Option A → S → Type 0) → (A → A → Type 0)
+    → (A → Type 0) → A → A → S → RawIntersperse S A → Type 0
+IntersperseRuns {S} {A} steps clones infallible s x rest it =
+    EachRunFrom (InterspersesNext steps (TriesClone {E = AllocError} clones infallible)) it (λ p.
+    SomeRun steps rest (λ q.
+    infallible s → ((y z : A) → clones y z → z ≡ y) → p.whole ≡ true → (q.whole ≡ true)
+    × (p.items ≡ map Ok (interspersed s (x ∷ q.items)))
+    × ((values : List A) → p.items ≡ map Ok values
+    → Naming (map {B = Result A AllocError} Ok values)
+    (λ _. values ≡ interspersed s (x ∷ q.items)))))
+
+module _ {U A : Type 0} (reads : Bool → U → List A → Type 0) where
+  -- zs are the items, each in `Ok`, with what cloning the separator returned between each two. What
+  -- came so far is the beginning of that list, and what came to the end is all of it; the source
+  -- has then ended too, unless a clone failed.
+  pub record IsInterspersed {E : Type 0} (tries : A → Result A E → Type 0) (source : U)
+      (separator : A) (whole : Bool) (zs : List (Result A E)) : Type 0 where
+    pub items : List A
+    -- what has not come yet
+    pub later : List (Result A E)
+    pub read : reads (whole && list_all is_ok zs) source items
+    pub spaced : Interspersed (tries separator) items (zs ++ later)
+    pub over : whole ≡ true → later ≡ []
+
+module _ {S A E : Type 0} (steps : S → Option A → S → Type 0) (tries : A → Result A E → Type 0)
+  where
+    pub HasFirst-interspersed : (s : RawIntersperse S A) (x : A) → in_hand s ≡ Some x
+        → is_over s ≡ false → HasFirst (InterspersesNext steps tries) s
+    HasFirst-interspersed s x hand fresh t ended =
+        let e = (MatchOption-at_some _ _ x hand (MatchBool-at_false _ _ fresh ended.1)).answer in
+        search rules

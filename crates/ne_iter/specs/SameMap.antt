@@ -1,0 +1,8 @@
+-- When two maps are the same map, up to equality of keys and values.
+use Rattle.std.specs.Prelude.{◌≡◌, Bool, true, Option}
+use Rattle.std.specs.Option.{option_eq}
+
+-- The lookups of two maps return equal values: each key is in both maps or in neither. If it is in
+-- both, its values are equal.
+abbrev pub IsSameMap : {K V : Type 0} → (V → V → Bool) → (K → Option V) → (K → Option V) → Type 0
+IsSameMap {K} eq f g = (q : K) → option_eq eq (f q) (g q) ≡ true

@@ -1,0 +1,72 @@
+//! The adapter that yields the items of the sources that a closure returns, one source after
+//! another.
+ghost use Rattle.std.specs.Prelude.{◌^◌, ◌<◌};
+ghost use Rattle.std.specs.Iterator.{CallableOnAll, IsFinite, size};
+ghost use Rattle.ne_iter.specs.FlatMap.{flat_map_source, flat_map_callee};
+
+use super::{IntoNonEmptyIterator, NonEmptyIterator, Source};
+use std::iter;
+use std::marker::PhantomData;
+
+/// A source of the items of the sources that a closure returns for the items of a source: see
+/// [`NonEmptyIterator::flat_map`].
+#[derive(Drop)]
+pub struct FlatMap<I, U, F> {
+    pub(super) iter: I,
+    pub(super) f: F,
+    pub(super) of: PhantomData<U>,
+}
+
+impl<U: IntoNonEmptyIterator, I: IntoIterator, F: FnMut(I::Item) -> U> IntoIterator
+    for FlatMap<I, U, F> {
+    ghost use Rattle.std.specs.Prelude.{◌≡◌, None, false};
+    ghost use Rattle.std.specs.Iterator.Adapters.{map_source as std_map_source};
+    ghost use Rattle.std.specs.Iterator.Adapters.{map_callee as std_map_callee};
+    ghost use Rattle.std.specs.Iterator.Adapters.{flatten_source as std_flatten_source};
+    ghost use Rattle.std.specs.Iterator.Adapters.{flatten_front, flatten_back, flatten_done};
+    ghost use Rattle.ne_iter.specs.FlatMap.{flat_map_source, flat_map_callee, FlatMapsRuns};
+
+    type Item = U::Item;
+
+    type IntoIter = iter::FlatMap<I::IntoIter, U, F>;
+
+    ghost into_iter_gives = { λ s it.
+        I.into_iter_gives (flat_map_source s) (std_map_source (std_flatten_source it))
+        × (std_map_callee (std_flatten_source it) ≡ flat_map_callee s) × (flatten_front it ≡ None)
+        × (flatten_back it ≡ None) × (flatten_done it ≡ false)
+        × FlatMapsRuns I.IntoIter.next_gives U.into_iter_gives U.IntoIter.next_gives F.FnMut
+        (flat_map_callee s) (std_map_source (std_flatten_source it)) it };
+
+    fn into_iter(self) -> iter::FlatMap<I::IntoIter, U, F> {
+        self.iter.into_iter().flat_map(self.f)
+    }
+}
+
+impl<U: IntoNonEmptyIterator, I: NonEmptyIterator, F: FnMut(I::Item) -> U> NonEmptyIterator
+    for FlatMap<I, U, F> {
+    ghost use Rattle.std.specs.Iterator.Adapters.{map_source as std_map_source};
+    ghost use Rattle.std.specs.Iterator.Adapters.{flatten_source as std_flatten_source};
+    ghost use Rattle.ne_iter.specs.FlatMap.{flat_map_source};
+    ghost use Rattle.ne_iter.specs.Flatten.{HasFirst-flatten};
+    ghost use Rattle.ne_iter.specs.SourceLaws.{IsNonEmpty-into};
+
+    ghost not_empty = { λ s it made. HasFirst-flatten
+        (⟦<iter::Map<I::IntoIter, F> as Iterator>⟧.next_gives) U.into_iter_gives
+        U.IntoIter.next_gives it made.2 made.4
+        (λ t ended. I.not_empty (flat_map_source s) (std_map_source (std_flatten_source it)) made.0
+        (std_map_source t) ended.0) (IsNonEmpty-into U.into_iter_gives U.IntoIter.next_gives
+        U.into_nonempty_iter_gives U.IntoNEIter.into_iter_gives U.IntoNEIter.IntoIter.next_gives
+        U.same_lists U.IntoNEIter.not_empty) };
+}
+
+/// `flat_map` ends if its source does, so do all sources that its closure may return, and the
+/// closure can be called with each item.
+pub fn flat_map_ends<S: IntoIterator, U: IntoNonEmptyIterator, F: FnMut(S::Item) -> U>()
+    ensures { (spread : _) → ⟦<S as Source>⟧.ends (flat_map_source spread)
+        → ((it : S.IntoIter) → S.into_iter_gives (flat_map_source spread) it
+        → CallableOnAll S.IntoIter.next_gives F.FnMut it (flat_map_callee spread))
+        → ((inner : U) (it : U.IntoIter) → U.into_iter_gives inner it
+        → U.IntoIter.can_next it × IsFinite (U.IntoIter.remaining it)
+        × (size (U.IntoIter.remaining it) < 2 ^ 64))
+        → ⟦<FlatMap<S, U, F> as Source>⟧.ends spread }
+{}

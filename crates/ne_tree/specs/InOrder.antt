@@ -1,0 +1,13 @@
+-- What is known of an iterator by value over a tree map or a tree set, besides what is known of
+-- those over other maps and sets: that the keys ascend.
+use Rattle.std.specs.Prelude.{List}
+use Rattle.std.specs.List.Sorted.{IsStrictlySortedBy}
+use Rattle.std.specs.Map.{keys_of}
+use Rattle.std.specs.declared.cmp.Ordering.{Ordering}
+use Rattle.ne_iter.specs.KeyIterators.{KnownByValue}
+
+abbrev pub EntriesInOrder : {K V : Type 0} → (K → K → Ordering) → List (K × V) → Type 0
+EntriesInOrder cmp es = KnownByValue es × IsStrictlySortedBy cmp (keys_of es)
+
+abbrev pub ItemsInOrder : {T : Type 0} → (T → T → Ordering) → List T → Type 0
+ItemsInOrder cmp xs = KnownByValue xs × IsStrictlySortedBy cmp xs

@@ -1,0 +1,42 @@
+-- What a tree map is once the mutable references to its values have ended.
+use Rattle.std.specs.contracts.alloc.Global as global
+use Rattle.std.specs.Prelude.{◌≡◌, Option}
+use Rattle.std.specs.Borrow.{Fml, RattleType, MutBor, LendsSo, follows}
+use Rattle.std.specs.contracts.impls.GlobalAllocator.TheImpl.{ghosts}
+use Rattle.std.specs.BTreeMap.{BTreeMap, WritesThrough, values}
+use Rattle.std.specs.BTreeMap.Lent.{OrdMembers, with_values, map_row as row_of}
+use Rattle.std.specs.BTreeMap.IterMut.{iter_mut_name}
+use Rattle.std_collections.specs.declared.btree_map.iter.lent.IterMut.{IterMut as StdIterMut}
+use Rattle.ne_tree.specs.declared.btree_map.iter.IterMut.{IterMut}
+use Rattle.ne_tree.specs.contracts.btree_map.NEBTreeMap.{the_row}
+
+-- The iterator that a non-empty iterator over mutable references holds and is turned into.
+abbrev pub std_iterator : {K V : Type 0} → IterMut K V → StdIterMut K V
+std_iterator w = w.inner
+
+module _ (K V : RattleType) (key : OrdMembers K.Denot) where
+  -- The type of the map in the logic.
+  abbrev pub map_row : RattleType
+  map_row = the_row K V (record { cmp = key.cmp }) (record { eq = key.eq })
+      (record { partial_cmp = key.partial_cmp })
+
+  -- The type of the inner map in the logic.
+  abbrev pub inner_row : RattleType
+  inner_row = row_of K V global.the_row key ghosts
+
+  -- The map keeps its keys, and its values are those that the iterator leaves.
+  abbrev pub LendsValues : MutBor (BTreeMap K.Denot V.Denot) → StdIterMut K.Denot V.Denot → Fml
+  LendsValues m it = follows map_row map_row m.ghost_name (iter_mut_name it)
+      (λ n. with_values m.now 0 (values n))
+
+  -- The inner map keeps its keys, and its values are those that the iterator leaves.
+  abbrev pub LendsValuesInside : MutBor (BTreeMap K.Denot V.Denot) → StdIterMut K.Denot V.Denot
+      → Fml
+  LendsValuesInside m it = follows inner_row inner_row m.ghost_name (iter_mut_name it)
+      (λ n. with_values m.now 0 (values n))
+
+  -- The key k has the value that was last written through r. If r is `None`, the map is unchanged.
+  abbrev pub LendsValue : MutBor (BTreeMap K.Denot V.Denot) → K.Denot → Option (MutBor V.Denot)
+      → Fml
+  LendsValue m k r = LendsSo map_row V m r (λ n w. WritesThrough key.cmp (key.cmp k) m.now w n)
+      (λ n. n ≡ m.now)

@@ -1,0 +1,119 @@
+-- The list that a source yields, from its first item to its last, also through a view.
+use Rattle.std.specs.Prelude.{◌≡◌, ◌≤◌, ◌<◌, ℕ, Bool, slice_get, true, List, [], ◌++◌, map, length}
+use Rattle.std.specs.Prelude.{Option}
+use Rattle.std.specs.Borrow.{Bor}
+use Rattle.std.specs.List.{fold}
+use Rattle.std.specs.Iterator.{DrainsIf}
+use Rattle.std.specs.Iterator.Runs.{EachRunFrom, FoldIsAtMost, Run, Trigger}
+
+-- A view of the items of type A: what a contract says of an item is said of `of` of it, a value of
+-- type Target.
+pub record View (A : Type 0) : Type 1 where
+  pub Target : Type 0
+  pub of : A → Target
+
+-- An item through this view is what f makes of it.
+abbrev pub view_by : {A B : Type 0} → (A → B) → View A
+view_by {B = B} f = record { Target = B; of = f }
+
+-- An item through this view is itself.
+abbrev pub itself : {A : Type 0} → View A
+itself {A} = record { Target = A; of = λ x. x }
+
+-- A reference through this view is the item that it points to.
+abbrev pub referenced : {A : Type 0} → View (Bor A)
+referenced = view_by (λ y. y.now)
+
+-- The parts of a pair, each through a view of its own.
+abbrev pub in_pairs : {A B : Type 0} → View A → View B → View (A × B)
+in_pairs v w = record { Target = v.Target × w.Target; of = λ p. (v.of p.0, w.of p.1) }
+
+-- An item through a view, with its number.
+abbrev pub numbered : {A : Type 0} → View A → View (ℕ × A)
+numbered v = in_pairs itself v
+
+-- us is a prefix of xs; if `whole` is true, it is all of xs.
+abbrev pub IsPrefix : {A : Type 0} → Bool → List A → List A → Type 0
+IsPrefix {A} whole xs us = (more : List A) × (xs ≡ us ++ more) × (whole ≡ true → more ≡ [])
+
+-- The trigger of a source and its list: `grind` finds what is said about both at this term. It does
+-- not name the view, since `grind` does not match a function such as `λ p. (p.0, p.1.now)`.
+unfoldable pub list_trigger : {U A : Type 0} → U → List A → ℕ
+list_trigger u xs = 0
+
+module _ {U S A : Type 0} (becomes : U → S → Type 0) (steps : S → Option A → S → Type 0) where
+  -- The items that the source u yields, through `view`, are the list xs: those that an iterator
+  -- that u becomes has yielded so far are a prefix of xs, and all of xs at its end. For the items
+  -- themselves, `view` is `λ x. x`. `grind` does not unfold it.
+  unfoldable pub Lists : {B : Type 0} → (A → B) → U → List B → Type 0
+  Lists view u xs = (it : S) → becomes u it → (whole : Bool) (ys : List A)
+      → DrainsIf steps (whole ≡ true) it ys → IsPrefix whole xs (map view ys)
+
+  -- `Lists`, with the trigger by which `grind` finds it.
+  abbrev pub Listed : {B : Type 0} → (A → B) → U → List B → Type 0
+  Listed view u xs = (list_trigger u xs ≡ 0) × Lists view u xs
+
+module _ {S A : Type 0} (steps : S → Option A → S → Type 0) where
+  -- For the automatic proof, of a run of an iterator that yields xs: it has at most as many items,
+  -- and all of them if it is whole; a fold that never decreases is at most the fold over xs; and
+  -- which item is at each index.
+  abbrev pub IsPrefixRun : List A → Run steps → Type 0
+  IsPrefixRun xs p = (p.len ≤ length xs) × (p.whole ≡ true → p.items ≡ xs)
+      × ((h : ℕ → A → ℕ) (n : ℕ) → ((a : ℕ) (x : A) → a ≤ h a x)
+      → fold h n p.items ≤ fold h n xs)
+      × ((k : ℕ) → k < p.len → p.at k ≡ slice_get xs k)
+
+  -- Each run of the iterator is a prefix of xs.
+  abbrev pub YieldsPrefixes : List A → S → Type 0
+  YieldsPrefixes xs it = EachRunFrom steps it (λ p. IsPrefixRun xs p)
+
+  -- For the automatic proof, of a run of an iterator whose items through `view` are xs.
+  abbrev pub IsPrefixRunThrough : {B : Type 0} → (A → B) → List B → Run steps → Type 0
+  IsPrefixRunThrough {B} view xs p = (p.len ≤ length xs) × (p.whole ≡ true → p.len ≡ length xs)
+      × ((h : B → ℕ) → p.whole ≡ true → map (λ x. h (view x)) p.items ≡ map h xs)
+      × FoldIsAtMost p view xs
+
+  -- Each run of the iterator, through `view`, is a prefix of xs.
+  abbrev pub YieldsPrefixesThrough : {B : Type 0} → (A → B) → List B → S → Type 0
+  YieldsPrefixesThrough view xs it = EachRunFrom steps it (λ p. IsPrefixRunThrough view xs p)
+
+-- The source u becomes the iterator `it`. It serves the automatic proof alone: `grind` does not
+-- unfold it, and so meets it as a premise at once.
+unfoldable pub Became : {U S : Type 0} → (U → S → Type 0) → U → S → Type 0
+Became becomes u it = becomes u it
+
+module _ {U S A : Type 0} (becomes : U → S → Type 0) (steps : S → Option A → S → Type 0) where
+  -- P holds for each run of an iterator that the source becomes. The iterator is no variable of its
+  -- own, since `grind` finds only what a conclusion names.
+  abbrev pub EachRunOf : U → (Run steps → Type 0) → Type 0
+  EachRunOf u P = (p : Run steps) → Trigger p.len → Became becomes u p.from → P p
+
+  -- P holds for the items of each of these runs.
+  abbrev pub EachPrefix : (List A → Type 0) → U → Type 0
+  EachPrefix P u = EachRunOf u (λ p. becomes u p.from → P p.items)
+
+  -- The source yields the items of xs; with what the automatic proof needs of its runs.
+  abbrev pub YieldsItems : U → List A → Type 0
+  YieldsItems u xs = Listed becomes steps (λ x. x) u xs
+      × ((it : S) → becomes u it → EachRunFrom steps it (λ p. IsPrefixRun steps xs p))
+      × EachRunOf u (λ p. IsPrefixRun steps xs p)
+
+  -- The source yields items that are xs through `view`; with the same.
+  abbrev pub YieldsThrough : {B : Type 0} → (A → B) → U → List B → Type 0
+  YieldsThrough {B} view u xs = Listed becomes steps view u xs
+      × ((it : S) → becomes u it → EachRunFrom steps it (λ p. IsPrefixRunThrough steps view xs p))
+      × EachRunOf u (λ p. IsPrefixRunThrough steps view xs p)
+
+-- P holds of x. The equation is a trigger: `grind` finds this where a goal names x.
+abbrev pub Naming : {A : Type 0} → A → (A → Type 0) → Type 0
+Naming x P = (x ≡ x) × P x
+
+-- P holds for each list of the source u: for each xs for which `lists u xs` holds.
+abbrev pub EachList : {U A : Type 0} → (U → List A → Type 0) → U → (List A → Type 0) → Type 0
+EachList {A = A} lists u P = (xs : List A) → lists u xs → (list_trigger u xs ≡ 0) × P xs
+
+-- P holds for each list of the source's items, and for each list of its items through `view`.
+abbrev pub EachView : {U A : Type 0} (view : View A)
+    → ((view : View A) → U → List view.Target → Type 0) → U
+    → ((view : View A) → List view.Target → Type 0) → Type 0
+EachView view lists u P = EachList (lists itself) u (P itself) × EachList (lists view) u (P view)
