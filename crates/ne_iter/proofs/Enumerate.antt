@@ -6,6 +6,7 @@ use Rattle.std.specs.Iterator.Adapters.{enumerate_source, enumerate_count, enume
 use Rattle.std.specs.declared.iter.Enumerate.{Enumerate}
 use Rattle.std.specs.List.{enumerate_from}
 use Rattle.std.proofs.Common.{arith, ap, ◌∙◌, sym, subst}
+use Rattle.std.proofs.lemmas.Bool.{OnFalse_from}
 use Rattle.std.proofs.lemmas.List.FromFn.{length-enumerate_from}
 use Rattle.std.specs.Iterator.Runs.{EachRunFrom}
 use Rattle.ne_vec.specs.Lists.{IsPrefix, Lists, YieldsItems, YieldsThrough, YieldsPrefixesThrough}
@@ -83,9 +84,9 @@ module _ {U V A S T : Type 0} {becomes : U → S → Type 0} {steps : S → Opti
             λ it m. counts_as xs it (given.1 it m),
           ),
         )),
-    λ xs known.
+    OnFalse_from view.is_itself _ (λ _ xs known.
         let given = shown view xs known in
-        (triggered u xs, (given, λ it m. counts_as xs it (given.1 it m))),
+        (triggered u xs, (given, λ it m. counts_as xs it (given.1 it m)))),
   )
     where
       numbers : (view : View A) (xs : List view.Target) → Lists becomes steps view.of u xs

@@ -1,6 +1,7 @@
 -- From what a source reads to the list that it yields, and back.
 use Rattle.std.proofs.Common.{arith, sym, subst, ap, ◌∙◌, refl, append-nil, map-id}
 use Rattle.std.proofs.lemmas.Iterator.Adapters.{option_map_id}
+use Rattle.std.proofs.lemmas.Bool.{OnFalse_from}
 use Rattle.std.proofs.lemmas.Option.{same_Some, slice_get-get_or, slice_get-map}
 use Rattle.std.proofs.lemmas.List.{length-map, nil_from_length}
 use Rattle.std.specs.Prelude.{◌≡◌, ℕ, suc, ◌<◌, ◌≤◌, Bool, true, List, [], ◌∷◌, ◌++◌, length, Some}
@@ -140,7 +141,8 @@ pub each_view : {U S A : Type 0} {becomes : U → S → Type 0} {steps : S → O
     → P view xs) → EachView view (λ view. Lists becomes steps view.of) u P
 each_view {becomes = becomes} {steps = steps} {u = u} P view law = (
   (λ xs known. (triggered u xs, law itself xs (reads_through becomes steps u itself.of xs known))),
-  λ xs known. (triggered u xs, law view xs (reads_through becomes steps u view.of xs known)),
+  OnFalse_from view.is_itself _ (λ _ xs known.
+      (triggered u xs, law view xs (reads_through becomes steps u view.of xs known))),
 )
 
 -- an iterator of std, which becomes itself: what its runs give
@@ -174,11 +176,11 @@ each_kept {becomes = becomes} {steps = steps} {u = u} next it P view law = (
         (λ ys. YieldsPrefixes next ys it)
         (λ ys list. yields_prefixes it ys (as_items (Reads (λ s t. t ≡ s) next) it ys list)),
   )),
-  λ xs known. (
+  OnFalse_from view.is_itself _ (λ _ xs known. (
     triggered u xs,
     law view xs (reads_through becomes steps u view.of xs known) (λ ys. StdYields next view ys it)
         (λ ys list. std_yields view it ys list),
-  ),
+  )),
 )
 
 module _ {U S A : Type 0} (becomes : U → S → Type 0) (steps : S → Option A → S → Type 0)

@@ -6,6 +6,7 @@ use Rattle.std.specs.List.{zip}
 use Rattle.std.specs.Iterator.{DrainsIf}
 use Rattle.std.specs.Iterator.Adapters.{zip_first, zip_second, zip_steps}
 use Rattle.std.specs.declared.iter.Zip.{Zip}
+use Rattle.std.proofs.lemmas.Bool.{OnFalse_from}
 use Rattle.std.proofs.lemmas.List.{length-map}
 use Rattle.ne_vec.specs.Lists.{IsPrefix, Lists, YieldsItems, YieldsThrough, View, in_pairs, itself}
 use Rattle.ne_vec.specs.ListLaws.{triggered}
@@ -179,9 +180,9 @@ module _ {U W V S R T A B X Y : Type 0} {becomes : U → S → Type 0}
   zips_lists view other_view = (
     pairs_of itself itself (YieldsItems made next v)
         (λ ps known. read_lists made next v ps (as_items (Reads made next) v ps known)),
-    shown view itself,
-    shown itself other_view,
-    shown view other_view,
+    OnFalse_from view.is_itself _ (λ _. shown view itself),
+    OnFalse_from other_view.is_itself _ (λ _. shown itself other_view),
+    OnFalse_from (view.is_itself || other_view.is_itself) _ (λ _. shown view other_view),
   )
     where
       shown : (view : View A) (other_view : View B)

@@ -1,5 +1,6 @@
 -- `enumerate`: its part, and what it yields.
 use Rattle.std.specs.Prelude.{◌≡◌, ℕ, Bool, List, ◌≤◌, true, length, Option}
+use Rattle.std.specs.Bool.{OnFalse}
 use Rattle.std.specs.List.{enumerate_from}
 use Rattle.std.specs.Iterator.Runs.{EachRunFrom}
 use Rattle.ne_vec.specs.Lists.{View, itself, numbered, EachList}
@@ -29,5 +30,5 @@ abbrev pub NumbersLists : {U V T A : Type 0} (view : View A)
 NumbersLists view lists yields_items yields_through becomes steps u v =
     EachList (lists itself) u (λ xs.
     yields_items v (enumerate_from 0 xs) × CountsAs becomes steps v xs)
-    × EachList (lists view) u (λ xs.
-    yields_through (numbered view) v (enumerate_from 0 xs) × CountsAs becomes steps v xs)
+    × OnFalse view.is_itself (EachList (lists view) u (λ xs.
+    yields_through (numbered view) v (enumerate_from 0 xs) × CountsAs becomes steps v xs))

@@ -17,11 +17,11 @@ KnownByValue {X} es = (length es < 2 ^ 63) × GivesInOrder X
 abbrev pub IteratesKnown : {X : Type 0} → (List X → Type 0) → List X → List X → Type 0
 IteratesKnown known es it = (0 < length es) × (it ≡ es) × known es
 
--- By reference.
+-- The iterator by reference has the entries es left, at least one.
 abbrev pub IteratesEntries : {A X : Type 0} → (A → X) → List X → List X → Type 0
 IteratesEntries view = IteratesKnown (KnownByReference 63 view)
 
--- By value.
+-- The iterator by value has the entries es left, at least one.
 abbrev pub IteratesEntriesByValue : {X : Type 0} → List X → List X → Type 0
 IteratesEntriesByValue = IteratesKnown KnownByValue
 

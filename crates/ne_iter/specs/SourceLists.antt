@@ -4,6 +4,7 @@
 use Rattle.std.specs.Prelude.{◌≡◌, ℕ, ◌<◌, ◌≤◌, ◌∷◌, drop, map, true, Some, List, length, Option}
 use Rattle.std.specs.Prelude.{slice_index_or}
 use Rattle.std.specs.Iterator.Runs.{Run, EachRunFrom}
+use Rattle.std.specs.Bool.{OnFalse}
 use Rattle.std.specs.Option.{option_map}
 use Rattle.ne_vec.specs.Lists.{EachList, IsPrefixRunThrough, Lists, View, YieldsPrefixes, itself}
 
@@ -40,7 +41,8 @@ abbrev pub EachKept : {U S A : Type 0} (view : View A)
     → ((view : View A) → List view.Target → (List view.Target → Type 0) → Type 0) → Type 0
 EachKept view lists u steps it P =
     EachList (lists itself) u (λ xs. P itself xs (λ ys. YieldsPrefixes steps ys it))
-    × EachList (lists view) u (λ xs. P view xs (λ ys. StdYields steps view ys it))
+    × OnFalse view.is_itself
+    (EachList (lists view) u (λ xs. P view xs (λ ys. StdYields steps view ys it)))
 
 -- `next`: the first item, and an iterator that gives the others
 abbrev pub BeginsList : {U S A : Type 0} → (U → List A → Type 0) → (S → Option A → S → Type 0)

@@ -1,5 +1,6 @@
 -- `zip`: its parts, and what it yields.
 use Rattle.std.specs.Prelude.{◌≡◌, Bool, true, ◌||◌, List, length, IsTrue, Option}
+use Rattle.std.specs.Bool.{OnFalse}
 use Rattle.std.specs.List.{zip}
 use Rattle.std.proofs.Common.{inl, inr}
 use Rattle.std.specs.Iterator.Adapters.{zip_first as std_zip_first, zip_second as std_zip_second}
@@ -46,12 +47,14 @@ abbrev pub ZipsLists : {U W V A B : Type 0} (view : View A) (other_view : View B
     → ((view : View (A × B)) → V → List view.Target → Type 0) → U → W → V → Type 0
 ZipsLists view other_view lists others becomes yields_items yields_through u w v =
     PairsOf (lists itself) (others itself) (becomes itself) u w (yields_items v)
-    × PairsOf (lists view) (others itself) (becomes itself) u w
-    (yields_through (in_pairs view itself) v)
-    × PairsOf (lists itself) (others other_view) (becomes other_view) u w
-    (yields_through (in_pairs itself other_view) v)
-    × PairsOf (lists view) (others other_view) (becomes other_view) u w
-    (yields_through (in_pairs view other_view) v)
+    × OnFalse view.is_itself (PairsOf (lists view) (others itself) (becomes itself) u w
+    (yields_through (in_pairs view itself) v))
+    × OnFalse other_view.is_itself
+    (PairsOf (lists itself) (others other_view) (becomes other_view) u w
+    (yields_through (in_pairs itself other_view) v))
+    × OnFalse (view.is_itself || other_view.is_itself)
+    (PairsOf (lists view) (others other_view) (becomes other_view) u w
+    (yields_through (in_pairs view other_view) v))
 
 -- two sources that both have a first item, side by side
 pub HasFirst-zip : {S T A B : Type 0} (steps : S → Option A → S → Type 0)

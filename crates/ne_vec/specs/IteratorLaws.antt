@@ -8,14 +8,14 @@ use Rattle.ne_vec.specs.ListLaws.{referenced_prefix, counted_prefix, lists_of, t
 use Rattle.ne_vec.specs.Iterators.{IteratesOver, IteratesByValue, ListsItems, ListsItemsByValue}
 
 module _ {X : Type 0} (s xs : List X) (same : s ≡ xs) where
-  shows : Lists IteratesOver iter_steps (λ y. y.now) s xs
+  lists_referenced : Lists IteratesOver iter_steps (λ y. y.now) s xs
   unfolding Lists
-  shows it made whole ys given =
+  lists_referenced it made whole ys given =
       subst (λ l. IsPrefix whole l (map (λ y. y.now) ys)) (made.1 ∙ same)
       (referenced_prefix it ys given)
 
   pub lists_items : ListsItems s xs
-  lists_items = (triggered s xs, shows)
+  lists_items = (triggered s xs, lists_referenced)
 
   lists : (Z : Type 0) → Lists (IteratesByValue {Z = Z}) into_iter_steps (λ x. x) s xs
   lists Z = lists_of _ _ s xs (λ it made whole ys given.

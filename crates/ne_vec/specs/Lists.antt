@@ -1,24 +1,26 @@
 -- The list that a source yields, from its first item to its last, also through a view.
 use Rattle.std.specs.Prelude.{◌≡◌, ◌≤◌, ◌<◌, ℕ, Bool, slice_get, true, List, [], ◌++◌, map, length}
-use Rattle.std.specs.Prelude.{Option}
+use Rattle.std.specs.Prelude.{Option, false, ◌&&◌}
+use Rattle.std.specs.Bool.{OnFalse}
 use Rattle.std.specs.Borrow.{Bor}
 use Rattle.std.specs.List.{fold}
 use Rattle.std.specs.Iterator.{DrainsIf}
 use Rattle.std.specs.Iterator.Runs.{EachRunFrom, FoldIsAtMost, Run, Trigger}
 
 -- A view of the items of type A: what a contract says of an item is said of `of` of it, a value of
--- type Target.
+-- type Target. If `is_itself` is true, this is the item itself.
 pub record View (A : Type 0) : Type 1 where
   pub Target : Type 0
   pub of : A → Target
+  pub is_itself : Bool
 
 -- An item through this view is what f makes of it.
 abbrev pub view_by : {A B : Type 0} → (A → B) → View A
-view_by {B = B} f = record { Target = B; of = f }
+view_by {B = B} f = record { Target = B; of = f; is_itself = false }
 
 -- An item through this view is itself.
 abbrev pub itself : {A : Type 0} → View A
-itself {A} = record { Target = A; of = λ x. x }
+itself {A} = record { Target = A; of = λ x. x; is_itself = true }
 
 -- A reference through this view is the item that it points to.
 abbrev pub referenced : {A : Type 0} → View (Bor A)
@@ -26,7 +28,11 @@ referenced = view_by (λ y. y.now)
 
 -- The parts of a pair, each through a view of its own.
 abbrev pub in_pairs : {A B : Type 0} → View A → View B → View (A × B)
-in_pairs v w = record { Target = v.Target × w.Target; of = λ p. (v.of p.0, w.of p.1) }
+in_pairs v w = record {
+  Target = v.Target × w.Target;
+  of = λ p. (v.of p.0, w.of p.1);
+  is_itself = v.is_itself && w.is_itself;
+}
 
 -- An item through a view, with its number.
 abbrev pub numbered : {A : Type 0} → View A → View (ℕ × A)
@@ -112,8 +118,10 @@ Naming x P = (x ≡ x) × P x
 abbrev pub EachList : {U A : Type 0} → (U → List A → Type 0) → U → (List A → Type 0) → Type 0
 EachList {A = A} lists u P = (xs : List A) → lists u xs → (list_trigger u xs ≡ 0) × P xs
 
--- P holds for each list of the source's items, and for each list of its items through `view`.
+-- P holds for each list of the source's items, and for each list of its items through `view`. For
+-- the automatic proof, it says nothing twice.
 abbrev pub EachView : {U A : Type 0} (view : View A)
     → ((view : View A) → U → List view.Target → Type 0) → U
     → ((view : View A) → List view.Target → Type 0) → Type 0
-EachView view lists u P = EachList (lists itself) u (P itself) × EachList (lists view) u (P view)
+EachView view lists u P = EachList (lists itself) u (P itself)
+    × OnFalse view.is_itself (EachList (lists view) u (P view))

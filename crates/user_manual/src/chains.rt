@@ -1,6 +1,6 @@
 //! Chains of several adapters, one after another.
 ghost use Rattle.std.specs.Prelude.{◌≡◌, ◌/◌, ◌%◌, ◌+◌, ◌<◌, ◌^◌, ◌++◌, ◌∷◌, map, filter, sum};
-ghost use Rattle.std.specs.Prelude.{take, IfOk, ltb, []};
+ghost use Rattle.std.specs.Prelude.{take, IfOk, eqb, ltb, []};
 ghost use Rattle.std.specs.List.{enumerate_from, scan, zip};
 ghost use Rattle.std.specs.Int.NonZero.{non_zero_usize_get};
 
@@ -98,6 +98,44 @@ pub fn small_first_halves(
         .take(n)
         .map(|x| x / 2)
         .filter(|x| *x < 10)
+        .collect(alloc)
+}
+
+/// Returns the items at even indices, with `enumerate`, `filter` and `map`.
+pub fn at_even_indices(alloc: Global, items: NEVec<u32>) -> Result<Vec<u32>, AllocError>
+    ensures { IfOk result (λ v. v.items
+        ≡ map (λ p. p.1) (filter (λ p. eqb (p.0 % 2) 0) (enumerate_from 0 items))) }
+{
+    items
+        .into_nonempty_iter()
+        .enumerate()
+        .filter(|p| p.0 % 2 == 0)
+        .map(|p| p.1)
+        .collect(alloc)
+}
+
+/// Returns the indices of the even items, likewise.
+pub fn indices_of_even(alloc: Global, items: NEVec<u32>) -> Result<Vec<usize>, AllocError>
+    ensures { IfOk result (λ v. v.items
+        ≡ map (λ p. p.0) (filter (λ p. eqb (p.1 % 2) 0) (enumerate_from 0 items))) }
+{
+    items
+        .into_nonempty_iter()
+        .enumerate()
+        .filter(|p| p.1 % 2 == 0)
+        .map(|p| p.0)
+        .collect(alloc)
+}
+
+/// Returns the second parts of the pairs whose first is even, with `filter` and `map`.
+pub fn beside_even(alloc: Global, pairs: NEVec<(u32, u32)>) -> Result<Vec<u32>, AllocError>
+    ensures { IfOk result (λ v.
+        v.items ≡ map (λ p. p.1) (filter (λ p. eqb (p.0 % 2) 0) pairs)) }
+{
+    pairs
+        .into_nonempty_iter()
+        .filter(|p| p.0 % 2 == 0)
+        .map(|p| p.1)
         .collect(alloc)
 }
 

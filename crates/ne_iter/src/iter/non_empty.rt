@@ -257,8 +257,7 @@ pub trait NonEmptyIterator: IntoIterator {
         ensures gives { IfOk result (λ c. (xs : List Self.Item)
             × ⟦<Self as Source>⟧.reads (B.is_complete c) self xs × B.collected xs c) }
         ensures lists { IfOk result (λ c. EachList (⟦<Self as Source>⟧.lists itself) self
-            (λ xs.
-            PrefixMakes B.collected B.is_complete xs c)) }
+            (λ xs. PrefixMakes B.collected B.is_complete xs c)) }
         ensures runs { IfOk result (λ c.
             RunsSome Self.into_iter_gives Self.IntoIter.next_gives self (λ p.
             (p.whole ≡ B.is_complete c) × B.collected p.items c)) }
