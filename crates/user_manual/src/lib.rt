@@ -10,6 +10,7 @@ pub mod adapters;
 pub mod any_source;
 pub mod chains;
 pub mod consumers;
+pub mod instead;
 pub mod joins;
 pub mod keyed;
 pub mod looks;

@@ -1,0 +1,163 @@
+//! What is proved in place of chains that are not proved automatically.
+ghost use Rattle.std.specs.Prelude.{◌≡◌, ◌/◌, ◌%◌, ◌∷◌, ◌≤◌, [], cond, filter, ltb, map, nat_eq};
+ghost use Rattle.std.specs.Prelude.{IfOk, IsPermutation, MatchOption, None, Some};
+ghost use Rattle.std.specs.List.{All, Contains, enumerate_from, filter_map, flat_map, scan, zip};
+ghost use Rattle.std.specs.Ordering.{nat_cmp};
+ghost use Rattle.nonempty_collections.specs.Consumers.{IsFirstGreatest, IsFirstLeast};
+ghost use Rattle.nonempty_collections.specs.KeyOrder.{KeepsTies, KeysAscend};
+
+use crate::references::Sale;
+use nonempty_collections::{IntoNonEmptyIterator, NEVec, NonEmptyIterator, iter};
+use std::alloc::{AllocError, Global};
+
+/// Returns the first of the greatest items, with its index: `max_by` for `max_by_key`.
+pub fn first_greatest(items: NEVec<u32>) -> (usize, u32)
+    ensures { IsFirstGreatest (λ p q. ltb p.1 q.1) (enumerate_from 0 items) result }
+{
+    items
+        .into_nonempty_iter()
+        .enumerate()
+        .max_by(|p, q| p.1.cmp(&q.1))
+}
+
+/// Returns the first of the pairs with the least second part: `copied` and `min_by` for
+/// `min_by_key` over references.
+pub fn first_least(pairs: &NEVec<(u32, u32)>) -> (u32, u32)
+    ensures { IsFirstLeast (λ p q. ltb p.1 q.1) pairs.now result }
+{
+    pairs.nonempty_iter().copied().min_by(|p, q| p.1.cmp(&q.1))
+}
+
+/// Returns the halves in the order of their last digits: collected before they are sorted.
+pub fn halves_by_digit(alloc: Global, items: NEVec<u32>) -> Result<NEVec<u32>, AllocError>
+    ensures permutation { IfOk result (λ v. IsPermutation (map (λ x. x / 2) items) v) }
+    ensures ascend { IfOk result (λ v. KeysAscend (λ x. x % 10) nat_cmp v) }
+    ensures ties { IfOk result (λ v.
+        KeepsTies (λ x. x % 10) nat_eq (map (λ x. x / 2) items) v) }
+{
+    let halves: NEVec<u32> = items.into_nonempty_iter().map(|x| x / 2).collect(alloc)?;
+    halves
+        .into_nonempty_iter()
+        .sorted_by_key(alloc, |x| *x % 10)?
+        .collect(alloc)
+}
+
+/// Returns half of `x` and of each item: `into_nonempty_iter` of what a `once` is chained with.
+pub fn halves_of_all(alloc: Global, x: u32, items: NEVec<u32>) -> Result<NEVec<u32>, AllocError>
+    ensures { IfOk result (λ v. v ≡ map (λ x. x / 2) (x ∷ items)) }
+{
+    iter::once(x)
+        .chain(items.into_nonempty_iter())
+        .map(|x| x / 2)
+        .collect(alloc)
+}
+
+/// Returns the greatest of `x` and the items, likewise.
+pub fn greatest_of_all(x: u32, items: NEVec<u32>) -> u32
+    ensures among { Contains (x ∷ items) result }
+    ensures bound { All (λ y. y ≤ result) (x ∷ items) }
+{
+    iter::once(x).chain(items.into_nonempty_iter()).max()
+}
+
+/// Returns the buyers of what costs less than what is sold beside it: `filter_map` for `filter` and
+/// `map`.
+pub fn buyers_of_cheaper(
+    alloc: Global,
+    sales: &NEVec<Sale>,
+    others: &NEVec<Sale>,
+) -> Result<Vec<u32>, AllocError>
+    ensures { IfOk result (λ v. v.items
+        ≡ filter_map (λ p. cond (ltb p.0.price p.1.price) (Some p.0.buyer) None)
+        (zip sales.now others.now)) }
+{
+    sales
+        .nonempty_iter()
+        .zip(others.nonempty_iter())
+        .filter_map(|p| if p.0.price < p.1.price {
+            Some(p.0.buyer)
+        } else {
+            None
+        })
+        .collect(alloc)
+}
+
+/// Returns half of each item below 10, or `None` if there is none: `NEVec::try_from_vec` of what is
+/// collected, for `try_into_nonempty_iter`.
+pub fn halves_of_small(alloc: Global, items: NEVec<u32>) -> Result<Option<NEVec<u32>>, AllocError>
+    ensures { IfOk result (λ o. MatchOption o (filter (λ x. ltb x 10) items ≡ [])
+        (λ v. v ≡ map (λ x. x / 2) (filter (λ x. ltb x 10) items))) }
+{
+    let small: Vec<u32> = items
+        .into_nonempty_iter()
+        .filter(|x| *x < 10)
+        .collect(alloc)?;
+    match NEVec::try_from_vec(small) {
+        Some(items) => Ok(Some(items.into_nonempty_iter().map(|x| x / 2).collect(alloc)?)),
+        None => Ok(None),
+    }
+}
+
+/// Returns the items with their indices.
+fn numbered(alloc: Global, items: NEVec<u32>) -> Result<NEVec<(usize, u32)>, AllocError>
+    ensures { IfOk result (λ v. v ≡ enumerate_from 0 items) }
+{
+    items.into_nonempty_iter().enumerate().collect(alloc)
+}
+
+/// Returns the items of a vector that may be empty with their indices, or `None` if it is: the
+/// chain in a function with a contract of its own.
+pub fn numbered_if_any(
+    alloc: Global,
+    items: Vec<u32>,
+) -> Result<Option<NEVec<(usize, u32)>>, AllocError>
+    ensures { IfOk result (λ o. MatchOption o (items.items ≡ [])
+        (λ v. v ≡ enumerate_from 0 items.items)) }
+{
+    match NEVec::try_from_vec(items) {
+        Some(items) => Ok(Some(numbered(alloc, items)?)),
+        None => Ok(None),
+    }
+}
+
+/// Returns the hours and the minutes in `minutes`.
+fn parts(minutes: u32) -> [u32; 2]
+    ensures { result ≡ (minutes / 60) ∷ (minutes % 60) ∷ [] }
+{
+    [minutes / 60, minutes % 60]
+}
+
+/// Returns the hours and the minutes of each time: a function with a contract for a closure that
+/// returns an array.
+pub fn hours_and_minutes(alloc: Global, times: NEVec<u32>) -> Result<NEVec<u32>, AllocError>
+    ensures { IfOk result (λ v. v ≡ flat_map (λ t. (t / 60) ∷ (t % 60) ∷ []) times) }
+{
+    times.into_nonempty_iter().flat_map(parts).collect(alloc)
+}
+
+/// Returns the greatest of what is before each item, which is 0 at first: the attribute with
+/// `arith`.
+#[tactic(auto, using(std::proofs::Common::arith))]
+pub fn greatest_before(items: NEVec<u32>) -> u32
+    ensures { All (λ y. y ≤ result) (scan (λ before x. x) (λ before x. before) 0 items) }
+{
+    items
+        .into_nonempty_iter()
+        .scan(0u32, |state, x| {
+            let before = *state;
+            *state = x;
+            before
+        })
+        .max()
+}
+
+/// Returns the halves of the items or of an array: a chain in each arm for an `NEEither`.
+pub fn halves_of_chosen(alloc: Global, items: Option<NEVec<u32>>) -> Result<NEVec<u32>, AllocError>
+    ensures { IfOk result (λ v.
+        MatchOption items (v ≡ 2 ∷ 3 ∷ []) (λ items. v ≡ map (λ x. x / 2) items)) }
+{
+    match items {
+        Some(items) => items.into_nonempty_iter().map(|x| x / 2).collect(alloc),
+        None => [4u32, 6].into_nonempty_iter().map(|x| x / 2).collect(alloc),
+    }
+}
