@@ -1,7 +1,7 @@
 //! Chains of several adapters, one after another.
-ghost use Rattle.std.specs.Prelude.{◌≡◌, ◌/◌, ◌%◌, ◌+◌, ◌<◌, ◌^◌, ◌++◌, ◌∷◌, map, filter, sum};
-ghost use Rattle.std.specs.Prelude.{take, IfOk, eqb, ltb, []};
-ghost use Rattle.std.specs.List.{enumerate_from, scan, zip};
+ghost use Rattle.std.specs.Prelude.{◌≡◌, ◌/◌, ◌%◌, ◌+◌, ◌<◌, ◌≤◌, ◌^◌, ◌++◌, ◌∷◌, map, filter};
+ghost use Rattle.std.specs.Prelude.{take, IfOk, eqb, ltb, sum, []};
+ghost use Rattle.std.specs.List.{All, enumerate_from, scan, zip};
 ghost use Rattle.std.specs.Int.NonZero.{non_zero_usize_get};
 
 use nonempty_collections::{IntoNonEmptyIterator, NEVec, NonEmptyIterator, iter};
@@ -229,4 +229,18 @@ pub fn sum_of_both(items: NEVec<u32>, others: NEVec<u32>, n: NonZeroUsize) -> u3
         .map(|x| x / 2)
         .take(n)
         .sum()
+}
+
+/// Returns the greatest of what is before each item, which is 0 at first, with `scan` and `max`.
+pub fn greatest_before(items: NEVec<u32>) -> u32
+    ensures { All (λ y. y ≤ result) (scan (λ before x. x) (λ before x. before) 0 items) }
+{
+    items
+        .into_nonempty_iter()
+        .scan(0u32, |state, x| {
+            let before = *state;
+            *state = x;
+            before
+        })
+        .max()
 }

@@ -1,7 +1,7 @@
 //! What is proved in place of chains that are not proved automatically.
 ghost use Rattle.std.specs.Prelude.{◌≡◌, ◌/◌, ◌%◌, ◌∷◌, ◌≤◌, [], cond, filter, ltb, map, nat_eq};
 ghost use Rattle.std.specs.Prelude.{IfOk, IsPermutation, MatchOption, None, Some};
-ghost use Rattle.std.specs.List.{All, Contains, enumerate_from, filter_map, flat_map, scan, zip};
+ghost use Rattle.std.specs.List.{All, Contains, enumerate_from, filter_map, flat_map, zip};
 ghost use Rattle.std.specs.Ordering.{nat_cmp};
 ghost use Rattle.nonempty_collections.specs.Consumers.{IsFirstGreatest, IsFirstLeast};
 ghost use Rattle.nonempty_collections.specs.KeyOrder.{KeepsTies, KeysAscend};
@@ -133,22 +133,6 @@ pub fn hours_and_minutes(alloc: Global, times: NEVec<u32>) -> Result<NEVec<u32>,
     ensures { IfOk result (λ v. v ≡ flat_map (λ t. (t / 60) ∷ (t % 60) ∷ []) times) }
 {
     times.into_nonempty_iter().flat_map(parts).collect(alloc)
-}
-
-/// Returns the greatest of what is before each item, which is 0 at first: the attribute with
-/// `arith`.
-#[tactic(auto, using(std::proofs::Common::arith))]
-pub fn greatest_before(items: NEVec<u32>) -> u32
-    ensures { All (λ y. y ≤ result) (scan (λ before x. x) (λ before x. before) 0 items) }
-{
-    items
-        .into_nonempty_iter()
-        .scan(0u32, |state, x| {
-            let before = *state;
-            *state = x;
-            before
-        })
-        .max()
 }
 
 /// Returns the halves of the items or of an array: a chain in each arm for an `NEEither`.
