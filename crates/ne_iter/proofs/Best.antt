@@ -1,7 +1,7 @@
 -- The item that is kept is one of those that came, and if a test ranks the items, it is the first
 -- least or the first greatest of them. One item beats another by a test.
 use Rattle.std.proofs.Common.{ap, subst, sym, ◌∙◌}
-use Rattle.std.specs.Prelude.{◌≡◌, Bool, true, false, cond, List, [], ◌∷◌, ◌++◌, Option, Some}
+use Rattle.std.specs.Prelude.{◌≡◌, Bool, true, false, cond, List, [], ◌∷◌, ◌++◌, Option, Some, map}
 use Rattle.std.specs.Borrow.{Bor}
 use Rattle.std.specs.Cmp.{Agrees, IsStrictWeakOrder}
 use Rattle.std.specs.Fn.{FnReturnsAtPair, Shared}
@@ -13,8 +13,10 @@ use Rattle.std.proofs.lemmas.List.Elements.{All-contains_itself, All-cons, All-h
 use Rattle.std.proofs.lemmas.List.Elements.{Contains-append_left, Contains-push}
 use Rattle.std.proofs.lemmas.List.MinMax.{IsFirstBest-from_best_of, IsStrictWeakOrder-flip}
 use Rattle.std.proofs.lemmas.Option.{slice_get-get_or}
+use Rattle.ne_vec.specs.Lists.{View}
 use Rattle.ne_iter.specs.Consumers.{ReturnsOnlyWhere, KeepsBetter, less_by, IsFirstGreatest}
 use Rattle.ne_iter.specs.Consumers.{IsFirstLeast}
+use Rattle.ne_iter.proofs.Extremes.{contains_through, first_through}
 
 module _ {V F A : Type 0} (view : A → V) (calls : Shared F (Bor V × (Bor V × Unit {0})) Bool)
     (f : F) where
@@ -86,20 +88,40 @@ pub less_by-from_partial_lt : {A : Type 0} {C : A → A → Option Ordering} {R 
     → Agrees C R → (x y : A) (t : Bool) → t ≡ partial_lt C x y → t ≡ less_by R x y
 less_by-from_partial_lt a x y t e = e ∙ ap (is_some_and is_lt) (a x y)
 
--- each call of f is a call of h, and returns whether the result of h is the one meant
-pub ReturnsAs-through : {F H A : Type 0} (calls : Shared F (Bor A × (Bor A × Unit {0})) Bool)
-    (f : F) (through : Shared H (Bor A × (Bor A × Unit {0})) Ordering) (h : H) (zs : List A)
-    (meant : Ordering → Bool) (test : A → A → Bool)
-    → ((v w : Bor A) (t : Bool) → calls.post f (v, (w, tt)) t
-    → (r : Ordering) × through.post h (v, (w, tt)) r × (t ≡ meant r))
-    → ReturnsOnlyWhere through h zs meant test
-    → ReturnsAs (λ x. x) calls f (λ x y. test y x) zs
-ReturnsAs-through calls f through h zs meant test each answers x y t a b says =
-    let behind = each says.first says.second t says.says.met in
-    let at : FnReturnsAtPair through h x y behind.0 = record {
-      first = says.first;
-      second = says.second;
-      shows = says.shows;
-      says = record { met = behind.1 };
-    } in
-    behind.2 ∙ answers x y behind.0 a b at
+module _ {A F H : Type 0} (calls : Shared F (Bor A × (Bor A × Unit {0})) Bool) (f : F)
+    (through : Shared H (Bor A × (Bor A × Unit {0})) Ordering) (h : H) (meant : Ordering → Bool)
+    (each : (v w : Bor A) (t : Bool) → calls.post f (v, (w, tt)) t
+    → (r : Ordering) × through.post h (v, (w, tt)) r × (t ≡ meant r)) (first : A) (xs : List A)
+    (kept : A) (turns : FoldsTo (KeepsBetter (λ y. y) calls f) first xs kept) (view : View A) where
+  -- each call of f is a call of h, and returns whether the result of h is the one meant
+  returns_as : (beats : view.Target → view.Target → Bool)
+      → ReturnsOnlyWhere through h view (map view.of (first ∷ xs)) meant (λ x y. beats y x)
+      → ReturnsAs (λ x. x) calls f (λ x y. beats (view.of x) (view.of y)) (first ∷ xs)
+  returns_as beats answers x y t a b says =
+      let behind = each says.first says.second t says.says.met in
+      let at : FnReturnsAtPair through h x y behind.0 = record {
+        first = says.first;
+        second = says.second;
+        shows = says.shows;
+        says = record { met = behind.1 };
+      } in
+      let there = contains_through view.of (first ∷ xs) in
+      behind.2 ∙ answers x y behind.0 (there x a) (there y b) at
+
+  -- so the first best item is kept, if the results of h rank the items
+  pub picks_best : Contains (map view.of (first ∷ xs)) (view.of kept)
+      × ((beats : view.Target → view.Target → Bool) → IsStrictWeakOrder beats
+      → ReturnsOnlyWhere through h view (map view.of (first ∷ xs)) meant (λ x y. beats y x)
+      → IsFirstLeast beats (map view.of (first ∷ xs)) (view.of kept))
+  picks_best = (
+    contains_through view.of (first ∷ xs) kept
+        (Contains-kept (λ y. y) calls f first xs kept turns),
+    λ beats order answers.
+        let ranks : IsStrictWeakOrder (λ x y. beats (view.of x) (view.of y)) = record {
+          one_way = λ x y. order.one_way (view.of x) (view.of y);
+          chain = λ x y z. order.chain (view.of x) (view.of y) (view.of z);
+        } in
+        first_through view.of beats (first ∷ xs) kept
+        (IsFirstLeast-kept (λ y. y) calls f (λ x y. beats (view.of x) (view.of y)) ranks first xs
+        kept (returns_as beats answers) turns),
+  )

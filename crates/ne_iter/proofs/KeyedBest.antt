@@ -1,43 +1,26 @@
 -- The best of items by their keys, if the keys are the values of a function.
-use Rattle.std.proofs.Common.{arith, sym, ap, subst, ◌∙◌, get_or}
-use Rattle.std.proofs.lemmas.List.{length-map}
+use Rattle.std.proofs.Common.{arith, sym, ap, subst, ◌∙◌}
+use Rattle.std.proofs.lemmas.List.{length-map, take-map}
 use Rattle.std.proofs.lemmas.List.Elements.{All-map}
-use Rattle.std.proofs.lemmas.Option.{get_or_from_slice_get, slice_get-get_or, slice_get-map}
+use Rattle.std.proofs.lemmas.Option.{get_or_from_slice_get, slice_get_within, slice_get-map}
 use Rattle.std.proofs.lemmas.Option.{same_Some}
-use Rattle.std.specs.Prelude.{◌≡◌, ℕ, zero, suc, ◌<◌, Bool, false, true, List, [], ◌∷◌, length, map}
-use Rattle.std.specs.Prelude.{slice_get, All, Contains, Option, None, Some, IfSome, IsSomeAnd, refl}
+use Rattle.std.proofs.lemmas.Simd.{map-map}
+use Rattle.std.specs.Prelude.{◌≡◌, ℕ, zero, suc, Bool, false, true, List, [], ◌∷◌, map, take}
+use Rattle.std.specs.Prelude.{slice_get, All, Option, None, Some, IfSome, IsSomeAnd, refl}
 use Rattle.std.specs.Option.{option_map}
 use Rattle.std.specs.Borrow.{Bor}
 use Rattle.std.specs.Fn.{CalledAt, Mut}
 use Rattle.std.specs.Iterator.{ActsAsAt}
 use Rattle.std.specs.Iterator.Runs.{AnyItem, CallKeepsClosure}
-use Rattle.ne_vec.specs.Lists.{Lists, list_trigger}
-use Rattle.ne_vec.specs.ListLaws.{triggered}
-use Rattle.ne_iter.specs.Consumers.{IsFirstLeast, NoKeyBeats}
+use Rattle.ne_vec.specs.Lists.{EachView, Lists, View}
+use Rattle.ne_iter.specs.Consumers.{HasBestKey, IsBestOfList, IsFirstLeast, NoKeyBeats}
 use Rattle.ne_iter.specs.Calls.{CallsEachAt}
 use Rattle.ne_iter.specs.Keys.{items_of}
 use Rattle.ne_iter.specs.Sources.{Reads, RunsWhole}
-use Rattle.ne_iter.proofs.Extremes.{best_is}
+use Rattle.ne_iter.proofs.Extremes.{best_of_list}
 use Rattle.ne_iter.proofs.FunctionCalls.{values_at}
-use Rattle.ne_iter.proofs.SourceLists.{of_read}
+use Rattle.ne_iter.proofs.SourceLists.{each_view, read_through}
 use Rattle.ne_iter.proofs.Traced.{unbeaten_at, whole_run_of}
-
--- at each place of a list paired with its values is an item and its value
-pair_at : {A B : Type 0} (h : A → B) (xs : List A) (i : ℕ) (p : A × B)
-    → slice_get (map (λ x. (x, h x)) xs) i ≡ Some p → p.1 ≡ h p.0
-pair_at h [] i p here = let e = here in cc
-pair_at h (x ∷ xs) zero p here =
-    let e = same_Some _ _ here in sym (ap (λ q. q.1) e) ∙ ap (λ q. h q.0) e
-pair_at h (x ∷ xs) (suc i) p here = pair_at h xs i p here
-
-among : {A B : Type 0} (ps : List (A × B)) (m : A) (k : B) (place : ℕ) → place < length ps
-    → slice_get ps place ≡ Some (m, k) → Contains (items_of ps) m
-among ps m k place within here = (
-  place,
-  omega (arith, within, length-map ps (λ p. p.0)),
-  get_or_from_slice_get (items_of ps) place m m
-      (slice_get-map (λ p. p.0) ps place ∙ ap (option_map (λ p. p.0)) here),
-)
 
 -- if no call changes f, it was called for each item as it is
 called_at : {A B F : Type 0} (calls : Mut F (Bor A × Unit {0}) B) (f : F)
@@ -55,47 +38,77 @@ called_at calls f keeps ((x, y) ∷ ps) g (q, call, rest) (suc i) p here =
 module _ {A B F : Type 0} (calls : Mut F (Bor A × Unit {0}) B) (f : F) (beats : B → B → Bool)
     (ps : List (A × B)) (m : A) (k : B) (g : F) (shown : CallsEachAt calls f ps g)
     (best : IsFirstLeast (λ p q. beats p.1 q.1) ps (m, k)) where
-  module _ (h : A → B) (acts : ActsAsAt calls f h) where
-    -- the key of each pair is the function's value at its item
-    keyed : (i : ℕ) (p : A × B) → slice_get ps i ≡ Some p → p.1 ≡ h p.0
-    keyed i p here =
-        let all = (values_at calls f h ps g acts shown).0 in
-        pair_at h (items_of ps) i p (ap (λ l. slice_get l i) (sym all) ∙ here)
+  is : IsBestOfList (λ p q. beats p.1 q.1) ps (m, k)
+  is = best_of_list (λ p q. beats p.1 q.1) ps (m, k) best
 
-    unbeaten : All (λ y. beats y (h m) ≡ false) (map h (items_of ps))
-    unbeaten =
-        let is = best_is (λ p q. beats p.1 q.1) (λ p q. beats q.1 p.1 ≡ false)
-        (λ p q e. e) ps best.0 (m, k) best.1 best.2 in
-        All-map (λ y. beats y (h m) ≡ false) h (items_of ps) (λ i d within.
-        let inside : i < length ps = omega (arith, within, length-map ps (λ p. p.0)) in
-        let p = get_or ps i (d, h d) in
-        let here = slice_get-get_or ps i (d, h d) inside in
-        let item = get_or_from_slice_get (items_of ps) i p.0 d
-        (slice_get-map (λ p. p.0) ps i ∙ ap (option_map (λ p. p.0)) here) in
-        subst (λ x. beats (h x) (h m) ≡ false) (sym item)
-        (subst (λ y. beats (h p.0) y ≡ false) (keyed best.0 (m, k) best.2)
-        (subst (λ y. beats y k ≡ false) (keyed i p here) (is.1 i (d, h d) inside))))
+  place : ℕ
+  place = is.2.0
 
-  -- If no key beats the key of an item, the item is in the list that the source gives. If the keys
-  -- are also a function's values, no value at an item beats the value at this one.
-  pub has_best_key : {U S : Type 0} (becomes : U → S → Type 0) (steps : S → Option A → S → Type 0)
-      (u : U) (xs : List A) → Lists becomes steps (λ x. x) u xs
-      → Reads becomes steps true u (items_of ps)
-      → (list_trigger u xs ≡ 0) × (Contains xs m × ((h : A → B) → ActsAsAt calls f h
-      → (map h xs ≡ map h xs) × All (λ y. beats y (h m) ≡ false) (map h xs)))
-  has_best_key becomes steps u xs lists read =
-      let of_all = of_read becomes steps u xs lists in (
-        triggered u xs,
-        (
-          of_all (λ l. Contains l m) (items_of ps) read
-              (among ps m k best.0 best.1.0 best.2),
+  -- the item at its place, and its key
+  here : {C : Type 0} (h : A × B → C) → slice_get (map h ps) place ≡ Some (h (m, k))
+  unfolding place
+  here h = slice_get-map h ps place ∙ ap (option_map h) is.2.1
+
+  module _ (view : View A) where
+    abbrev zs : List view.Target
+    zs = map view.of (items_of ps)
+
+    at_best : slice_get zs place ≡ Some (view.of m)
+    at_best = slice_get-map view.of (items_of ps) place ∙ ap (option_map view.of) (here (λ p. p.0))
+
+    module _ (h : view.Target → B) (acts : ActsAsAt calls f (λ x. h (view.of x))) where
+      -- the keys are the values of the function
+      keys_are : map (λ p. p.1) ps ≡ map h zs
+      keys_are = ap (map (λ p. p.1)) (values_at calls f (λ x. h (view.of x)) ps g acts shown).0
+          ∙ map-map (λ p. p.1) (λ x. (x, h (view.of x))) (items_of ps)
+          ∙ sym (map-map h view.of (items_of ps))
+
+      best_key : k ≡ h (view.of m)
+      best_key = same_Some _ _ (sym (here (λ p. p.1)) ∙ ap (λ l. slice_get l place) keys_are
+          ∙ slice_get-map h zs place ∙ ap (option_map h) at_best)
+
+      -- what relates the best key to keys relates its function's value to the same
+      related : (R : B → B → Type 0) (ks js : List B) → ks ≡ js → All (R k) ks
+          → All (R (h (view.of m))) js
+      related R ks js same all =
+          subst (All (R (h (view.of m)))) same (subst (λ b. All (R b) ks) best_key all)
+
+    has_best_of_items : HasBestKey calls f view m beats zs
+    unfolding place
+    has_best_of_items =
+        let key : A × B → B = λ p. p.1 in
+        let n = place in (
+          (
+            n,
+            slice_get_within zs n (view.of m) at_best,
+            get_or_from_slice_get zs n (view.of m) (view.of m) at_best,
+          ),
           λ h acts. (
             refl,
-            of_all (λ l. All (λ y. beats y (h m) ≡ false) (map h l)) (items_of ps) read
-                (unbeaten h acts),
+            related h acts (λ b j. beats j b ≡ false) (map key ps) (map h zs) (keys_are h acts)
+                (All-map (λ j. beats j k ≡ false) key ps is.1),
           ),
-        ),
-      )
+          (
+            n,
+            at_best,
+            λ h acts. (
+              refl,
+              related h acts (λ b j. beats b j ≡ true) (map key (take n ps)) (map h (take n zs))
+                  (sym (take-map key n ps) ∙ ap (take n) (keys_are h acts) ∙ take-map h n zs)
+                  (All-map (λ j. beats k j ≡ true) key (take n ps) is.2.2),
+            ),
+          ),
+        )
+
+  -- what holds for the list of each view
+  pub has_best_key : {U S : Type 0} (becomes : U → S → Type 0) (steps : S → Option A → S → Type 0)
+      (u : U) (view : View A) → Reads becomes steps true u (items_of ps)
+      → EachView view (λ view. Lists becomes steps view.of) u (λ view xs.
+      HasBestKey calls f view m beats xs)
+  has_best_key becomes steps u view read =
+      each_view (λ view xs. HasBestKey calls f view m beats xs) view (λ view xs known.
+      read_through becomes steps u view.of xs known (λ l. HasBestKey calls f view m beats l)
+      (items_of ps) read (has_best_of_items view))
 
   at_place : CallKeepsClosure calls f → (i : ℕ) (o : Option (A × B)) → slice_get ps i ≡ o
       → IfSome (option_map (λ p. p.0) o)

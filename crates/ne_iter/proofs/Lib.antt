@@ -15,7 +15,7 @@ pub mod KeyedBest
 pub mod FunctionCalls
 pub mod Extremes
 pub mod PrefixesMade
-pub mod SortedKeys
+pub mod SortedByKey
 pub mod Map
 pub mod Enumerate
 pub mod Take

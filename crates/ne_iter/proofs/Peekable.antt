@@ -1,16 +1,21 @@
 -- `peekable`: from a run of its iterator to the list that it yields.
 use Rattle.std.proofs.Common.{rules, subst, sym, ap, ◌∙◌}
 use Rattle.std.specs.Prelude.{◌≡◌, List, [], ◌∷◌, ◌++◌, length, Option, Some, None, refl, Bool}
-use Rattle.std.specs.Prelude.{true, false, ltb, ◌||◌}
+use Rattle.std.specs.Prelude.{true, false, ltb, ◌||◌, IfSome}
 use Rattle.std.specs.Iterator.{DrainsIf}
+use Rattle.std.specs.Iterator.Runs.{Run}
 use Rattle.std.specs.Iterator.Adapters.{once_item, once_steps, chain_first, chain_second}
 use Rattle.std.specs.Iterator.Adapters.{chain_first_done, chain_second_done, chain_steps}
 use Rattle.std.specs.declared.iter.Once.{Once}
 use Rattle.std.specs.declared.iter.Chain.{Chain}
-use Rattle.ne_iter.specs.Peekable.{with_head, PeekableGives, peekable_first}
+use Rattle.ne_vec.specs.Lists.{IsPrefix}
+use Rattle.ne_iter.specs.Peekable.{PutsFirst, YieldsRest, with_head, PeekableGives}
+use Rattle.ne_iter.specs.Peekable.{peekable_first, peekable_rest}
 use Rattle.ne_iter.specs.Sources.{ReadsList, Reads}
 use Rattle.ne_iter.specs.declared.iter.peekable.Peekable.{Peekable}
+use Rattle.ne_vec.proofs.RunFronts.{run_drains}
 use Rattle.ne_iter.proofs.Chain.{DrainsIf-chain}
+use Rattle.ne_iter.proofs.SourceLists.{whole_prefix}
 
 no_item : {A : Type 0} (x : A) → Some x ≡ None → ⊥
 no_item x e = let e = e in search rules
@@ -49,13 +54,42 @@ module _ {S A : Type 0} (steps : S → Option A → S → Type 0) (w x : A) (it 
       subst (Headed whole) (sym p.4) (one_first whole (chain_first s) p.0 p.1 e p.2
       (subst (λ q. DrainsIf steps (whole ≡ true) q p.1) second p.3))
 
-module _ {U S A T : Type 0} (becomes : U → S → Type 0) (steps : S → Option A → S → Type 0)
-    (made : Peekable S A → T → Type 0) (next : T → Option A → T → Type 0) {u : U} {v : Peekable S A}
-    (gives : PeekableGives (Reads becomes steps) (Reads made next) u v) where
-  pub peekable_list : (xs : List A) → ReadsList (Reads becomes steps) u xs
-      → ReadsList (Reads made next) v xs
-  peekable_list xs list whole zs read =
-      let parts = gives (peekable_first v) whole zs read in
-      let same = parts.1 in
-      let front = list whole _ parts.0 in
-      (front.0, (let a = front.1 in cc), front.2)
+headed : {A : Type 0} (w x : A) (whole : Bool) (xs zs : List A)
+    → IsPrefix whole xs (with_head x zs) → IsPrefix whole (with_head w xs) (with_head w zs)
+headed w x whole xs [] h = (with_head w xs, refl, λ e. ap (with_head w) (h.1 ∙ h.2 e))
+headed w x whole xs (z ∷ zs) h = (h.0, ap (with_head w) h.1, h.2)
+
+module _ {U S A : Type 0} (becomes : U → S → Type 0) (steps : S → Option A → S → Type 0) where
+  abbrev Peeks : Bool → Peekable S A → List A → Type 0
+  Peeks = Reads (λ s it. PutsFirst (peekable_first s) (peekable_rest s) it)
+      (chain_steps once_steps steps)
+
+  module _ {u : U} {v : Peekable S A} (gives : PeekableGives (Reads becomes steps) Peeks u v)
+      (xs : List A) (list : ReadsList (Reads becomes steps) u xs) where
+    pub peekable_list : ReadsList Peeks v xs
+    peekable_list whole zs read =
+        let parts = gives (peekable_first v) whole zs read in
+        let same = parts.1 in
+        let front = list whole _ parts.0 in
+        (front.0, (let a = front.1 in cc), front.2)
+
+    module _ (p : Run (chain_steps once_steps steps))
+        (second : chain_second p.from ≡ peekable_rest v) (fresh : chain_first_done p.from ≡ false)
+        (live : chain_second_done p.from ≡ false) (whole : p.whole ≡ true) where
+      rest_of : (o : Option A) → once_item (chain_first p.from) ≡ o
+          → IfSome o (λ w. p.items ≡ with_head w xs)
+      rest_of None e = tt
+      rest_of (Some w) e =
+          let parts = gives w p.whole p.items (record {
+            it = p.from;
+            made = (e, second, fresh, live);
+            given = run_drains _ p p.from refl;
+          }) in
+          let front = headed w (peekable_first v) p.whole xs p.items (list p.whole _ parts.0) in
+          parts.1 ∙ whole_prefix (with_head w xs) (with_head w p.items)
+          (subst (λ b. IsPrefix b (with_head w xs) (with_head w p.items)) whole front)
+
+    -- a whole run, also after the first item was changed
+    pub yields_rest : YieldsRest steps (peekable_rest v) xs
+    yields_rest p seen second fresh live whole =
+        rest_of p second fresh live whole (once_item (chain_first p.from)) refl

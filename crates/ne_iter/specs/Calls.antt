@@ -28,13 +28,12 @@ abbrev pub ReturnsEachAt : {F A B : Type 0} → Mut F (Bor A × Unit {0}) B → 
     → Type 0
 ReturnsEachAt calls y f xs g = FoldsTo (λ p x q. CalledAt calls p x y q) f xs g
 
--- f, called with the total so far and the next item of xs, may take the total from init to r, and
--- is then g.
+-- f, called with the total and each item of xs, may take the total from init to r, and is then g.
 abbrev pub Folds : {F A B : Type 0} → Mut F (B × (A × Unit {0})) B → F → B → List A → B → F → Type 0
 Folds {F = F} {B = B} calls f init xs r g = FoldsTo {P = F × B} (FoldTurn calls) (f, init) xs (g, r)
 
--- f, called with the items of xs and a `&mut` to a state, may return ys, and is then g. The state
--- is s at the first call, at each later call what the call before left, and t at the end.
+-- The state is s at the first call, at each later call what the call before left, and t at the end.
+-- f, called with the items of xs and a `&mut` to a state, may return ys, and is then g.
 abbrev pub CallsWithState : {F S A B : Type 0}
     → Mut F (MutBor S × (A × Unit {0})) (B × (MutBor S × Unit {0}))
     → F → S → List A → List B → F → S → Type 0
@@ -44,8 +43,8 @@ CallsWithState calls f s (x ∷ xs) [] g t = ⊥
 CallsWithState {F} {S} calls f s (x ∷ xs) (y ∷ ys) g t =
     (h : F) × (u : S) × CalledWithState calls f s x y h u × CallsWithState calls h u xs ys g t
 
--- Each call of f with the state s and x returns out s x, leaves the state next s x, and leaves f
--- unchanged.
+-- No call of f changes f.
+-- Each call of f with the state s and x returns out s x and leaves the state next s x.
 abbrev pub ActsAsWithState : {F S A B : Type 0}
     → Mut F (MutBor S × (A × Unit {0})) (B × (MutBor S × Unit {0}))
     → F → (S → A → S) → (S → A → B) → Type 0

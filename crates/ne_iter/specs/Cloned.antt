@@ -17,8 +17,7 @@ cloned_iterator s = s.iter
 abbrev pub TriesClone : {T E : Type 0} → (T → T → Type 0) → (T → Type 0) → T → Result T E → Type 0
 TriesClone clones infallible x r = MatchResult r (clones x) (λ _. infallible x → ⊥)
 
--- One call: if s is at its end, the result is `None`; otherwise s gives a reference, and the result
--- is what cloning the referenced item returned.
+-- One call returns `None` if s is at its end, or what cloning the next referenced item returned.
 abbrev pub ClonesNext : {S T R : Type 0} → (S → Option (Bor T) → S → Type 0) → (T → R → Type 0) → S
     → Option R → S → Type 0
 ClonesNext {T = T} steps tries s r t = (o : Option (Bor T)) × steps s o t

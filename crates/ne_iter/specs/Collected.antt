@@ -12,8 +12,8 @@ module _ {K : Type 0} (eq : K → K → Bool) where
   abbrev pub last_value : {V : Type 0} → List (K × V) → K → Option V
   last_value pairs q = lookup (eq q) (reverse pairs)
 
-  -- The entries are the map of the pairs: each key is there once, with the value of the last pair
-  -- whose key equals it.
+  -- Each key is there once, with the value of the last pair whose key equals it.
+  -- The entries are the map of the pairs.
   abbrev pub IsMapOf : {V : Type 0} → List (K × V) → List (K × V) → Type 0
   IsMapOf pairs entries = IsDistinct eq (keys_of entries)
       × ((q : K) → lookup (eq q) entries ≡ last_value pairs q)
@@ -34,8 +34,8 @@ module _ {T V : Type 0} (collected : List T → V → Type 0) (is_complete : V �
   PrefixMakes items v = MatchBool (is_complete v) (collected items v)
       ((front : List T) × (more : List T) × (items ≡ front ++ more) × collected front v)
 
-  -- `Ok` of what the values make if each item is `Ok`; otherwise the first `Err`. The items end
-  -- with this `Err`, so it is the first one of each list that begins with them.
+  -- The items end with the `Err`, so it is the first one of each list that begins with them.
+  -- The result is `Ok` of what the values make if each item is `Ok`, and otherwise the first `Err`.
   abbrev pub ResultsMake : {E : Type 0} → List (Result T E) → Result V E → Type 0
   ResultsMake {E} items result = MatchResult result
       (λ v. (values : List T) × (items ≡ map Ok values)

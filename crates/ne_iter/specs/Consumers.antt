@@ -1,6 +1,6 @@
 -- The results of the methods that pick an item of all that a source yields.
 use Rattle.std.specs.Prelude.{◌≡◌, ℕ, Bool, true, false, cond, List, length, map, Option, Some}
-use Rattle.std.specs.Prelude.{slice_get}
+use Rattle.std.specs.Prelude.{slice_get, take}
 use Rattle.std.specs.Borrow.{Bor}
 use Rattle.std.specs.Cmp.{IsStrictWeakOrder}
 use Rattle.std.specs.Fn.{CalledAt, Mut, Shared, FnReturnsAtPair}
@@ -9,7 +9,7 @@ use Rattle.std.specs.Iterator.Runs.{AllItems, AnyItem, CallKeepsClosure, Run}
 use Rattle.std.specs.List.{All, IsFirstBest, Contains}
 use Rattle.std.specs.Ordering.{is_gt, is_lt}
 use Rattle.std.specs.declared.cmp.Ordering.{Ordering}
-use Rattle.ne_vec.specs.Lists.{Naming}
+use Rattle.ne_vec.specs.Lists.{Naming, View}
 use Rattle.ne_iter.specs.Calls.{CallsEachAt}
 use Rattle.ne_iter.specs.Keys.{items_of}
 
@@ -18,8 +18,8 @@ abbrev pub less_by : {A : Type 0} → (A → A → Ordering) → A → A → Boo
 less_by cmp x y = is_lt (cmp x y)
 
 module _ {A : Type 0} (less : A → A → Bool) where
-  -- m is the first greatest item of xs: it is less than no item, and each item before it is less
-  -- than it.
+  -- It is less than no item, and each item before it is less than it:
+  -- m is the first greatest item of xs.
   abbrev pub IsFirstGreatest : List A → A → Type 0
   IsFirstGreatest xs m = (place : ℕ) × IsFirstBest (λ x y. less y x) xs (length xs) place
       × (slice_get xs place ≡ Some m)
@@ -36,37 +36,39 @@ module _ {A : Type 0} where
   CallableOnTwo {S} steps calls it f = (xs : List A) (t : S) (x y : Bor A) → Yields steps it xs t
       → Contains xs x.now → Contains xs y.now → calls.pre f (x, (y, tt))
 
-  -- `next` is the item kept of the one kept so far, `kept`, and the next one, x: it is x if f,
-  -- called with what `view` makes of the two, returns true, and otherwise `kept`.
+  -- f is called with what `view` makes of `kept`, the item kept so far, and of x, the next one.
+  -- `next`, the item kept of the two, is x if f returns true, and otherwise `kept`.
   abbrev pub KeepsBetter : {V F : Type 0} → (A → V) → Shared F (Bor V × (Bor V × Unit {0})) Bool
       → F → A → A → A → Type 0
   KeepsBetter view calls f kept x next = (better : Bool)
       × FnReturnsAtPair calls f (view kept) (view x) better × (next ≡ cond better x kept)
 
-  -- For any two items x and y of xs, what f returns is `meant` if and only if `test x y`. `meant`
-  -- is `is_lt` for `Less` or `is_gt` for `Greater`.
-  abbrev pub ReturnsOnlyWhere : {F : Type 0} → Shared F (Bor A × (Bor A × Unit {0})) Ordering → F
-      → List A → (Ordering → Bool) → (A → A → Bool) → Type 0
-  ReturnsOnlyWhere calls f xs meant test = (x y : A) (r : Ordering) → Contains xs x → Contains xs y
-      → FnReturnsAtPair calls f x y r → meant r ≡ test x y
+module _ {A F : Type 0} (calls : Shared F (Bor A × (Bor A × Unit {0})) Ordering) (f : F)
+    (view : View A) (xs : List view.Target) where
+  -- x and y are in xs through `view`. `meant` is `is_lt` for `Less` or `is_gt` for `Greater`.
+  -- What f returns for any two items x and y is `meant` if and only if `test` is true of the two.
+  abbrev pub ReturnsOnlyWhere : (Ordering → Bool) → (view.Target → view.Target → Bool) → Type 0
+  ReturnsOnlyWhere meant test = (x y : A) (r : Ordering) → Contains xs (view.of x)
+      → Contains xs (view.of y) → FnReturnsAtPair calls f x y r
+      → meant r ≡ test (view.of x) (view.of y)
 
-  -- `max_by`: m is an item of xs. If f returns `Less` exactly as a total preorder does, m is the
-  -- first greatest item.
-  abbrev pub PicksGreatest : {F : Type 0} → Shared F (Bor A × (Bor A × Unit {0})) Ordering → F
-      → List A → A → Type 0
-  PicksGreatest calls f xs m = Contains xs m × ((less : A → A → Bool) → IsStrictWeakOrder less
-      → ReturnsOnlyWhere calls f xs is_lt less → IsFirstGreatest less xs m)
+  -- m, through `view`, is an item of xs.
+  -- `max_by`: m is the first greatest item if f returns `Less` exactly as a total preorder does.
+  abbrev pub PicksGreatest : A → Type 0
+  PicksGreatest m = Contains xs (view.of m) × ((less : view.Target → view.Target → Bool)
+      → IsStrictWeakOrder less → ReturnsOnlyWhere is_lt less
+      → IsFirstGreatest less xs (view.of m))
 
-  -- `min_by`: m is an item of xs. If f returns `Greater` exactly as a total preorder does, m is the
-  -- first least item.
-  abbrev pub PicksLeast : {F : Type 0} → Shared F (Bor A × (Bor A × Unit {0})) Ordering → F → List A
-      → A → Type 0
-  PicksLeast calls f xs m = Contains xs m × ((less : A → A → Bool) → IsStrictWeakOrder less
-      → ReturnsOnlyWhere calls f xs is_gt (λ x y. less y x) → IsFirstLeast less xs m)
+  -- m, through `view`, is an item of xs.
+  -- `min_by`: m is the first least item if f returns `Greater` exactly as a total preorder does.
+  abbrev pub PicksLeast : A → Type 0
+  PicksLeast m = Contains xs (view.of m) × ((less : view.Target → view.Target → Bool)
+      → IsStrictWeakOrder less → ReturnsOnlyWhere is_gt (λ x y. less y x)
+      → IsFirstLeast less xs (view.of m))
 
--- `max_by_key` and `min_by_key`: `best` says that the result, with its key, is the best of the
--- items that the source gave to the end, where each item has the key that f returned for it. f was
--- called with the items in order.
+-- For `max_by_key` and `min_by_key`: f was called with the items in order, and each item has the
+-- key that f returned for it.
+-- `best` says that the result, with its key, is the best of all items that the source yielded.
 pub record PicksByKey {U A K F : Type 0} (reads : Bool → U → List A → Type 0)
     (calls : Mut F (Bor A × Unit {0}) K) (source : U) (f : F) (result : A)
     (best : List (A × K) → A × K → Type 0) : Type 0 where
@@ -90,17 +92,28 @@ module _ {U A K F : Type 0} (reads : Bool → U → List A → Type 0)
     PicksLeastKey = PicksByKey reads calls source f result
         (IsFirstLeast (λ p q. less_by cmp p.1 q.1))
 
--- m is an item of xs. If f acts as a function h, no value of h on xs is greater (for the greatest
--- key) or less (for the least key) than its value at m.
-module _ {A K F : Type 0} (calls : Mut F (Bor A × Unit {0}) K) (cmp : K → K → Ordering) (f : F)
-    (xs : List A) (m : A) where
-  abbrev pub HasGreatestKey : Type 0
-  HasGreatestKey = Contains xs m × ((h : A → K) → ActsAsAt calls f h
-      → Naming (map h xs) (All (λ k. less_by cmp (h m) k ≡ false)))
+-- m stands at some place of xs, and P holds for the list of the items before it.
+abbrev pub HoldsBefore : {A : Type 0} → List A → A → (List A → Type 0) → Type 0
+HoldsBefore xs m P = (place : ℕ) × (slice_get xs place ≡ Some m) × P (take place xs)
 
-  abbrev pub HasLeastKey : Type 0
-  HasLeastKey = Contains xs m × ((h : A → K) → ActsAsAt calls f h
-      → Naming (map h xs) (All (λ k. less_by cmp k (h m) ≡ false)))
+-- m is an item of xs, no item beats m, and m beats each item before it.
+-- For the automatic proof: m is the first best item of xs.
+abbrev pub IsBestOfList : {A : Type 0} → (A → A → Bool) → List A → A → Type 0
+IsBestOfList beats xs m = Contains xs m × All (λ x. beats x m ≡ false) xs
+    × HoldsBefore xs m (All (λ x. beats m x ≡ true))
+
+module _ {A K F : Type 0} (calls : Mut F (Bor A × Unit {0}) K) (f : F) (view : View A) (m : A) where
+  -- If f acts as a function h of what `view` makes of an item, the values of h are the keys.
+  -- R relates the key of m to the key of each item of xs.
+  abbrev pub RelatesKeys : (K → K → Type 0) → List view.Target → Type 0
+  RelatesKeys R xs = (h : view.Target → K) → ActsAsAt calls f (λ x. h (view.of x))
+      → Naming (map h xs) (All (R (h (view.of m))))
+
+  -- m, through `view`, is in xs. No key of an item beats its key, which beats each key before it:
+  -- m is the first item of xs with the best key.
+  abbrev pub HasBestKey : (K → K → Bool) → List view.Target → Type 0
+  HasBestKey beats xs = Contains xs (view.of m) × RelatesKeys (λ best k. beats k best ≡ false) xs
+      × HoldsBefore xs (view.of m) (RelatesKeys (λ best k. beats best k ≡ true))
 
 -- If no call changes f, no item of the run has a key that beats the key of m.
 abbrev pub NoKeyBeats : {S A K F : Type 0} {steps : S → Option A → S → Type 0} → Run steps
@@ -108,8 +121,8 @@ abbrev pub NoKeyBeats : {S A K F : Type 0} {steps : S → Option A → S → Typ
 NoKeyBeats {K = K} p calls f beats m = CallKeepsClosure calls f → (k : K) × CalledAt calls f m k f
     × AllItems p (λ x. (j : K) × CalledAt calls f x j f × (beats j k ≡ false))
 
--- For the automatic proof, of a run whose best item is m: m is one of its items, none of them beats
--- m, and m is contained in each list that equals its items.
+-- m is one of its items, none of them beats m, and each list that equals its items contains m.
+-- For the automatic proof: m is the best item of the run.
 abbrev pub IsBestOfRun : {S A : Type 0} {steps : S → Option A → S → Type 0} → Run steps
     → (A → A → Bool) → A → Type 0
 IsBestOfRun {A = A} p beats m = AnyItem p (λ x. x ≡ m) × AllItems p (λ x. beats x m ≡ false)

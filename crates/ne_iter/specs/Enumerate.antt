@@ -15,8 +15,8 @@ abbrev pub IsEnumerated : {U A : Type 0} → (Bool → U → List A → Type 0) 
 IsEnumerated {A = A} reads source whole ys = (xs : List A) × reads whole source xs
     × (ys ≡ enumerate_from 0 xs)
 
--- The iterator that v becomes gives, in a whole run, as many items as xs has, and at most as many
--- in any other. For an adapter that numbers the items of xs, it spares `grind` the list of pairs.
+-- For an adapter that numbers the items of xs, it spares `grind` the list of pairs.
+-- A run of the iterator that v becomes has at most as many items as xs, and as many if it is whole.
 abbrev pub CountsAs : {V T A B : Type 0} → (V → T → Type 0) → (T → Option B → T → Type 0) → V
     → List A → Type 0
 CountsAs {T = T} becomes steps v xs = (it : T) → becomes v it → EachRunFrom steps it (λ p.

@@ -40,8 +40,8 @@ abbrev pub ReturnsLists : {A W B F : Type 0} → Mut F (A × Unit {0}) W → F
 ReturnsLists {A} {W} {F = F} calls f lists inner =
     (x : A) (w : W) (g : F) → Called calls f (x, tt) w g → (g ≡ f) × lists w (inner x)
 
--- `flat_map`: the lists of the sources that f returns, one after another. `becomes` says which list
--- the source gives that such a value becomes.
+-- `becomes` says which list the source yields that a value returned by f becomes.
+-- `flat_map` yields the lists of the sources that f returns, one after another.
 abbrev pub SpreadsLists : {U A W B V F : Type 0} → Mut F (A × Unit {0}) W → F
     → (U → List A → Type 0) → (W → List B → Type 0) → (V → List B → Type 0) → U → V → Type 0
 SpreadsLists {A = A} {B = B} calls f lists becomes gives u v = EachList lists u (λ xs.

@@ -22,9 +22,9 @@ and_held rs (Some x) = rs ++ (x ∷ []) ∷ []
 
 module _ {U A K F : Type 0} (reads : Bool → U → List A → Type 0) (asks : Mut F (Bor A × Unit {0}) K)
     (eq : K → K → Bool) where
-  -- The items taken from the source, for which f was called in order, are divided by their keys,
-  -- which f returned, into the runs rs and an item that is held. If `whole` is true, the source has
-  -- ended.
+  -- f was called for the items in order, and returned their keys. If `whole` is true, the source
+  -- has ended.
+  -- The items taken from the source are divided by their keys into the runs rs and a held item.
   pub record HasRuns (whole : Bool) (source : U) (f : F) (rs : List (List A)) : Type 0 where
     pub drawn : List (A × K)
     pub closure : F
@@ -33,13 +33,12 @@ module _ {U A K F : Type 0} (reads : Bool → U → List A → Type 0) (asks : M
     pub read : reads ended source (items_of drawn)
     pub asked : CallsEachAt asks f drawn closure
     pub divided : DividesByKey eq drawn (and_held rs held)
-    -- no item is held before anything is taken and once the source has ended; otherwise one is
-    -- held, after a run
+    -- an item is held, after a run, unless the source has ended or nothing was taken
     pub holds : MatchOption held ((ended ≡ true) ⊎ (drawn ≡ [])) (λ _. rs ≢ [])
     pub over : whole ≡ true → (ended ≡ true) × (held ≡ None)
 
-  -- `group_by`: the runs of the source's items by the keys that f returned, each in `Ok`. An `Err`
-  -- may come in place of a run, and then nothing comes after it.
+  -- An `Err` may come in place of a run, and then nothing comes after it.
+  -- `group_by` yields the runs of the source's items by the keys that f returned, each in `Ok`.
   abbrev pub GroupByGives : {V E : Type 0} → (Bool → V → List (Result (List A) E) → Type 0) → U → F
       → V → Type 0
   GroupByGives {E = E} grouped source f result

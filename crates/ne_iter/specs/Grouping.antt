@@ -1,7 +1,7 @@
 -- The value of a grouping in contracts. No type of the crate is named here.
 
--- What a grouping knows about the items after the runs that it returned: none was taken yet; one
--- item is held, with its key; or no more will come.
+-- No item was taken yet, or one item is held, with its key, or no more will come.
+-- This is what a grouping knows about the items after the runs that it returned.
 pub data Ahead (K A : Type 0) : Type 0 where
   Unread : Ahead K A
   Held : K → A → Ahead K A

@@ -19,9 +19,9 @@ IsOver g = g.ahead ≡ Ended
 
 module _ {S K A F : Type 0} (steps : S → Option A → S → Type 0) (asks : Mut F (Bor A × Unit {0}) K)
     (eq : K → K → Bool) where
-  -- The items taken, each with its key, took the source from s to t. There are three cases: nothing
-  -- was taken; or the items are divided into the runs and one more, of the item that is held; or
-  -- the source has ended, and the items are divided into the runs.
+  -- There are three cases: nothing was taken, or the items are divided into the runs and one more,
+  -- of the item that is held, or the source has ended and the items are divided into the runs.
+  -- The items taken, each with its key, took the source from s to t.
   abbrev pub StandsAt : Ahead K A → S → List (A × K) → S → List (List (A × K)) → Type 0
   StandsAt Unread s drawn t runs = (drawn ≡ []) × (runs ≡ []) × (s ≡ t)
   StandsAt (Held k x) s drawn t runs = (runs ≢ []) × Yields steps s (items_of drawn) t
@@ -29,9 +29,8 @@ module _ {S K A F : Type 0} (steps : S → Option A → S → Type 0) (asks : Mu
   StandsAt Ended s drawn t runs = YieldsThen steps s (items_of drawn) None t
       × IsDivision (by_first (same_key eq)) drawn runs
 
-  -- A grouping that began with the source s and the closure f has returned the runs rs, and is now
-  -- g. The closure was called for each item taken, once and in order, and the keys are what it
-  -- returned.
+  -- The closure was called for each item taken, once and in order, and returned the keys.
+  -- A grouping that began with the source s and the closure f returned the runs rs, and is now g.
   pub record HasRead (s : S) (f : F) (rs : List (List A)) (g : Grouping S K A F) : Type 0 where
     pub drawn : List (A × K)
     pub runs : List (List (A × K))
@@ -46,14 +45,13 @@ module _ {S K A F : Type 0} (steps : S → Option A → S → Type 0) (asks : Mu
     pub over : IsOver g → (r ≡ None) × (h ≡ g)
     -- it is over after `None`, and after an `Err`
     pub stops : MatchOption r (IsOver h) (λ x. OnErr x (IsOver h))
-    -- whatever it had read and returned before: a run comes after those that it returned, and after
-    -- `None` there are no more
+    -- a run comes after all that it returned before, and after `None` there are no more
     pub reads : (s : S) (f : F) (rs : List (List A)) → HasRead s f rs g
         → MatchOption r (HasRead s f rs h) (λ x. IfOk x (λ run. HasRead s f (rs ++ run ∷ []) h))
 
-  -- What a grouping that had returned the runs rs returned next, and what it is now. There are
-  -- three cases: nothing yet; or `None`; or an `Err`, and it was k before. After `None` and after
-  -- an `Err` it returns only `None`.
+  -- There are three cases: nothing yet, or `None`, or an `Err`, and it was k before. After `None`
+  -- and after an `Err` it returns only `None`.
+  -- This is what a grouping returned after the runs rs, and what it is now.
   abbrev pub ReturnsThen : S → F → List (List A) → List (Option (Result (List A) AllocError))
       → Grouping S K A F → Type 0
   ReturnsThen s f rs [] h = HasRead s f rs h
@@ -72,15 +70,15 @@ module _ {S K A F : Type 0} (steps : S → Option A → S → Type 0) (asks : Mu
     pub are_all : answers ≡ map (λ run. Some (Ok run)) runs ++ later
     pub ended : ReturnsThen s f (done ++ runs) later h
 
--- A grouping that is not over needs a source that can be read and ends, and a closure that can be
--- called with each item that the source may give.
+-- Unless it is over, its source can be read and ends, and its closure can be called with each item:
+-- the grouping can be read.
 abbrev pub CanRead : {S K A F : Type 0} → (S → Type 0) → (S → Count) → (S → F → Type 0)
     → Grouping S K A F → Type 0
 CanRead can left callable g =
     (IsOver g → ⊥) → can g.source × IsFinite (left g.source) × callable g.source g.closure
 
--- There are at most as many runs as items ahead: those that the source has left, and the one that
--- is held.
+-- There are at most as many runs ahead as items.
+-- The items ahead are those that the source has left, and the one that is held.
 abbrev pub items_ahead : {K A : Type 0} → Ahead K A → ℕ → ℕ
 items_ahead Unread left = left
 items_ahead (Held k x) left = left + 1
@@ -89,8 +87,8 @@ items_ahead Ended left = 0
 abbrev pub runs_left : {S K A F : Type 0} → (S → Count) → Grouping S K A F → Count
 runs_left left g = at_most (items_ahead g.ahead (size (left g.source)))
 
--- If g, which has read nothing, gives runs to its end, each in `Ok`, its source gives a list to its
--- end. If the closure acts as a function h, the runs are the runs of that list by h.
+-- If g, which has read nothing, yields runs to its end, each in `Ok`, its source ends too.
+-- If the closure acts as a function h, g yields the runs of its source's items by h.
 abbrev pub GroupsRuns : {S K A F : Type 0} → (S → Option A → S → Type 0)
     → Mut F (Bor A × Unit {0}) K → (K → K → Bool) → Grouping S K A F → Type 0
 GroupsRuns {K = K} {A = A} steps asks eq g = EachRunFrom (GivesRun steps asks eq) g (λ p.

@@ -27,8 +27,8 @@ intersperse_rest s = s.rest
 abbrev pub intersperse_separator : {S X : Type 0} → Intersperse S X → X
 intersperse_separator s = s.separator
 
--- zs are the items xs, each in `Ok`, and between each two of them what cloning the separator
--- returned; up to the first clone that failed. `came` holds for what a clone may return.
+-- `came` holds for what a clone of the separator may return. zs end at the first clone that failed.
+-- zs are the items xs, each in `Ok`, with what cloning the separator returned between each two.
 abbrev pub Interspersed : {A E : Type 0} → (Result A E → Type 0) → List A → List (Result A E)
     → Type 0
 Interspersed came [] zs = zs ≡ []
@@ -41,30 +41,32 @@ Interspersed {A} {E} came (x ∷ y ∷ xs) zs = (c : Result A E) × (more : List
 abbrev pub interspersed : {A : Type 0} → A → List A → List A
 interspersed s xs = join_by (λ x. x ∷ []) (s ∷ []) xs
 
--- For the automatic proof: the lists that f makes of the items xs, and of the s between each two of
--- them, one after the other, are std's `join` of the items. If f gives the bytes of texts, this is
--- the text that they make.
+-- The lists that f makes of the items xs, and of the s between each two of them, one after the
+-- other, are std's `join` of the items. If f gives the bytes of texts, this is the text they make.
+-- For the automatic proof: the lists of the items with separators are std's `join` of the items.
 abbrev pub JoinsLists : {A : Type 0} → A → List A → Type 0
 JoinsLists {A} s xs = (f : A → List ℕ) → flat_map f (interspersed s xs) ≡ join_by f (f s) xs
 
--- For the automatic proof: if xs with s between each two items, each in `Ok`, equals some values,
--- each in `Ok`, then it equals these values.
+-- If some values, each in `Ok`, equal this list, they are its values.
+-- For the automatic proof: xs with s between each two items, each in `Ok`, has only its values.
 abbrev pub OnlyItsValues : {A : Type 0} → Type 0 → A → List A → Type 0
 OnlyItsValues {A} E s xs = (values : List A)
     → map {B = Result A E} Ok (interspersed s xs) ≡ map Ok values
     → Naming (map {B = Result A E} Ok values) (λ _. values ≡ interspersed s xs)
 
--- the iterator that a `RawIntersperse` takes items from, the separator, the item that was taken and
--- comes next, and whether a clone failed
+-- The iterator that a `RawIntersperse` takes items from.
 abbrev pub drawn_from : {I X : Type 0} → RawIntersperse I X → I
 drawn_from s = s.iter
 
+-- The separator, which is cloned.
 abbrev pub clones_of : {I X : Type 0} → RawIntersperse I X → X
 clones_of s = s.separator
 
+-- The item that was taken and comes next, if there is one.
 abbrev pub in_hand : {I X : Type 0} → RawIntersperse I X → Option X
 in_hand s = s.next
 
+-- Whether a clone failed.
 abbrev pub is_over : {I X : Type 0} → RawIntersperse I X → Bool
 is_over s = s.is_over
 
@@ -75,9 +77,9 @@ interspersed_left left s = count_unless (is_over s)
 
 module _ {S A E : Type 0} (steps : S → Option A → S → Type 0) (tries : A → Result A E → Type 0)
   where
-    -- If no item is held, the next one is taken. If there is none, the result is `None`. Otherwise
-    -- the result is what cloning the separator returned, and then the item is held, or the clone
-    -- failed.
+    -- This is for a call when no item is held. If there is no next item, the result is `None`.
+    -- Otherwise the item is then held, or the clone failed.
+    -- The next item is taken, and the result is what cloning the separator returned.
     abbrev pub DrawsNext : RawIntersperse S A → Option (Result A E) → RawIntersperse S A → Type 0
     DrawsNext s r t = (o : Option A) × steps (drawn_from s) o (drawn_from t)
         × MatchOption o ((r ≡ None) × (in_hand t ≡ None) × (is_over t ≡ false))
@@ -93,17 +95,18 @@ module _ {S A E : Type 0} (steps : S → Option A → S → Type 0) (tries : A �
       pub in_hand_then : in_hand t ≡ None
       pub is_on : is_over t ≡ false
 
-    -- One call. After a failed clone it returns `None` and takes nothing. If an item is held, it is
-    -- returned. Otherwise `DrawsNext` holds.
+    -- If a clone failed, it returns `None` and takes nothing. `DrawsNext` holds if no item is held.
+    -- One call of `next` returns the item that is held, or what cloning the separator returned.
     abbrev pub InterspersesNext : RawIntersperse S A → Option (Result A E) → RawIntersperse S A
         → Type 0
     InterspersesNext s r t = (clones_of t ≡ clones_of s)
         × MatchBool (is_over s) ((r ≡ None) × (t ≡ s))
         (MatchOption (in_hand s) (DrawsNext s r t) (GivesHeld s r t))
 
--- Each run of `it` has a run of `rest`, whose items come after x. If clones of the separator s
--- equal it and cannot fail, a whole run gives all of these items with s between each two, each in
--- `Ok`. If what the run gave equals some values, each in `Ok`, then these values are that list.
+-- If clones of the separator s equal it and cannot fail, a whole run yields x and the items of
+-- `rest`, with s between each two, each in `Ok`. If what the run yields equals some values, each in
+-- `Ok`, then these values are that list.
+-- Each run of `it` has a run of `rest`, whose items come after x.
 abbrev pub IntersperseRuns : {S A : Type 0} → (S → Option A → S → Type 0) → (A → A → Type 0)
     → (A → Type 0) → A → A → S → RawIntersperse S A → Type 0
 IntersperseRuns {S} {A} steps clones infallible s x rest it =
@@ -116,9 +119,9 @@ IntersperseRuns {S} {A} steps clones infallible s x rest it =
     (λ _. values ≡ interspersed s (x ∷ q.items)))))
 
 module _ {U A : Type 0} (reads : Bool → U → List A → Type 0) where
-  -- zs are the items, each in `Ok`, with what cloning the separator returned between each two. What
-  -- came so far is the beginning of that list, and what came to the end is all of it; the source
+  -- What came so far is a prefix of that list, and what came to the end is all of it. The source
   -- has then ended too, unless a clone failed.
+  -- zs are the items, each in `Ok`, with what cloning the separator returned between each two.
   pub record IsInterspersed {E : Type 0} (tries : A → Result A E → Type 0) (source : U)
       (separator : A) (whole : Bool) (zs : List (Result A E)) : Type 0 where
     pub items : List A

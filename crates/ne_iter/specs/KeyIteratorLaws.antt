@@ -31,8 +31,8 @@ module _ {A X : Type 0} (known : List X → Type 0) (shows : A → X) where
       w es
   lists_known w es same = (triggered w es, all_given w es same)
 
-  -- a map or set and the iterator over it that it becomes give the same lists; `fact` is what else
-  -- is known of the map
+  -- `fact` is what else is known of the map.
+  -- A map or set and the iterator over it that it becomes yield the same lists.
   pub SameLists-entries : {U : Type 0} (entries : U → List X) (fact : U → Type 0)
       → SameLists (λ u it. IteratesKnown known (entries u) it × fact u) (TakesFirst shows)
       (λ u w. (w ≡ entries u) × fact u

@@ -4,8 +4,8 @@ use Rattle.std.specs.Prelude.{◌≡◌, ◌^◌, ◌<◌, ℕ, List, length}
 use Rattle.std.specs.Map.Iter.{GivesInOrder, ShowsInOrder, TakesFirst, deref}
 use Rattle.ne_vec.specs.Lists.{Listed}
 
--- What is known of an iterator whose items, through `view`, are the entries es: they are fewer than
--- 2 ^ k, and what calls of `next` return, which serves the automatic proof.
+-- The entries are fewer than 2 ^ k. What calls of `next` return serves the automatic proof.
+-- What is known of an iterator whose items, through `view`, are the entries es.
 abbrev pub KnownByReference : {A X : Type 0} → ℕ → (A → X) → List X → Type 0
 KnownByReference k view es = (length es < 2 ^ k) × ShowsInOrder view
 
@@ -29,8 +29,8 @@ IteratesEntriesByValue = IteratesKnown KnownByValue
 abbrev pub ListsEntries : {A X : Type 0} → (A → X) → List X → List X → Type 0
 ListsEntries view w es = Listed (IteratesEntries view) (TakesFirst view) view w es
 
--- The iterator w over a union of two sets is a source of references to the items xs. A union may be
--- longer than a set.
+-- A union may be longer than a set.
+-- The iterator w over a union of two sets is a source of references to the items xs.
 abbrev pub ListsUnion : {X : Type 0} → List X → List X → Type 0
 ListsUnion w xs = Listed (IteratesKnown (KnownByReference 64 deref)) (TakesFirst deref) deref w xs
 

@@ -17,7 +17,7 @@ pub mod KeyIterators
 pub mod KeyIteratorLaws
 pub mod ExtendLists
 pub mod ExtendListLaws
-pub mod KeyOrder
+pub mod SortedByKey
 pub mod KeyClones
 pub mod KeyCloneLaws
 pub mod SameMap

@@ -1,5 +1,10 @@
 -- `peekable`: its parts, and what it yields.
-use Rattle.std.specs.Prelude.{◌≡◌, Bool, List, [], ◌∷◌}
+use Rattle.std.specs.Prelude.{◌≡◌, ◌∷◌, [], Bool, List, Option, Some, IfSome, false, true}
+use Rattle.std.specs.Iterator.Adapters.{chain_steps, once_steps, once_item, chain_first}
+use Rattle.std.specs.Iterator.Adapters.{chain_second, chain_first_done, chain_second_done}
+use Rattle.std.specs.Iterator.Runs.{Run, Trigger}
+use Rattle.std.specs.declared.iter.Chain.{Chain}
+use Rattle.std.specs.declared.iter.Once.{Once}
 use Rattle.ne_iter.specs.declared.iter.peekable.Peekable.{Peekable}
 
 -- the item that was taken, and the iterator over what comes after it
@@ -18,10 +23,23 @@ abbrev pub with_head : {A : Type 0} → A → List A → List A
 with_head x [] = []
 with_head x (y ∷ xs) = x ∷ xs
 
--- `peekable`: the source's items, the first one as it was last written. w is what was written, or
--- the first item itself.
+-- w is what was written to the first item, or the first item itself.
+-- `peekable` yields the source's items, the first one as it was last written.
 abbrev pub PeekableGives : {U I A : Type 0} → (Bool → U → List A → Type 0)
     → (Bool → Peekable I A → List A → Type 0) → U → Peekable I A → Type 0
 PeekableGives {A = A} reads peeked source result = (w : A) (whole : Bool) (zs : List A)
     → peeked whole (with_first result w) zs
     → reads whole source (with_head (peekable_first result) zs) × (zs ≡ with_head w zs)
+
+-- The iterator is the chain of the first item, x, and `rest`.
+abbrev pub PutsFirst : {I A : Type 0} → A → I → Chain (Once A) I → Type 0
+PutsFirst x rest it = (once_item (chain_first it) ≡ Some x) × (chain_second it ≡ rest)
+    × (chain_first_done it ≡ false) × (chain_second_done it ≡ false)
+
+-- For the automatic proof, of a run of a chain of one item and `rest`.
+-- If the run is whole, it yields xs, with the one item in place of its first one.
+abbrev pub YieldsRest : {I A : Type 0} → (I → Option A → I → Type 0) → I → List A → Type 0
+YieldsRest steps rest xs = (p : Run (chain_steps once_steps steps)) → Trigger p.len
+    → chain_second p.from ≡ rest → chain_first_done p.from ≡ false
+    → chain_second_done p.from ≡ false → p.whole ≡ true
+    → IfSome (once_item (chain_first p.from)) (λ w. p.items ≡ with_head w xs)

@@ -10,8 +10,8 @@ FailsFirst calls f [] = ⊤
 FailsFirst {F} calls f (y ∷ ys) = (g : F) × CalledAt calls f y false g
 
 module _ {U A : Type 0} (reads : Bool → U → List A → Type 0) where
-  -- ys are the source's items from the first one for which f returns false; f is not called after
-  -- that one.
+  -- f is not called after the first item for which it returns false.
+  -- ys are the source's items from the first one for which f returns false.
   pub record IsSkippedWhile {F : Type 0} (calls : Mut F (Bor A × Unit {0}) Bool) (source : U)
       (f : F) (whole : Bool) (ys : List A) : Type 0 where
     -- the items before that one

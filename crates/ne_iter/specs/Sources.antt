@@ -4,8 +4,8 @@ use Rattle.std.specs.Iterator.{Count, DrainsIf, MakesProgress}
 use Rattle.std.specs.Iterator.Runs.{EachRunFrom, Run, SomeRun, WholeRun}
 use Rattle.ne_vec.specs.Lists.{IsPrefix}
 
--- The source u may give the items xs first, in this order; if whole is true, it may then end.
 -- `becomes` is the `into_iter_gives` of the source, and `steps` the `next_gives` of its iterator.
+-- The source u may yield the items xs first, in this order. If whole is true, it may then end.
 pub record Reads {U S A : Type 0} (becomes : U → S → Type 0) (steps : S → Option A → S → Type 0)
     (whole : Bool) (u : U) (xs : List A) : Type 0 where
   pub it : S
@@ -33,8 +33,8 @@ SameLists {U} {V = V} {A = A} becomes steps makes becomes' steps' = (u : U) (who
     → (Reads becomes steps whole u xs → (v : V) × makes u v × Reads becomes' steps' whole v xs)
     × ((v : V) → makes u v → Reads becomes' steps' whole v xs → Reads becomes steps whole u xs)
 
--- The source u becomes an iterator that first gives x, and is then `rest`. `rest` may be called if
--- that iterator could be, and has fewer items left if that iterator ends.
+-- `rest` may be called if that iterator could be, and has fewer items left if that iterator ends.
+-- The source u becomes an iterator that first yields x, and is then `rest`.
 abbrev pub DrawsFirst : {U S A : Type 0} → (U → S → Type 0) → (S → Option A → S → Type 0)
     → (S → Type 0) → (S → Count) → U → A → S → Type 0
 DrawsFirst {S = S} becomes steps can left u x rest = (it : S) × becomes u it
@@ -59,8 +59,8 @@ abbrev pub BeginsRuns : {S A : Type 0} → (S → Option A → S → Type 0) →
 BeginsRuns steps x rest it = EachRunFrom steps rest (λ p.
     SomeRun steps it (λ q. (q.whole ≡ p.whole) × (q.len ≡ p.len + 1) × (q.items ≡ x ∷ p.items)))
 
--- The source u gives the list xs and no other: what it reads are the first items of xs, and what it
--- gives to the end is all of xs.
+-- What it has yielded so far is a prefix of xs, and at its end all of xs.
+-- The source u yields the list xs and no other.
 abbrev pub ReadsList : {U A : Type 0} → (Bool → U → List A → Type 0) → U → List A → Type 0
 ReadsList {A = A} reads u xs = (whole : Bool) (ys : List A) → reads whole u ys
     → IsPrefix whole xs ys

@@ -18,8 +18,8 @@ module _ {K V : Type 0} (eq : K → K → Bool) where
   Answers es Len r fs = (n : NonZeroUsize) × (r ≡ reply.Len n)
       × (non_zero_usize_get n ≡ length es) × (fs ≡ es)
 
-  -- The calls have these replies, one after the other, each on the map that the call before it
-  -- left. The map es has a key, and so has each map that a call leaves.
+  -- The map es has a key, and so has each map that a call leaves.
+  -- The calls have these replies, in order, each on the map that the call before it left.
   abbrev pub RunsTo : List (K × V) → List (MapCall K V) → List (MapReply V) → List (K × V) → Type 0
   RunsTo es [] rs fs = IsMap eq es × (rs ≡ []) × (fs ≡ es)
   RunsTo es (c ∷ cs) rs fs = IsMap eq es × ((r : MapReply V) × (rest : List (MapReply V))

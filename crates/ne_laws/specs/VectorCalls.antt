@@ -10,15 +10,15 @@ use Rattle.ne_laws.specs.declared.vector_calls.VecCall.TheVariants.{Insert, Trun
 use Rattle.ne_laws.specs.declared.vector_calls.VecReply.{VecReply}
 
 module _ {T : Type 0} where
-  -- An item is taken from v, `taken` holds for it, and w is left. If v has only one item, none is
-  -- taken and w is v.
+  -- If v has only one item, none is taken and w is v.
+  -- An item is taken from v, `taken` holds for it, and w is left.
   abbrev pub Takes : List T → VecReply T → List T → (T → Type 0) → Type 0
   Takes v r w taken = (length v ≡ 1 → (r ≡ reply.Taken None) × (w ≡ v))
       × (1 < length v → (x : T) × (r ≡ reply.Taken (Some x)) × taken x)
 
-  -- The item at index i is taken from v, `taken` holds for it, and w is left. If v has only one
-  -- item, none is taken and w is v. If v has more items but none at index i, the call is refused
-  -- and w is v.
+  -- If v has only one item, none is taken and w is v. If v has more items but none at index i, the
+  -- call is refused and w is v.
+  -- The item at index i is taken from v, `taken` holds for it, and w is left.
   abbrev pub TakesAt : List T → ℕ → VecReply T → List T → (T → Type 0) → Type 0
   TakesAt v i r w taken = (length v ≡ 1 → (r ≡ reply.Taken None) × (w ≡ v))
       × (1 < length v → i < length v
@@ -38,8 +38,8 @@ module _ {T : Type 0} where
   Answers v Len r w = (n : NonZeroUsize) × (r ≡ reply.Len n)
       × (non_zero_usize_get n ≡ length v) × (w ≡ v)
 
-  -- The calls have these replies, one after the other, each on the list that the call before it
-  -- left. The list v has an item, and so has each list that a call leaves.
+  -- The list v has an item, and so has each list that a call leaves.
+  -- The calls have these replies, in order, each on the list that the call before it left.
   abbrev pub RunsTo : List T → List (VecCall T) → List (VecReply T) → List T → Type 0
   RunsTo v [] rs w = (0 < length v) × (rs ≡ []) × (w ≡ v)
   RunsTo v (c ∷ cs) rs w = (0 < length v) × ((r : VecReply T) × (rest : List (VecReply T))

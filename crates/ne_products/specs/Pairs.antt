@@ -4,8 +4,8 @@ use Rattle.std.specs.Prelude.{Ok, Err}
 use Rattle.std.specs.List.{flat_map, list_all}
 use Rattle.std.proofs.Common.{◌⊎◌}
 
--- Each item of xs with each item of ys, one row for each item of xs. The pair of item i and item j
--- is at index i * length ys + j.
+-- The pair of item i and item j is at index i * length ys + j.
+-- Each item of xs with each item of ys, one row for each item of xs.
 abbrev pub cartesian_product : {A B : Type 0} → List A → List B → List (A × B)
 cartesian_product xs ys = flat_map (λ x. map (λ y. (x, y)) ys) xs
 
@@ -13,9 +13,9 @@ cartesian_product xs ys = flat_map (λ x. map (λ y. (x, y)) ys) xs
 abbrev pub CanRefuse : {U J : Type 0} → (U → J → Type 0) → (J → Type 0) → U → Type 0
 CanRefuse {J = J} becomes certain u = (j : J) × becomes u j × (certain j → ⊥)
 
--- The results zs are a prefix of the pairs ps, each in `Ok` and with a clone of its first part.
--- They may end with an `Err` in place of the next pair; then a clone of that pair's first part can
+-- zs may end with an `Err` in place of the next pair. Then a clone of that pair's first part can
 -- fail, or `refused` holds.
+-- The results zs are a prefix of the pairs ps, each in `Ok` and with a clone of its first part.
 abbrev pub ClonedPairs : {A B E : Type 0} → (A → A → Type 0) → (A → Type 0) → Type 0
     → List (A × B) → List (Result (A × B) E) → Type 0
 ClonedPairs clones infallible refused ps [] = ⊤
@@ -26,8 +26,8 @@ ClonedPairs clones infallible refused [] (Err e ∷ zs) = (zs ≡ []) × refused
 ClonedPairs clones infallible refused (p ∷ ps) (Err e ∷ zs) = (zs ≡ [])
     × ((infallible p.0 → ⊥) ⊎ refused)
 
--- The results zs are a prefix of the pairs of the source's items and the items ys. If zs came to
--- the end and no clone failed, they are all the pairs, and the source had ended too.
+-- If zs came to the end and no clone failed, they are all the pairs, and the source had ended too.
+-- The results zs are a prefix of the pairs of the source's items and the items ys.
 pub record IsProduct {U A B E : Type 0} (reads : Bool → U → List A → Type 0)
     (clones : A → A → Type 0) (infallible : A → Type 0) (refused : Type 0) (source : U)
     (ys : List B) (whole : Bool) (zs : List (Result (A × B) E)) : Type 0 where

@@ -15,20 +15,23 @@ product_first s = s.a
 abbrev pub product_second : {I J : Type 0} → Product I J → J
 product_second s = s.b
 
--- The parts of a `ProductIter`: its two iterators, the item of this row, the iterator that is
--- cloned for each row after the first, and whether nothing more comes.
+-- The iterator over the left side of a `ProductIter`.
 abbrev pub left_of : {I J X : Type 0} → ProductIter I J X → I
 left_of s = s.left
 
+-- The iterator over the right side of a `ProductIter`.
 abbrev pub right_of : {I J X : Type 0} → ProductIter I J X → J
 right_of s = s.right
 
+-- The item of this row.
 abbrev pub row_of : {I J X : Type 0} → ProductIter I J X → Option X
 row_of s = s.row
 
+-- The iterator that is cloned for each row after the first.
 abbrev pub restart_of : {I J X : Type 0} → ProductIter I J X → Option J
 restart_of s = s.restart
 
+-- Whether nothing more comes.
 abbrev pub is_over : {I J X : Type 0} → ProductIter I J X → Bool
 is_over s = s.is_over
 
@@ -37,8 +40,8 @@ abbrev pub Restarts : {J : Type 0} → (J → Type 0) → (J → Count) → (J �
 Restarts {J} can left clones c = IsFinite (left c)
     × ((d : J) → clones c d → can d × IsFinite (left d) × (size (left d) ≤ size (left c)))
 
--- A `ProductIter` can be called: both sides can be called, the right side ends, and so does each
--- clone of it.
+-- Unless it is over, both sides can be called, the right side ends, and so does each clone of it:
+-- a `ProductIter` can be called.
 abbrev pub CanPair : {I J X : Type 0} → (I → Type 0) → (J → Type 0) → (J → Count)
     → (J → J → Type 0) → ProductIter I J X → Type 0
 CanPair can_left can_right left clones s = is_over s ≡ false
@@ -50,15 +53,15 @@ abbrev pub row_size : {J : Type 0} → (J → Count) → Option J → ℕ
 row_size left None = 0
 row_size left (Some c) = size (left c)
 
--- What is left: the rest of this row, a whole row for each item that the left side has left, and an
--- `Err`.
+-- The rest of this row, a whole row for each item that the left side has left, and an `Err`:
+-- how many results a `ProductIter` has left, at most.
 abbrev pub pairs_left : {I J X : Type 0} → (I → Count) → (J → Count) → ProductIter I J X → Count
 pairs_left lefts rights s = count_unless (is_over s)
     (count_map (λ n. (n + option_len (row_of s)) * row_size rights (restart_of s)
     + size (rights (right_of s)) + 1) (lefts (left_of s)))
 
--- A `Product` becomes a `ProductIter` that is at the start of both sides. The clone of the right
--- side is there, or it failed.
+-- The clone of the right side is there, or it failed.
+-- A `Product` becomes a `ProductIter` that is at the start of both sides.
 abbrev pub MakesProduct : {U V I J X : Type 0} → (U → I → Type 0) → (V → J → Type 0)
     → (J → J → Type 0) → (J → Type 0) → Product U V → ProductIter I J X → Type 0
 MakesProduct lefts rights clones infallible s it = lefts (product_first s) (left_of it)
@@ -69,21 +72,21 @@ MakesProduct lefts rights clones infallible s it = lefts (product_first s) (left
 module _ {I J A B : Type 0} (lefts : I → Option A → I → Type 0)
     (rights : J → Option B → J → Type 0) (clones : A → A → Type 0) (infallible : A → Type 0)
     (copies : J → J → Type 0) (certain : J → Type 0) where
-  -- x is the item of this row, and l is the left side then. Either x was already held, or it is
-  -- drawn now.
+  -- Either x was already held, or it is drawn now.
+  -- x is the item of this row, and l is the left side then.
   abbrev pub RowItem : ProductIter I J A → A → I → Type 0
   RowItem s x l = ((row_of s ≡ Some x) × (l ≡ left_of s))
       ⊎ ((row_of s ≡ None) × lefts (left_of s) (Some x) l)
 
-  -- The right side has ended after the last pair of this row, and P holds for the right side as it
-  -- was at the start.
+  -- P holds for the right side as it was at the start.
+  -- The right side has ended after the last pair of this row.
   abbrev pub RowEnds : ProductIter I J A → I → (J → Type 0) → Type 0
   RowEnds s l P = (w : A) × (j : J) × (c : J) × RowItem s w l × rights (right_of s) None j
       × (restart_of s ≡ Some c) × P c
 
-  -- The next pair is that of x and y, and the two sides are then l and r. Either x is the item of
-  -- this row and y is the next item of the right side; or x is the next item of the left side and y
-  -- is the first item of a clone of the right side as it was at the start.
+  -- Either x is the item of this row and y is the next one of the right side, or x is the next item
+  -- of the left side and y is the first item of a clone of the right side as it was at the start.
+  -- The next pair is that of x and y, and the two sides are then l and r.
   abbrev pub IsNextPair : ProductIter I J A → A → B → I → J → Type 0
   IsNextPair s x y l r = (RowItem s x l × rights (right_of s) (Some y) r)
       ⊎ ((k : I) × (d : J) × RowEnds s k (λ c. copies c d) × lefts k (Some x) l
@@ -94,8 +97,8 @@ module _ {I J A B : Type 0} (lefts : I → Option A → I → Type 0)
   GivesPair s p t = (x : A) × (row_of t ≡ Some x) × clones x p.0 × (is_over t ≡ false)
       × (restart_of t ≡ restart_of s) × IsNextPair s x p.1 (left_of t) (right_of t)
 
-  -- The end: the left side has ended, before a row or after one; or the right side, which began
-  -- again, has no item.
+  -- The left side has ended, before a row or after one, or the right side began again with no item:
+  -- the product has ended.
   abbrev pub EndsPairs : ProductIter I J A → Type 0
   EndsPairs s = ((u : I) × (row_of s ≡ None) × lefts (left_of s) None u)
       ⊎ (((w : A) × (l : I) × (j : J) × (u : I) × RowItem s w l × rights (right_of s) None j
@@ -103,8 +106,9 @@ module _ {I J A B : Type 0} (lefts : I → Option A → I → Type 0)
       ⊎ ((l : I) × (d : J) × (x : A) × (u : I) × (k : J) × RowEnds s l (λ c. copies c d)
       × lefts l (Some x) u × rights d None k))
 
-  -- A clone failed: the clone of the right side that was made beforehand; or a clone of the first
-  -- part of the next pair; or a clone of the right side, as it was at the start, for a further row.
+  -- It is the clone of the right side that was made beforehand, or a clone of the first part of the
+  -- next pair, or a clone of the right side, as it was at the start, for a further row.
+  -- A clone that the next pair needs failed.
   abbrev pub RefusesClone : ProductIter I J A → Type 0
   RefusesClone s = (restart_of s ≡ None)
       ⊎ (((x : A) × (y : B) × (l : I) × (r : J) × IsNextPair s x y l r × (infallible x → ⊥))
@@ -117,16 +121,15 @@ module _ {I J A B : Type 0} (lefts : I → Option A → I → Type 0)
       (MatchOption r (EndsPairs s × (is_over t ≡ true)) (λ z. MatchResult z (λ p. GivesPair s p t)
       (λ _. RefusesClone s × (is_over t ≡ true))))
 
--- A clone of the item x of the row is paired with y, and x is kept for the pairs to come; or the
--- clone failed.
+-- x is kept for the pairs to come, unless the clone failed.
+-- A clone of the item x of the row is paired with y, or the clone failed.
 abbrev pub PairsItems : {I J A B E : Type 0} → (A → A → Type 0) → (A → Type 0) → ProductIter I J A
     → A → B → Result (A × B) E → ProductIter I J A → Type 0
 PairsItems clones infallible s x y r t = MatchResult r
     (λ p. clones x p.0 × (p.1 ≡ y) × (t ≡ record s { row = Some x; is_over = false }))
     (λ _. (infallible x → ⊥) × (t ≡ s))
 
--- What a further row begins with: a clone of the clone that was made beforehand. Or one of the two
--- clones failed.
+-- A further row begins with a clone of the clone made beforehand, or one of the two clones failed.
 abbrev pub TriesRestart : {J E : Type 0} → (J → J → Type 0) → (J → Type 0) → Option J → Result J E
     → Type 0
 TriesRestart {J} copies certain o r = MatchResult r (λ d. (c : J) × (o ≡ Some c) × copies c d)

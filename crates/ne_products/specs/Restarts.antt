@@ -7,8 +7,8 @@ use Rattle.ne_iter.specs.Collected.{values_or_first_err}
 use Rattle.ne_iter.specs.Sources.{ReadsList}
 use Rattle.ne_products.specs.Pairs.{cartesian_product, IsProduct}
 
--- A clone of an iterator that the source u becomes is also an iterator that u can become, and it
--- has no more items left. So a cloned iterator gives what its original gives.
+-- A clone of an iterator that u becomes is one that u can become too, and has no more items left.
+-- So a cloned iterator of the source u yields what its original yields.
 abbrev pub ClonesAgain : {U J : Type 0} → (U → J → Type 0) → (J → Count) → (J → J → Type 0) → U
     → Type 0
 ClonesAgain {J = J} becomes left copies u = (j c : J) → becomes u j → copies j c
@@ -23,8 +23,8 @@ abbrev pub HasExactClones : {A : Type 0} → (A → A → Type 0) → (A → Typ
 HasExactClones {A} clones infallible xs = (x : A) → Contains xs x
     → infallible x × ((y : A) → clones x y → y ≡ x)
 
--- What `cartesian_product` gives if the other side gives the list ys, and clones of its iterator
--- give it too.
+-- This holds if the other side yields the list ys, and clones of its iterator yield it too.
+-- `cartesian_product` yields the pairs of the source's items and the items ys.
 abbrev pub ProductGives : {U W V A B E : Type 0} → (Bool → U → List A → Type 0)
     → (Bool → W → List B → Type 0) → Type 0 → (A → A → Type 0) → (A → Type 0) → Type 0
     → (Bool → V → List (Result (A × B) E) → Type 0) → U → W → V → Type 0
@@ -34,7 +34,7 @@ ProductGives {A = A} {B = B} {E = E} reads others again clones infallible refuse
     → (whole : Bool) (zs : List (Result (A × B) E)) → paired whole result zs
     → IsProduct reads clones infallible refused source ys whole zs
 
--- The check's search knows the product v of xs and ys, if `exact` holds for xs.
+-- For the automatic proof: the list of the product v of xs and ys, if `exact` holds for xs.
 abbrev pub PairsListed : {V T A B : Type 0} → (V → T → Type 0)
     → (T → Option (Result (A × B) AllocError) → T → Type 0) → (List A → Type 0) → V → List A
     → List B → Type 0
@@ -43,8 +43,8 @@ PairsListed {A = A} {B = B} made next exact v xs ys = exact xs
     ≡ Ok (cartesian_product xs ys))
     × Listed made next (λ x. x) v (map Ok (cartesian_product xs ys))
 
--- The product of the lists that two sources give. The second source may be one that no call
--- mentions.
+-- The second source may be one that no call mentions.
+-- This is the product of the lists that two sources yield.
 abbrev pub PairsLists : {U W A B : Type 0} → (U → List A → Type 0) → (W → List B → Type 0)
     → (W → List B → Type 0) → (List A → List B → Type 0) → U → W → Type 0
 PairsLists {A = A} {B = B} lists others meets gives u w =

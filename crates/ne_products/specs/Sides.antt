@@ -6,8 +6,8 @@ use Rattle.either.specs.declared.Either.{Either}
 use Rattle.ne_products.specs.declared.sides.NEEither.{NEEither}
 use Rattle.ne_products.specs.declared.sides.NEEither.TheVariants.{Left, Right}
 
--- The result of f for a `Left`, and of g for a `Right`. For a source that is one of two vectors,
--- `by_side (λ v. v) (λ w. w)` is the list of the vector that is there.
+-- For a source that is one of two vectors, `by_side (λ v. v) (λ w. w)` is the list of that vector.
+-- The result of f for a `Left`, and of g for a `Right`.
 abbrev pub by_side : {U V X : Type 0} → (U → X) → (V → X) → NEEither U V → X
 by_side f g (Left u) = f u
 by_side f g (Right v) = g v

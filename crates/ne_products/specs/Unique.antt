@@ -4,8 +4,9 @@ use Rattle.std.specs.Bool.{MatchBool}
 use Rattle.std.specs.List.{IsDistinct}
 use Rattle.std.specs.Set.{is_member}
 
--- What `all_unique` returns. No two of the items xs are equal. If the result is `true`, the source
--- ends after them; if it is `false`, its next item equals one of them.
+-- No two of the items xs are equal. If the result is `true`, the source ends after them. If it is
+-- `false`, its next item equals one of them.
+-- `all_unique` returns whether no two items of the source are equal.
 abbrev pub ChecksUnique : {U A : Type 0} → (Bool → U → List A → Type 0) → (A → A → Bool) → U → Bool
     → Type 0
 ChecksUnique {A = A} reads eq source result = (xs : List A) × IsDistinct eq xs
@@ -17,7 +18,7 @@ abbrev pub are_unique : {A : Type 0} → (A → A → Bool) → List A → Bool
 are_unique eq [] = true
 are_unique eq (x ∷ xs) = not (is_member eq xs x) && are_unique eq xs
 
--- `unique` tells whether no two of the items xs are equal: in std's words, and in a form that
--- `grind` computes if the items are written out.
+-- It says so in std's words, and in a form that `grind` computes if the items are written out.
+-- `unique` tells whether no two of the items xs are equal.
 abbrev pub ChecksDistinct : {A : Type 0} → (A → A → Bool) → List A → Bool → Type 0
 ChecksDistinct eq xs unique = (IsTrue unique ↔ IsDistinct eq xs) × (unique ≡ are_unique eq xs)

@@ -73,8 +73,8 @@ AreRows Chain numbers rows = IsDivision (by_previous is_near) numbers rows
 abbrev pub row_text : List ℕ → List ℕ
 row_text row = join_with_byte 32 (map decimal row) ++ 10 ∷ []
 
--- The text is one line for each run of the numbers. `goes_on` says whether a number continues a
--- run.
+-- `goes_on` says whether a number continues a run.
+-- The text is one line for each run of the numbers.
 abbrev pub HasRowOfEachRun : (List ℕ → ℕ → Bool) → List ℕ → List ℕ → Type 0
 HasRowOfEachRun goes_on numbers text =
     (rows : List (List ℕ)) × IsDivision goes_on numbers rows × (text ≡ flat_map row_text rows)

@@ -24,9 +24,10 @@ pub record WritesBut (rest : List ℕ) (mode : Mode) (input : List ℕ)
   pub is_text : IsText mode (numbers_of input) text
   pub takes : TakesPart text rest taken taken'
 
--- How a run ends that has read this input. Either nothing is wrong with the input and the whole
--- text was written; or the fault is what is wrong with the input; or nothing is wrong with it, and
--- a write or the flush failed when some rest of the text, perhaps none, was left.
+-- Either nothing is wrong with the input and the whole text was written, or the fault is what is
+-- wrong with the input, or nothing is wrong with it, and a write or the flush failed when some rest
+-- of the text, perhaps none, was left.
+-- This is how a run ends that has read this input.
 abbrev pub EndsWith : Mode → List ℕ → Option (List ℕ) → Option (List ℕ) → Result (Unit {0}) Fault
     → Type 0
 EndsWith mode input taken taken' result =
@@ -36,8 +37,8 @@ EndsWith mode input taken taken' result =
     ⊎ ((fault_of input ≡ None) × (fault ≡ Write)
     × ((rest : List ℕ) × WritesBut rest mode input taken taken')))
 
--- A run in which no read and no allocation fails: it reads the whole input, or one byte more than
--- it accepts, and ends as that input requires.
+-- It reads the whole input, or one byte more than it accepts, and ends as that input requires.
+-- This is a run in which no read and no allocation fails.
 pub record Completes (mode : Mode) (left left' taken taken' : Option (List ℕ))
     (result : Result (Unit {0}) Fault) : Type 0 where
   pub input : List ℕ

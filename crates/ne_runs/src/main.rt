@@ -47,8 +47,8 @@ fn start(rt: &HostRuntime) -> Result<(), Fault> {
     )
 }
 
-// Returns the words after the program's name. The name is not looked at, because a path can be any
-// bytes. A word that is not UTF-8, or longer than the word of any mode, is `Usage`.
+// Returns the words after the program's name. The name is ignored, because a path can be any bytes.
+// A word that is not UTF-8, or longer than the word of any mode, is `Usage`.
 fn arguments(rt: &HostRuntime) -> Result<Vec<String>, Fault>
     ensures { IfErr result (λ fault. (fault ≡ Fault.Usage) ⊎ (fault ≡ Fault.Memory)) }
 {

@@ -3,6 +3,7 @@ pub mod Divisions
 pub mod Relations
 pub mod Halving
 pub mod Kept
+pub mod SortedKeys
 pub mod Chunked
 pub mod Compared
 pub mod MappedRuns

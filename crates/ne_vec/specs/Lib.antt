@@ -1,6 +1,7 @@
 pub mod Divisions
 pub mod SliceRuns
 pub mod Kept
+pub mod KeyOrder
 pub mod Taken
 pub mod Searches
 pub mod Chunks

@@ -7,8 +7,8 @@ use Rattle.std.specs.List.{fold}
 use Rattle.std.specs.Iterator.{DrainsIf}
 use Rattle.std.specs.Iterator.Runs.{EachRunFrom, FoldIsAtMost, Run, Trigger}
 
--- A view of the items of type A: what a contract says of an item is said of `of` of it, a value of
--- type Target. If `is_itself` is true, this is the item itself.
+-- What a contract says of an item x is said of `of x`. If `is_itself` is true, `of x` is x itself.
+-- A view turns each item x of type A into a value `of x` of type Target.
 pub record View (A : Type 0) : Type 1 where
   pub Target : Type 0
   pub of : A → Target
@@ -42,15 +42,15 @@ numbered v = in_pairs itself v
 abbrev pub IsPrefix : {A : Type 0} → Bool → List A → List A → Type 0
 IsPrefix {A} whole xs us = (more : List A) × (xs ≡ us ++ more) × (whole ≡ true → more ≡ [])
 
--- The trigger of a source and its list: `grind` finds what is said about both at this term. It does
--- not name the view, since `grind` does not match a function such as `λ p. (p.0, p.1.now)`.
+-- It does not name the view, since `grind` does not match a function such as `λ p. (p.0, p.1.now)`.
+-- The trigger of a source and its list: `grind` finds what is said about both at this term.
 unfoldable pub list_trigger : {U A : Type 0} → U → List A → ℕ
 list_trigger u xs = 0
 
 module _ {U S A : Type 0} (becomes : U → S → Type 0) (steps : S → Option A → S → Type 0) where
-  -- The items that the source u yields, through `view`, are the list xs: those that an iterator
-  -- that u becomes has yielded so far are a prefix of xs, and all of xs at its end. For the items
-  -- themselves, `view` is `λ x. x`. `grind` does not unfold it.
+  -- What an iterator that u becomes has yielded so far, through `view`, is a prefix of xs, and all
+  -- of xs at its end. For the items themselves, `view` is `λ x. x`. `grind` does not unfold it.
+  -- The items that the source u yields, through `view`, are the list xs.
   unfoldable pub Lists : {B : Type 0} → (A → B) → U → List B → Type 0
   Lists view u xs = (it : S) → becomes u it → (whole : Bool) (ys : List A)
       → DrainsIf steps (whole ≡ true) it ys → IsPrefix whole xs (map view ys)
@@ -60,9 +60,9 @@ module _ {U S A : Type 0} (becomes : U → S → Type 0) (steps : S → Option A
   Listed view u xs = (list_trigger u xs ≡ 0) × Lists view u xs
 
 module _ {S A : Type 0} (steps : S → Option A → S → Type 0) where
-  -- For the automatic proof, of a run of an iterator that yields xs: it has at most as many items,
-  -- and all of them if it is whole; a fold that never decreases is at most the fold over xs; and
-  -- which item is at each index.
+  -- It has at most as many items as xs, and all of them if it is whole. A fold that never decreases
+  -- is at most the fold over xs. The item at each index is that of xs.
+  -- For the automatic proof: what is known of a run of an iterator that yields xs.
   abbrev pub IsPrefixRun : List A → Run steps → Type 0
   IsPrefixRun xs p = (p.len ≤ length xs) × (p.whole ≡ true → p.items ≡ xs)
       × ((h : ℕ → A → ℕ) (n : ℕ) → ((a : ℕ) (x : A) → a ≤ h a x)
@@ -83,14 +83,14 @@ module _ {S A : Type 0} (steps : S → Option A → S → Type 0) where
   abbrev pub YieldsPrefixesThrough : {B : Type 0} → (A → B) → List B → S → Type 0
   YieldsPrefixesThrough view xs it = EachRunFrom steps it (λ p. IsPrefixRunThrough view xs p)
 
--- The source u becomes the iterator `it`. It serves the automatic proof alone: `grind` does not
--- unfold it, and so meets it as a premise at once.
+-- `grind` does not unfold it, and so meets it as a premise at once.
+-- For the automatic proof alone: the source u becomes the iterator `it`.
 unfoldable pub Became : {U S : Type 0} → (U → S → Type 0) → U → S → Type 0
 Became becomes u it = becomes u it
 
 module _ {U S A : Type 0} (becomes : U → S → Type 0) (steps : S → Option A → S → Type 0) where
-  -- P holds for each run of an iterator that the source becomes. The iterator is no variable of its
-  -- own, since `grind` finds only what a conclusion names.
+  -- The iterator is no variable of its own, since `grind` finds only what a conclusion names.
+  -- P holds for each run of an iterator that the source becomes.
   abbrev pub EachRunOf : U → (Run steps → Type 0) → Type 0
   EachRunOf u P = (p : Run steps) → Trigger p.len → Became becomes u p.from → P p
 
@@ -118,8 +118,8 @@ Naming x P = (x ≡ x) × P x
 abbrev pub EachList : {U A : Type 0} → (U → List A → Type 0) → U → (List A → Type 0) → Type 0
 EachList {A = A} lists u P = (xs : List A) → lists u xs → (list_trigger u xs ≡ 0) × P xs
 
--- P holds for each list of the source's items, and for each list of its items through `view`. For
--- the automatic proof, it says nothing twice.
+-- For the automatic proof, it says nothing twice.
+-- P holds for each list of the source's items, and for each list of its items through `view`.
 abbrev pub EachView : {U A : Type 0} (view : View A)
     → ((view : View A) → U → List view.Target → Type 0) → U
     → ((view : View A) → List view.Target → Type 0) → Type 0

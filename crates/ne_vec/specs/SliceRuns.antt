@@ -20,10 +20,10 @@ module _ {A F : Type 0} (calls : Shared F (Bor A × (Bor A × Unit {0})) Bool) w
   abbrev pub ActsAsAtPair : F → (A → A → Bool) → Type 0
   ActsAsAtPair f same = (x y : A) (r : Bool) → FnReturnsAtPair calls f x y r → r ≡ same x y
 
-  -- One call of `next` takes a run from the front of the items that are left, or returns `None` if
-  -- none is left. What it returns is not empty. If the closure acts as a test of two items, it is a
-  -- run, and the next item doesn't continue it. `place` is `by_first` or `by_previous`: it turns
-  -- the test of two items into whether an item continues a run.
+  -- `place` is `by_first` or `by_previous`: it turns the test of two items into whether an item
+  -- continues a run. What is taken is not empty. If the closure acts as a test of two items, it is
+  -- a run, and the next item doesn't continue it.
+  -- One call of `next` takes a run from the start of what is left, or returns `None` if nothing is.
   abbrev pub CutsRun : ((A → A → Bool) → List A → A → Bool)
       → Cutting A F → Option (List A) → Cutting A F → Type 0
   CutsRun place s r t = (t.closure ≡ s.closure) × MatchOption r

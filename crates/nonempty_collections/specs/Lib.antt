@@ -4,6 +4,7 @@ pub use Rattle.ne_vec.specs.Chunks
 pub use Rattle.ne_vec.specs.Divisions
 pub use Rattle.ne_vec.specs.Lists
 pub use Rattle.ne_vec.specs.Kept
+pub use Rattle.ne_vec.specs.KeyOrder
 pub use Rattle.ne_vec.specs.SliceRuns
 pub use Rattle.ne_vec.specs.Taken
 pub use Rattle.ne_iter.specs.Calls
@@ -21,13 +22,13 @@ pub use Rattle.ne_iter.specs.Grouping
 pub use Rattle.ne_iter.specs.GroupingRuns
 pub use Rattle.ne_iter.specs.Intersperse
 pub use Rattle.ne_iter.specs.KeyList
-pub use Rattle.ne_iter.specs.KeyOrder
 pub use Rattle.ne_iter.specs.Keys
 pub use Rattle.ne_iter.specs.Map
 pub use Rattle.ne_iter.specs.Peekable
 pub use Rattle.ne_iter.specs.SameMap
 pub use Rattle.ne_iter.specs.Scan
 pub use Rattle.ne_iter.specs.Skip
+pub use Rattle.ne_iter.specs.SortedByKey
 pub use Rattle.ne_iter.specs.Sources
 pub use Rattle.ne_iter.specs.Take
 pub use Rattle.ne_iter.specs.TakeWhile

@@ -16,7 +16,7 @@ use std::num::NonZeroUsize;
 /// Returns what the workload of this name makes of `n` items, or `None` if none has the name.
 ///
 /// A name is the kind of the collection and the step that is measured, as in `tree_insert`. With
-/// `_default` at the end, the twin uses its own default hasher; here it is the same workload.
+/// `_default` at the end, the program in Rust uses its own default hasher; here it is the same.
 pub fn checksum(alloc: Global, name: &str, n: NonZeroUsize) -> Result<Option<u64>, AllocError> {
     let name = name.strip_suffix("_default").unwrap_or(name);
     match name.split_once("_") {

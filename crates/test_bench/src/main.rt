@@ -1,6 +1,6 @@
 //! Runs a workload over the collections, and prints a checksum of the result.
 //!
-//! `bench WORKLOAD SIZE` is timed beside a twin in Rust that uses the Rust crate: see
+//! `bench WORKLOAD SIZE` is timed beside a program in Rust that uses the Rust crate: see
 //! `compare/bench`. With the checksum both can be compared, and nothing is optimized away as
 //! unused.
 #![tactic(auto)]

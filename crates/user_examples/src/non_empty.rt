@@ -8,7 +8,7 @@ ghost use Rattle.std.specs.Bool.{then_some};
 ghost use Rattle.std.specs.List.{scan, filter_map, flat_map, prefix_len, reduce, take_while, zip};
 ghost use Rattle.std.specs.Ordering.{nat_cmp};
 ghost use Rattle.ne_iter.specs.Intersperse.{interspersed};
-ghost use Rattle.ne_iter.specs.KeyOrder.{KeysAscend};
+ghost use Rattle.ne_vec.specs.KeyOrder.{KeysAscend};
 ghost use Rattle.ne_iter.specs.Keys.{IsDividedBy};
 
 use nonempty_collections::{IntoNonEmptyIterator, NEVec, NonEmptyIterator, nev};

@@ -8,9 +8,9 @@ use Rattle.ne_iter.specs.Flatten.{ReadsEach}
 
 module _ {F W B C : Type 0} (inner : Bool → W → List B → Type 0) (complete : C → Bool)
     (collected : List (ℕ × B) → C → Type 0) where
-  -- c is made of the items of the lists of the sources that f returns for the items xs, one list
-  -- after another, each item with its index. They are at most n. `whole` says whether they are
-  -- fewer and c is complete; if so, the lists have ended.
+  -- The items come one list after another, each with its index, and are at most n. `whole` says
+  -- whether they are fewer and c is complete. If so, the lists have ended.
+  -- c is made of the lists of the sources that f returns for the items xs.
   pub record JoinsAnswers {A : Type 0} (calls : Mut F (A × Unit {0}) W) (f : F) (n : ℕ)
       (xs : List A) (whole : Bool) (c : C) : Type 0 where
     pub sources : List W
@@ -22,8 +22,8 @@ module _ {F W B C : Type 0} (inner : Bool → W → List B → Type 0) (complete
     pub at_most : length (concat lists) ≤ n
     pub made : collected (enumerate_from 0 (concat lists)) c
 
--- c is made of the lists of the sources that f returns for the items that the source gives; if
--- `whole` is true, the source has ended.
+-- If `whole` is true, the source has ended.
+-- c is made of the lists of the sources that f returns for the items that the source yields.
 pub record IsSpread {S A F W B C : Type 0} (reads : Bool → S → List A → Type 0)
     (calls : Mut F (A × Unit {0}) W) (inner : Bool → W → List B → Type 0) (complete : C → Bool)
     (collected : List (ℕ × B) → C → Type 0) (source : S) (f : F) (n : ℕ) (c : C) : Type 0 where
@@ -32,8 +32,8 @@ pub record IsSpread {S A F W B C : Type 0} (reads : Bool → S → List A → Ty
   pub read : reads whole source items
   pub joins : JoinsAnswers inner complete collected calls f n items whole c
 
--- c is made of the lists of the sources that f returns for the pairs of items of two sources; if
--- `whole` is true, one of the two has ended.
+-- If `whole` is true, one of the two sources has ended.
+-- c is made of the lists of the sources that f returns for the pairs of items of two sources.
 pub record IsSpreadOfPairs {S O A D F W B C : Type 0} (reads : Bool → S → List A → Type 0)
     (others : Bool → O → List D → Type 0) (calls : Mut F ((A × D) × Unit {0}) W)
     (inner : Bool → W → List B → Type 0) (complete : C → Bool)

@@ -6,8 +6,8 @@ use Rattle.ne_vec.specs.Divisions.{concat}
 use Rattle.ne_iter.specs.Calls.{CallsWithState}
 use Rattle.ne_iter.specs.Flatten.{ReadsEach}
 
--- c is made of what f returns for the items of the lists of the source's items, one list after
--- another, with the state init at first. If c is complete, the source and these lists have ended.
+-- The state is init at first. If c is complete, the source and the lists of its items have ended.
+-- c is made of what f returns for the items of the lists of the source's items, one after another.
 pub record IsScanOfAll {S U A D T F C : Type 0}
     (reads : Bool → S → List U → Type 0) (inner : Bool → U → List A → Type 0)
     (calls : Mut F (MutBor T × (A × Unit {0})) (D × (MutBor T × Unit {0})))

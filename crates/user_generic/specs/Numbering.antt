@@ -4,9 +4,9 @@ use Rattle.std.specs.Fn.{Mut}
 use Rattle.std.specs.List.{enumerate_from}
 use Rattle.ne_iter.specs.Calls.{Calls}
 
--- c is made of what f returns for the source's items, followed by the items of the other source,
--- each with its index. They are at most n; if they are fewer and c is complete, both sources have
--- ended.
+-- The items are at most n, each with its index. If they are fewer and c is complete, both sources
+-- have ended.
+-- c is made of what f returns for the source's items, followed by the items of the other source.
 pub record IsNumbered {S A B F O C : Type 0} (reads : Bool → S → List A → Type 0)
     (calls : Mut F (A × Unit {0}) B) (others : Bool → O → List B → Type 0) (complete : C → Bool)
     (collected : List (ℕ × B) → C → Type 0) (source : S) (f : F) (other : O) (n : ℕ) (c : C)

@@ -1,14 +1,14 @@
 //! Consumers, and a search in a sorted vector.
-ghost use Rattle.std.specs.Prelude.{◌≡◌, ◌/◌, ◌%◌, ◌+◌, ◌++◌, ◌<◌, ◌≤◌, ◌^◌, map, sum, length};
+ghost use Rattle.std.specs.Prelude.{◌≡◌, ◌/◌, ◌%◌, ◌+◌, ◌++◌, ◌<◌, ◌≤◌, ◌^◌, map, sum, length, ℕ};
 ghost use Rattle.std.specs.Prelude.{Ok, Err, IfOk, IfSome, IsPermutation, IsSorted, IsTrue, Some};
-ghost use Rattle.std.specs.Prelude.{from_bits, slice_get, MatchResult, nat_eq, ltb, cond};
+ghost use Rattle.std.specs.Prelude.{from_bits, slice_get, take, MatchResult, nat_eq, ltb, cond};
 ghost use Rattle.std.specs.List.{All, Contains, fold, list_all};
 ghost use lib.Ieee as Ieee;
 ghost use lib.Ieee.{binary64};
 ghost use Rattle.std.specs.Int.NonZero.{non_zero_usize_get};
 ghost use Rattle.std.specs.Ordering.{nat_cmp};
 ghost use Rattle.ne_iter.specs.Collected.{IsSetOf, values_or_first_err};
-ghost use Rattle.ne_iter.specs.KeyOrder.{KeepsTies, KeysAscend};
+ghost use Rattle.ne_vec.specs.KeyOrder.{KeepsTies, KeysAscend};
 
 use nonempty_collections::{IntoNonEmptyIterator, NEVec, NonEmptyIterator};
 use std::alloc::{AllocError, Global};
@@ -29,6 +29,24 @@ pub fn greatest_half(items: &NEVec<u32>) -> u32
     ensures bound { All (λ x. x ≤ result) (map (λ x. x / 2) items.now) }
 {
     items.nonempty_iter().map(|x| *x / 2).max()
+}
+
+/// Returns the first of the greatest items: each item before it is less.
+pub fn greatest(items: NEVec<u32>) -> u32
+    ensures bound { All (λ x. x ≤ result) items }
+    ensures first { (place : ℕ) × (slice_get items place ≡ Some result)
+        × All (λ x. x < result) (take place items) }
+{
+    items.into_nonempty_iter().max()
+}
+
+/// Returns the first of the least items, from references.
+pub fn least(items: &NEVec<u32>) -> u32
+    ensures bound { All (λ x. result ≤ x) items.now }
+    ensures first { (place : ℕ) × (slice_get items.now place ≡ Some result)
+        × All (λ x. result < x) (take place items.now) }
+{
+    items.nonempty_iter().copied().min()
 }
 
 /// Returns whether all items are below 10.
@@ -96,6 +114,20 @@ pub fn by_digit(alloc: Global, items: NEVec<u32>) -> Result<NEVec<u32>, AllocErr
 {
     items
         .into_nonempty_iter()
+        .sorted_by_key(alloc, |x| *x % 10)?
+        .collect(alloc)
+}
+
+/// Returns the halves in the order of their last digits, with `map` and `sorted_by_key`.
+pub fn halves_by_digit(alloc: Global, items: NEVec<u32>) -> Result<NEVec<u32>, AllocError>
+    ensures permutation { IfOk result (λ v. IsPermutation (map (λ x. x / 2) items) v) }
+    ensures ascend { IfOk result (λ v. KeysAscend (λ x. x % 10) nat_cmp v) }
+    ensures ties { IfOk result (λ v.
+        KeepsTies (λ x. x % 10) nat_eq (map (λ x. x / 2) items) v) }
+{
+    items
+        .into_nonempty_iter()
+        .map(|x| x / 2)
         .sorted_by_key(alloc, |x| *x % 10)?
         .collect(alloc)
 }

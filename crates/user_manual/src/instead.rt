@@ -1,16 +1,15 @@
 //! What is proved in place of chains that are not proved automatically.
-ghost use Rattle.std.specs.Prelude.{◌≡◌, ◌/◌, ◌%◌, ◌∷◌, ◌≤◌, [], cond, filter, ltb, map, nat_eq};
-ghost use Rattle.std.specs.Prelude.{IfOk, IsPermutation, MatchOption, None, Some};
+ghost use Rattle.std.specs.Prelude.{◌≡◌, ◌/◌, ◌%◌, ◌∷◌, ◌≤◌, [], cond, filter, ltb, map, IfOk};
+ghost use Rattle.std.specs.Prelude.{MatchOption, None, Some};
 ghost use Rattle.std.specs.List.{All, Contains, enumerate_from, filter_map, flat_map, zip};
-ghost use Rattle.std.specs.Ordering.{nat_cmp};
-ghost use Rattle.nonempty_collections.specs.Consumers.{IsFirstGreatest, IsFirstLeast};
-ghost use Rattle.nonempty_collections.specs.KeyOrder.{KeepsTies, KeysAscend};
+ghost use Rattle.nonempty_collections.specs.Consumers.{IsFirstGreatest};
 
 use crate::references::Sale;
 use nonempty_collections::{IntoNonEmptyIterator, NEVec, NonEmptyIterator, iter};
 use std::alloc::{AllocError, Global};
 
-/// Returns the first of the greatest items, with its index: `max_by` for `max_by_key`.
+/// Returns the first of the greatest items, with its index: `max_by` for `max_by_key` above an
+/// adapter.
 pub fn first_greatest(items: NEVec<u32>) -> (usize, u32)
     ensures { IsFirstGreatest (λ p q. ltb p.1 q.1) (enumerate_from 0 items) result }
 {
@@ -18,28 +17,6 @@ pub fn first_greatest(items: NEVec<u32>) -> (usize, u32)
         .into_nonempty_iter()
         .enumerate()
         .max_by(|p, q| p.1.cmp(&q.1))
-}
-
-/// Returns the first of the pairs with the least second part: `copied` and `min_by` for
-/// `min_by_key` over references.
-pub fn first_least(pairs: &NEVec<(u32, u32)>) -> (u32, u32)
-    ensures { IsFirstLeast (λ p q. ltb p.1 q.1) pairs.now result }
-{
-    pairs.nonempty_iter().copied().min_by(|p, q| p.1.cmp(&q.1))
-}
-
-/// Returns the halves in the order of their last digits: collected before they are sorted.
-pub fn halves_by_digit(alloc: Global, items: NEVec<u32>) -> Result<NEVec<u32>, AllocError>
-    ensures permutation { IfOk result (λ v. IsPermutation (map (λ x. x / 2) items) v) }
-    ensures ascend { IfOk result (λ v. KeysAscend (λ x. x % 10) nat_cmp v) }
-    ensures ties { IfOk result (λ v.
-        KeepsTies (λ x. x % 10) nat_eq (map (λ x. x / 2) items) v) }
-{
-    let halves: NEVec<u32> = items.into_nonempty_iter().map(|x| x / 2).collect(alloc)?;
-    halves
-        .into_nonempty_iter()
-        .sorted_by_key(alloc, |x| *x % 10)?
-        .collect(alloc)
 }
 
 /// Returns half of `x` and of each item: `into_nonempty_iter` of what a `once` is chained with.

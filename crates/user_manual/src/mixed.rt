@@ -1,5 +1,6 @@
 //! Chains of adapters over slices, arrays, references, texts and structs.
-ghost use Rattle.std.specs.Prelude.{◌≡◌, ◌/◌, ◌+◌, ◌++◌, map, take, drop, length, nat_eq, IfOk};
+ghost use Rattle.std.specs.Prelude.{◌≡◌, ◌/◌, ◌+◌, ◌++◌, ◌∷◌, map, take, drop, length, nat_eq};
+ghost use Rattle.std.specs.Prelude.{IfOk, ltb};
 ghost use Rattle.std.specs.List.{enumerate_from, flat_map, zip};
 ghost use Rattle.std.specs.Int.NonZero.{non_zero_usize_get};
 ghost use Rattle.ne_iter.specs.Collected.{IsMapOf};
@@ -91,6 +92,29 @@ pub fn later_halves(alloc: Global, items: NEVec<u32>) -> Result<Vec<u32>, AllocE
         .map(|x| x / 2)
         .skip(2)
         .collect(alloc)
+}
+
+/// Returns the first item, and which items are greater, with `peekable` and `map`.
+pub fn greater_than_first(
+    alloc: Global,
+    items: NEVec<u32>,
+) -> Result<(u32, NEVec<bool>), AllocError>
+    ensures { IfOk result (λ r. (items ≡ r.0 ∷ drop 1 items)
+        × (r.1 ≡ map (λ x. ltb r.0 x) items)) }
+{
+    let source = items.into_nonempty_iter().peekable();
+    let first = *source.peek();
+    let greater = source.map(|x| first < x).collect(alloc)?;
+    Ok((first, greater))
+}
+
+/// Returns the items, with `x` in place of the first one, with `peek_mut`.
+pub fn with_first(alloc: Global, items: NEVec<u32>, x: u32) -> Result<NEVec<u32>, AllocError>
+    ensures { IfOk result (λ v. v ≡ x ∷ drop 1 items) }
+{
+    let mut source = items.into_nonempty_iter().peekable();
+    *source.peek_mut() = x;
+    source.collect(alloc)
 }
 
 /// Returns the first `n` halves of the vectors in a vector, with `flatten`, `map` and `take`.

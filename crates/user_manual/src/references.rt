@@ -1,10 +1,14 @@
 //! Chains over references, which read structs and numbers where they are, without a copy.
 ghost use Rattle.std.specs.Prelude.{◌≡◌, ◌/◌, ◌++◌, ◌∷◌, ◌<◌, ◌≤◌, ◌^◌, [], map, sum, take, drop};
-ghost use Rattle.std.specs.Prelude.{length, slice_get, Some, None, IfOk, ltb, cond};
+ghost use Rattle.std.specs.Prelude.{length, slice_get, Some, None, IfOk, OnOk, IsPermutation, ltb};
+ghost use Rattle.std.specs.Prelude.{cond, nat_eq, ℕ};
 ghost use Rattle.std.specs.List.{All, Contains, enumerate_from, filter, filter_map, find, flat_map};
 ghost use Rattle.std.specs.List.{fold, list_all, list_any, prefix_len, scan, take_while, zip};
 ghost use Rattle.std.specs.Option.{option_map};
 ghost use Rattle.std.specs.Int.NonZero.{non_zero_usize_get};
+ghost use Rattle.std.specs.Ordering.{nat_cmp};
+ghost use Rattle.nonempty_collections.specs.Consumers.{IsFirstLeast};
+ghost use Rattle.nonempty_collections.specs.KeyOrder.{KeepsTies, KeysAscend};
 
 use nonempty_collections::{IntoNonEmptyIterator, NEBTreeMap, NEVec, NonEmptyIterator, iter};
 use std::alloc::{AllocError, Global};
@@ -49,12 +53,56 @@ pub fn place_of_cheap(sales: &NEVec<Sale>) -> Option<usize>
         .map(|p| p.0)
 }
 
-/// Returns a sale with the greatest price.
+/// Returns the first of the sales with the greatest price.
 pub fn dearest<'a>(sales: &'a NEVec<Sale>) -> &'a Sale
-    ensures among { Contains sales.now result.now }
     ensures bound { All (λ s. s.price ≤ result.now.price) sales.now }
+    ensures first { (place : ℕ) × (slice_get sales.now place ≡ Some result.now)
+        × All (λ price. price < result.now.price) (map (λ s. s.price) (take place sales.now)) }
 {
     sales.nonempty_iter().max_by_key(|s| s.price)
+}
+
+/// Returns the first of the sales with the least price, of the first `n`.
+pub fn cheapest<'a>(sales: &'a NEVec<Sale>, n: NonZeroUsize) -> &'a Sale
+    ensures { IsFirstLeast (λ s t. ltb s.price t.price)
+        (take (non_zero_usize_get n) sales.now) result.now }
+{
+    sales
+        .nonempty_iter()
+        .take(n)
+        .min_by(|s, t| s.price.cmp(&t.price))
+}
+
+/// Returns the sale with the least price, and its index.
+pub fn cheapest_with_index<'a>(sales: &'a NEVec<Sale>) -> (usize, &'a Sale)
+    ensures among { Contains (enumerate_from 0 sales.now) (result.0, result.1.now) }
+    ensures bound { All (λ price. result.1.now.price ≤ price)
+        (map (λ p. p.1.price) (enumerate_from 0 sales.now)) }
+{
+    sales.nonempty_iter().enumerate().min_by_key(|p| p.1.price)
+}
+
+/// Returns the sales in the order of their prices.
+pub fn by_price<'a>(alloc: Global, sales: &'a NEVec<Sale>) -> Result<NEVec<&'a Sale>, AllocError>
+    ensures permutation { IfOk result (λ v. IsPermutation sales.now (map (λ s. s.now) v)) }
+    ensures ascend { IfOk result (λ v.
+        KeysAscend (λ s. s.price) nat_cmp (map (λ s. s.now) v)) }
+    ensures ties { IfOk result (λ v.
+        KeepsTies (λ s. s.price) nat_eq sales.now (map (λ s. s.now) v)) }
+{
+    sales
+        .nonempty_iter()
+        .sorted_by_key(alloc, |s| s.price)?
+        .collect(alloc)
+}
+
+/// Sorts the sales by their prices.
+pub fn sort_by_price(sales: &mut NEVec<Sale>) -> Result<(), AllocError>
+    ensures permutation { IsPermutation sales.old sales.new }
+    ensures ascend { OnOk result (KeysAscend (λ s. s.price) nat_cmp sales.new) }
+    ensures ties { KeepsTies (λ s. s.price) nat_eq sales.old sales.new }
+{
+    sales.sort_by_key(|s| s.price)
 }
 
 /// Returns the price of the last sale, by a fold.

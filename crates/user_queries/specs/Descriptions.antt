@@ -38,8 +38,8 @@ BeginsWithTable lines name = slice_get lines 0 ≡ Some (Table name)
 abbrev pub GoesOnWithColumn : List Line → String Global → Type 0
 GoesOnWithColumn lines name = slice_get lines 1 ≡ Some (Column name)
 
--- The lines describe the query: its table is named by the first line and by no other, and it has
--- the columns and the conditions of all lines, in order.
+-- Only the first line names its table. It has the columns and conditions of all lines, in order.
+-- The lines describe the query.
 pub record IsDescribedBy (lines : List Line) (q : Query) : Type 0 where
   pub begins : BeginsWithTable lines q.table
   pub tables : filter_map table_of lines ≡ q.table ∷ []

@@ -21,11 +21,11 @@ abbrev pub plus : Option ℕ → ℕ → Option ℕ
 plus None n = None
 plus (Some total) n = if ltb (total + n) (2 ^ 64) then Some (total + n) else None
 
--- n is one of the numbers, and at most each of them (the least) or at least each of them (the
--- greatest).
+-- n is one of the numbers, and at most each of them.
 abbrev pub IsLeast : List ℕ → ℕ → Type 0
 IsLeast ns n = Contains ns n × All (λ m. n ≤ m) ns
 
+-- n is one of the numbers, and at least each of them.
 abbrev pub IsGreatest : List ℕ → ℕ → Type 0
 IsGreatest ns n = Contains ns n × All (λ m. m ≤ n) ns
 
@@ -43,8 +43,8 @@ pub record AreSummaries (groups : List (List Row)) (lines : List Summary) : Type
   pub each : (k : ℕ) (group : List Row) (line : Summary)
       → slice_get groups k ≡ Some group → slice_get lines k ≡ Some line → IsSummary group line
 
--- There is one line for each key of the rows, in ascending order of the keys. It is the summary of
--- the rows with that key.
+-- Each line is the summary of the rows with its key.
+-- There is one line for each key of the rows, in ascending order of the keys.
 pub record IsReport (rows : List Row) (lines : List Summary) : Type 0 where
   pub rising : IsStrictlyIncreasing (map (λ s. s.key) lines)
   pub all_keys : All (λ r. Contains (map (λ s. s.key) lines) r.key) rows

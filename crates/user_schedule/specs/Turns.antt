@@ -5,8 +5,8 @@ use Rattle.std.specs.Map.{set_value}
 use Rattle.nonempty_collections.specs.Consumers.{IsFirstLeast}
 use Rattle.user_schedule.specs.declared.schedule.Job.{Job}
 
--- This job, with its name, comes next: no job is due earlier, and each job before it in the list is
--- due later.
+-- No job is due earlier, and each job before it in the list is due later:
+-- this job, with its name, comes next.
 abbrev pub ComesNext : List (ℕ × Job) → ℕ × Job → Type 0
 ComesNext jobs next = IsFirstLeast (λ p q. ltb p.1.due q.1.due) jobs next
 
@@ -18,8 +18,8 @@ earlier p q = if ltb q.1.due p.1.due then q else p
 abbrev pub due_again : Job → ℕ
 due_again job = job.due + job.period
 
--- The jobs after a turn of the one of this name: it is due a period later. All others, the names
--- and the order are as before.
+-- That job is due a period later. All others, the names and the order are as before.
+-- These are the jobs after a turn of the one of this name.
 abbrev pub after_turn : List (ℕ × Job) → ℕ × Job → List (ℕ × Job)
 after_turn jobs next = set_value (nat_eq next.0) jobs
     (record { period = next.1.period; due = due_again next.1 })

@@ -67,7 +67,7 @@ impl Schedule {
         self.earliest()
     }
 
-    // Returns what is left if, of two jobs in turn, the later one is let go.
+    // Returns what is left if, of two jobs in turn, the later one is discarded.
     fn earliest(&self) -> (u32, Job)
         ensures { Some result ≡ reduce (λ p q. earlier p q) self.now }
     {

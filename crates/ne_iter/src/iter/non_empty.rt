@@ -6,7 +6,8 @@ ghost use Rattle.std.specs.Iterator.Runs.{EachRunFrom, SomeRun, IsFilterRun, IsS
 ghost use Rattle.std.specs.Iterator.Runs.{IndexesMappedItems, AnyItem, CountFits, WholeRun};
 ghost use Rattle.std.specs.Iterator.Runs.{IsReduceRun, AllItemsGive, AnyItemGives, NoItemPasses};
 ghost use Rattle.std.specs.Iterator.Runs.{EndsAtFirstPassing, IsFilterMapRun};
-ghost use Rattle.std.specs.List.{All, Contains, prefix_len, list_all, list_any};
+ghost use Rattle.std.specs.Bool.{OnFalse};
+ghost use Rattle.std.specs.List.{prefix_len, list_all, list_any};
 ghost use Rattle.std.specs.List.{filter as list_filter, filter_map as list_filter_map};
 ghost use Rattle.std.specs.List.{find as list_find, fold as list_fold, reduce as list_reduce};
 ghost use Rattle.std.specs.List.{scan as list_scan, take_while as list_take_while};
@@ -32,7 +33,7 @@ ghost use Rattle.ne_vec.specs.Lists.{referenced};
 ghost use Rattle.ne_vec.specs.Iterators.{ListsItemsByValue};
 ghost use Rattle.ne_iter.specs.Consumers.{NoKeyBeats, IsFirstGreatest, IsFirstLeast, PicksGreatest};
 ghost use Rattle.ne_iter.specs.Consumers.{PicksLeast, CallableOnTwo, less_by, PicksGreatestKey};
-ghost use Rattle.ne_iter.specs.Consumers.{PicksLeastKey, HasGreatestKey, HasLeastKey, IsBestOfRun};
+ghost use Rattle.ne_iter.specs.Consumers.{PicksLeastKey, HasBestKey, IsBestOfList, IsBestOfRun};
 ghost use Rattle.ne_iter.specs.Sources.{Becomes, IsNonEmpty, DrawsFirst, EachReading, RunsSome};
 ghost use Rattle.ne_iter.specs.Sources.{RunsWhole, BeginsRuns};
 ghost use Rattle.ne_iter.specs.SourceLists.{BecomesList, BeginsList, EachKept, MeetsList};
@@ -49,7 +50,7 @@ ghost use Rattle.ne_iter.specs.Intersperse.{intersperse_separator, IsIntersperse
 ghost use Rattle.ne_iter.specs.Calls.{ActsAsWithState};
 ghost use Rattle.ne_iter.specs.Cloned.{TriesClone, cloned_source, IsCloned};
 ghost use Rattle.ne_iter.specs.Collected.{PrefixMakes, values_or_first_err};
-ghost use Rattle.ne_iter.specs.KeyOrder.{SortsByKey};
+ghost use Rattle.ne_iter.specs.SortedByKey.{AscendsByKey, PermutesByKey};
 ghost use Rattle.ne_iter.specs.Map.{map_source, map_callee, IsMapped};
 ghost use Rattle.ne_iter.specs.Take.{take_source, take_count, IsTaken};
 ghost use Rattle.ne_iter.specs.Copied.{copied_source, IsCopied};
@@ -58,7 +59,7 @@ ghost use Rattle.ne_iter.specs.GroupBy.{group_by_source, group_by_callee, GroupB
 ghost use Rattle.ne_iter.specs.Filter.{IsFiltered, IsFilterMapped};
 ghost use Rattle.ne_iter.specs.Skip.{IsSkipped, IsSkippedWhile};
 ghost use Rattle.ne_iter.specs.TakeWhile.{IsTakenWhile};
-ghost use Rattle.ne_iter.specs.Peekable.{peekable_first, peekable_rest, PeekableGives};
+ghost use Rattle.ne_iter.specs.Peekable.{peekable_first, peekable_rest, PeekableGives, YieldsRest};
 
 use super::best::{best, best_by_key};
 use super::collected::FromNonEmptyIterator;
@@ -137,7 +138,8 @@ pub trait NonEmptyIterator: IntoIterator {
         ensures gives { PeekableGives (⟦<Self as Source>⟧.reads)
             (⟦<Peekable<Self::IntoIter> as Source>⟧.reads) self result }
         ensures lists { EachList (⟦<Self as Source>⟧.lists itself) self (λ xs.
-            ⟦<Peekable<Self::IntoIter> as Source>⟧.yields_items result xs) }
+            ⟦<Peekable<Self::IntoIter> as Source>⟧.yields_items result xs
+            × YieldsRest Self.IntoIter.next_gives (peekable_rest result) xs) }
     {
         let (first, rest) = self.next();
         Peekable { first, rest }
@@ -418,7 +420,8 @@ pub trait NonEmptyIterator: IntoIterator {
     /// Each of these has at least one item.
     ///
     /// In the Rust crate a [`FlatMap`] holds the iterator. Here it holds the source, and becomes
-    /// std's iterator.
+    /// std's iterator. For a contract that says the list of arrays, `f` has an `ensures` that says
+    /// what it returns.
     ///
     /// ```
     /// let items = nev![alloc; 3, 1, 4, 1, 5, 9, 2, 6]?.into_nonempty_iter();
@@ -611,9 +614,8 @@ pub trait NonEmptyIterator: IntoIterator {
         requires { ⟦<Self as Source>⟧.ends self }
         ensures gives { (xs : List Self.Item) × ⟦<Self as Source>⟧.reads true self xs
             × IsFirstGreatest (less_by Self.Item.cmp) xs result }
-        ensures lists { EachList (⟦<Self as Source>⟧.lists itself) self
-            (λ xs. Contains xs result
-            × All (λ x. less_by Self.Item.cmp result x ≡ false) xs) }
+        ensures lists { EachList (⟦<Self as Source>⟧.lists itself) self (λ xs.
+            IsBestOfList (λ x m. less_by Self.Item.cmp m x) xs result) }
         ensures runs { RunsWhole Self.into_iter_gives Self.IntoIter.next_gives self (λ p.
             IsBestOfRun p (λ x m. less_by Self.Item.cmp m x) result) }
     {
@@ -639,9 +641,9 @@ pub trait NonEmptyIterator: IntoIterator {
         requires callable { (it : Self.IntoIter) → Self.into_iter_gives self it
             → CallableOnTwo Self.IntoIter.next_gives F.Fn it compare }
         ensures gives { (xs : List Self.Item) × ⟦<Self as Source>⟧.reads true self xs
-            × PicksGreatest F.Fn compare xs result }
-        ensures lists { EachList (⟦<Self as Source>⟧.lists itself) self (λ xs.
-            PicksGreatest F.Fn compare xs result) }
+            × PicksGreatest F.Fn compare itself xs result }
+        ensures lists { EachView item_view (⟦<Self as Source>⟧.lists) self (λ view xs.
+            PicksGreatest F.Fn compare view xs result) }
     {
         best(
             self,
@@ -667,8 +669,8 @@ pub trait NonEmptyIterator: IntoIterator {
             → CallableOnAllAt Self.IntoIter.next_gives F.FnMut it key }
         ensures gives { PicksGreatestKey (⟦<Self as Source>⟧.reads) F.FnMut B.cmp
             self key result }
-        ensures lists { EachList (⟦<Self as Source>⟧.lists itself) self (λ xs.
-            HasGreatestKey F.FnMut B.cmp key xs result) }
+        ensures lists { EachView item_view (⟦<Self as Source>⟧.lists) self (λ view xs.
+            HasBestKey F.FnMut key view result (λ j k. less_by B.cmp k j) xs) }
         ensures runs { RunsWhole Self.into_iter_gives Self.IntoIter.next_gives self (λ p.
             AnyItem p (λ x. x ≡ result)
             × NoKeyBeats p F.FnMut key (λ j k. less_by B.cmp k j) result) }
@@ -688,11 +690,10 @@ pub trait NonEmptyIterator: IntoIterator {
         requires { ⟦<Self as Source>⟧.ends self }
         ensures gives { (xs : List Self.Item) × ⟦<Self as Source>⟧.reads true self xs
             × IsFirstLeast (less_by Self.Item.cmp) xs result }
-        ensures lists { EachList (⟦<Self as Source>⟧.lists itself) self
-            (λ xs. Contains xs result
-            × All (λ x. less_by Self.Item.cmp x result ≡ false) xs) }
+        ensures lists { EachList (⟦<Self as Source>⟧.lists itself) self (λ xs.
+            IsBestOfList (less_by Self.Item.cmp) xs result) }
         ensures runs { RunsWhole Self.into_iter_gives Self.IntoIter.next_gives self (λ p.
-            IsBestOfRun p (λ x m. less_by Self.Item.cmp x m) result) }
+            IsBestOfRun p (less_by Self.Item.cmp) result) }
     {
         best(self, |kept, next| next < kept)
     }
@@ -715,9 +716,9 @@ pub trait NonEmptyIterator: IntoIterator {
         requires callable { (it : Self.IntoIter) → Self.into_iter_gives self it
             → CallableOnTwo Self.IntoIter.next_gives F.Fn it compare }
         ensures gives { (xs : List Self.Item) × ⟦<Self as Source>⟧.reads true self xs
-            × PicksLeast F.Fn compare xs result }
-        ensures lists { EachList (⟦<Self as Source>⟧.lists itself) self (λ xs.
-            PicksLeast F.Fn compare xs result) }
+            × PicksLeast F.Fn compare itself xs result }
+        ensures lists { EachView item_view (⟦<Self as Source>⟧.lists) self (λ view xs.
+            PicksLeast F.Fn compare view xs result) }
     {
         best(
             self,
@@ -743,11 +744,11 @@ pub trait NonEmptyIterator: IntoIterator {
             → CallableOnAllAt Self.IntoIter.next_gives F.FnMut it key }
         ensures gives { PicksLeastKey (⟦<Self as Source>⟧.reads) F.FnMut B.cmp
             self key result }
-        ensures lists { EachList (⟦<Self as Source>⟧.lists itself) self (λ xs.
-            HasLeastKey F.FnMut B.cmp key xs result) }
+        ensures lists { EachView item_view (⟦<Self as Source>⟧.lists) self (λ view xs.
+            HasBestKey F.FnMut key view result (less_by B.cmp) xs) }
         ensures runs { RunsWhole Self.into_iter_gives Self.IntoIter.next_gives self (λ p.
             AnyItem p (λ x. x ≡ result)
-            × NoKeyBeats p F.FnMut key (λ j k. less_by B.cmp j k) result) }
+            × NoKeyBeats p F.FnMut key (less_by B.cmp) result) }
     {
         best_by_key(self, key, |kept, next| next < kept)
     }
@@ -778,8 +779,10 @@ pub trait NonEmptyIterator: IntoIterator {
             × IsSortedByKeyClosure F.FnMut K.cmp f ys
             × IsStableByKeyClosure F.FnMut K.cmp f xs ys) }
         ensures lists { IfOk result (λ ys. ListsItemsByValue Global ys ys
-            × EachList (⟦<Self as Source>⟧.lists itself) self (λ xs.
-            SortsByKey F.FnMut K.cmp K.eq f xs ys)) }
+            × AscendsByKey F.FnMut f K.cmp itself ys
+            × OnFalse item_view.is_itself (AscendsByKey F.FnMut f K.cmp item_view ys)
+            × EachView item_view (⟦<Self as Source>⟧.lists) self (λ view xs.
+            PermutesByKey F.FnMut f K.eq view xs ys)) }
     {
         let mut items: NEVec<Self::Item> = self.collect(alloc)?;
         items.sort_by_key(f)?;

@@ -57,20 +57,14 @@ impl<I: Iterator> IntoIterator for Peekable<I>
 where
     I::Item: Drop,
 {
-    ghost use Rattle.std.specs.Prelude.{◌≡◌, Some, false};
-    ghost use Rattle.std.specs.Iterator.Adapters.{once_item, chain_first, chain_second};
-    ghost use Rattle.std.specs.Iterator.Adapters.{chain_first_done, chain_second_done, once_steps};
-    ghost use Rattle.std.specs.Iterator.Adapters.{OnceYieldsItsItem, ChainsRuns};
-    ghost use Rattle.ne_iter.specs.Peekable.{peekable_first, peekable_rest};
+    ghost use Rattle.ne_iter.specs.Peekable.{peekable_first, peekable_rest, PutsFirst};
 
     type Item = I::Item;
 
     type IntoIter = iter::Chain<iter::Once<I::Item>, I>;
 
-    ghost into_iter_gives = { λ s it. (once_item (chain_first it) ≡ Some (peekable_first s))
-        × (chain_second it ≡ peekable_rest s) × (chain_first_done it ≡ false)
-        × (chain_second_done it ≡ false) × OnceYieldsItsItem I.Item
-        × ChainsRuns once_steps I.next_gives (chain_first it) (peekable_rest s) it };
+    ghost into_iter_gives = { λ s it.
+        PutsFirst (peekable_first s) (peekable_rest s) it };
 
     fn into_iter(self) -> iter::Chain<iter::Once<I::Item>, I> {
         iter::once(self.first).chain(self.rest)

@@ -2,6 +2,8 @@
 ghost use Rattle.std.specs.Prelude.{◌≡◌, ◌≤◌, length, IsOk, OnOk, OnErr, IsPermutation, IsSorted};
 ghost use Rattle.std.specs.List.Sorted.{IsStable, IsSortedByClosure, IsStableByClosure};
 ghost use Rattle.std.specs.List.Sorted.{IsSortedByKeyClosure, IsStableByKeyClosure};
+ghost use Rattle.std.specs.Iterator.{ActsAsAt};
+ghost use Rattle.ne_vec.specs.KeyOrder.{KeepsTies, KeysAscend};
 
 use super::NEVec;
 use std::alloc::AllocError;
@@ -67,6 +69,8 @@ impl<T> NEVec<T> {
         ensures permutation { IsPermutation self.old self.new }
         ensures sorted { OnOk result (IsSortedByKeyClosure F.FnMut K.cmp f self.new) }
         ensures stable { IsStableByKeyClosure F.FnMut K.cmp f self.old self.new }
+        ensures keys { (h : T → K) → ActsAsAt F.FnMut f h
+            → OnOk result (KeysAscend h K.cmp self.new) × KeepsTies h K.eq self.old self.new }
         ensures unchanged { OnErr result (self.new ≡ self.old) }
         ensures small { length self.old ≤ 20 → IsOk result }
     {

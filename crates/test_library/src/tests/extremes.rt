@@ -15,7 +15,7 @@ struct Marked {
 }
 
 // Two numbers that are equal but for their marks.
-fn twins() -> [Marked; 2] {
+fn two_equal() -> [Marked; 2] {
     let (a, b) = ('a', 'b');
     [Marked { number: 5, mark: a }, Marked { number: 5, mark: b }]
 }
@@ -23,32 +23,12 @@ fn twins() -> [Marked; 2] {
 // Of two equal items, each method returns the first.
 #[test]
 fn max(_rt: HostRuntime) -> Result<(), Fail> {
-    is(twins().into_nonempty_iter().max().mark, 'a')
+    is(two_equal().into_nonempty_iter().max().mark, 'a')
 }
 
 #[test]
 fn min(_rt: HostRuntime) -> Result<(), Fail> {
-    is(twins().into_nonempty_iter().min().mark, 'a')
-}
-
-#[test]
-fn max_by(_rt: HostRuntime) -> Result<(), Fail> {
-    let greatest = twins().into_nonempty_iter().max_by(|x, y| x.cmp(y));
-    is(greatest.mark, 'a')
-}
-
-#[test]
-fn min_by(_rt: HostRuntime) -> Result<(), Fail> {
-    let least = twins().into_nonempty_iter().min_by(|x, y| x.cmp(y));
-    is(least.mark, 'a')
-}
-
-#[test]
-fn by_key(_rt: HostRuntime) -> Result<(), Fail> {
-    let words = ["hi", "hey", "rust", "yolo", "hy"];
-    let longest = words.into_nonempty_iter().max_by_key(|word| word.len());
-    let shortest = words.into_nonempty_iter().min_by_key(|word| word.len());
-    is((longest, shortest), ("rust", "hi"))
+    is(two_equal().into_nonempty_iter().min().mark, 'a')
 }
 
 // The comparison is called with the best item so far and the next one, in this order. `asked` holds

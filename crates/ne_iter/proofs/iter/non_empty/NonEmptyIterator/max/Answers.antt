@@ -1,12 +1,11 @@
 use Rattle.ne_iter.proofs.iter.non_empty.NonEmptyIterator.max.Goals as goal
 use Rattle.std.proofs.Common.{◌∷◌, rules}
 use Rattle.std.proofs.lemmas.List.MinMax.{ranks_by}
-use Rattle.std.specs.Prelude.{◌≡◌, false, All, Contains}
 use Rattle.ne_vec.specs.ListLaws.{triggered}
-use Rattle.ne_iter.specs.Consumers.{less_by}
+use Rattle.ne_iter.specs.Consumers.{less_by, IsBestOfList}
 use Rattle.ne_iter.proofs.Best.{IsFirstGreatest-kept, less_by-from_partial_lt}
 use Rattle.ne_iter.proofs.Traced.{best_run_of}
-use Rattle.ne_iter.proofs.Extremes.{best_is}
+use Rattle.ne_iter.proofs.Extremes.{best_of_list}
 use Rattle.ne_iter.proofs.SourceLists.{of_read}
 
 pub returns-clause-gives : goal.returns-clause-gives
@@ -28,11 +27,9 @@ returns-clause-runs g c =
 
 pub returns-clause-lists : goal.returns-clause-lists
 returns-clause-lists g c xs lists =
-    let r = returns-clause-gives g c in (
+    let r = returns-clause-gives g c in
+    let is = IsBestOfList (λ x m. less_by g.Self.Item.Ord.cmp m x) in (
       triggered _ xs,
-      of_read _ _ _ xs lists (λ l. Contains l c.best.result
-          × All (λ x. less_by g.Self.Item.Ord.cmp c.best.result x ≡ false) l) r.0 r.1
-          (best_is (λ x y. less_by g.Self.Item.Ord.cmp y x)
-          (λ x y. less_by g.Self.Item.Ord.cmp x y ≡ false)
-          (λ x y h. h) r.0 r.2.0 c.best.result r.2.1 r.2.2),
+      of_read _ _ _ xs lists (λ l. is l c.best.result) r.0 r.1
+          (best_of_list (λ x m. less_by g.Self.Item.Ord.cmp m x) r.0 c.best.result r.2),
     )

@@ -22,13 +22,11 @@ returns-clause-gives g c =
     }
 
 pub returns-clause-lists : goal.returns-clause-lists
-returns-clause-lists g c xs lists =
+returns-clause-lists g c =
     let r = returns-clause-gives g c in
     has_best_key g.F.FnMut c.args.key (less_by g.B.Ord.cmp) r.keyed c.best_by_key.result r.key
-    r.f_then
-    r.shown r.is_best
-    g.Self.IntoIterator.into_iter_gives g.Self.IntoIter.Iterator.next_gives c.args.self xs lists
-    r.read
+    r.f_then r.shown r.is_best g.Self.IntoIterator.into_iter_gives
+    g.Self.IntoIter.Iterator.next_gives c.args.self g.Self.NonEmptyIterator.item_view r.read
 
 pub returns-clause-runs : goal.returns-clause-runs
 returns-clause-runs g c =

@@ -1,6 +1,6 @@
 use Rattle.ne_iter.proofs.iter.non_empty.NonEmptyIterator.peekable.Goals as goal
 use Rattle.ne_vec.specs.ListLaws.{triggered}
-use Rattle.ne_iter.proofs.Peekable.{DrainsIf-headed, peekable_list}
+use Rattle.ne_iter.proofs.Peekable.{DrainsIf-headed, peekable_list, yields_rest}
 use Rattle.ne_iter.proofs.SourceLists.{lists_read, read_lists}
 
 pub returns-clause-gives : goal.returns-clause-gives
@@ -11,8 +11,12 @@ returns-clause-gives g c w whole zs h =
     (record { it = first.0; made = first.1; given = p.0 }, p.1)
 
 pub returns-clause-lists : goal.returns-clause-lists
-returns-clause-lists g c xs lists = (
-  triggered _ xs,
-  read_lists _ _ _ xs
-      (peekable_list _ _ _ _ (returns-clause-gives g c) xs (lists_read _ _ _ xs lists)),
-)
+returns-clause-lists g c xs lists =
+    let list = lists_read _ _ _ xs lists in
+    let gives = returns-clause-gives g c in (
+      triggered _ xs,
+      (
+        read_lists _ _ _ xs (peekable_list _ _ gives xs list),
+        yields_rest _ _ gives xs list,
+      ),
+    )

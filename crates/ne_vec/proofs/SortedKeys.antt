@@ -11,12 +11,12 @@ use Rattle.std.specs.Cmp.{IsTotalOrder}
 use Rattle.std.specs.Fn.{ComputesKey, Mut}
 use Rattle.std.specs.Iterator.{ActsAsAt}
 use Rattle.std.specs.List.{All, filter}
-use Rattle.std.specs.List.Sorted.{IsPermutation, IsSortedByKey, IsStableByKey, IsSortedByKeyClosure}
+use Rattle.std.specs.List.Sorted.{IsSortedByKey, IsStableByKey, IsSortedByKeyClosure}
 use Rattle.std.specs.List.Sorted.{IsStableByKeyClosure, ties}
 use Rattle.std.specs.Ordering.{eq_by_cmp, is_eq, is_lt, ordering_reverse}
 use Rattle.std.specs.declared.cmp.Ordering.{Ordering}
 use Rattle.std.specs.declared.cmp.Ordering.TheVariants.{Less, Equal, Greater}
-use Rattle.ne_iter.specs.KeyOrder.{KeysAscend, KeepsTies, SortsByKey}
+use Rattle.ne_vec.specs.KeyOrder.{KeysAscend, KeepsTies}
 
 tie_back : (o : Ordering)
     → is_eq (ordering_reverse o) ≡ (not (is_lt (ordering_reverse o)) && not (is_lt o))
@@ -62,16 +62,11 @@ module _ {A K F : Type 0} (calls : Mut F (Bor A × Unit {0}) K) (f : F) where
       let m = acts a.0.now r g (record { shown = a.0; shows = refl; called = called }) in
       (m.1, m.0))
 
-  pub sorts_by_key : {cmp : K → K → Ordering} {eq : K → K → Bool} → IsTotalOrder cmp
-      → ((j k : K) → eq j k ≡ eq_by_cmp cmp j k) → (xs ys : List A) → IsPermutation xs ys
-      → IsSortedByKeyClosure calls cmp f ys → IsStableByKeyClosure calls cmp f xs ys
-      → SortsByKey calls cmp eq f xs ys
-  sorts_by_key total equal xs ys same up stable = (
-    same,
-    up,
-    stable,
-    λ h acts. (
-      ascend total h ys (up h (computes h acts)),
-      keeps total h equal xs ys (stable h (computes h acts)),
-    ),
-  )
+  module _ {cmp : K → K → Ordering} (total : IsTotalOrder cmp) (h : A → K)
+      (acts : ActsAsAt calls f h) where
+    pub keys_ascend : (ys : List A) → IsSortedByKeyClosure calls cmp f ys → KeysAscend h cmp ys
+    keys_ascend ys up = ascend total h ys (up h (computes h acts))
+
+    pub keeps_ties : {eq : K → K → Bool} → ((j k : K) → eq j k ≡ eq_by_cmp cmp j k)
+        → (xs ys : List A) → IsStableByKeyClosure calls cmp f xs ys → KeepsTies h eq xs ys
+    keeps_ties equal xs ys stable = keeps total h equal xs ys (stable h (computes h acts))

@@ -1,0 +1,22 @@
+-- `sorted_by_key`: the order of the items that it returns.
+use Rattle.std.specs.Prelude.{Bool, List, map}
+use Rattle.std.specs.Borrow.{Bor}
+use Rattle.std.specs.Fn.{Mut}
+use Rattle.std.specs.Iterator.{ActsAsAt}
+use Rattle.std.specs.List.Sorted.{IsPermutation}
+use Rattle.std.specs.declared.cmp.Ordering.{Ordering}
+use Rattle.ne_vec.specs.KeyOrder.{KeysAscend, KeepsTies}
+use Rattle.ne_vec.specs.Lists.{View}
+
+module _ {A K F : Type 0} (calls : Mut F (Bor A × Unit {0}) K) (f : F) where
+  -- If f acts as a function h of what `view` makes of an item, these are the keys that h gives.
+  -- The keys that f returns for ys ascend.
+  abbrev pub AscendsByKey : (K → K → Ordering) → View A → List A → Type 0
+  AscendsByKey cmp view ys = (h : view.Target → K) → ActsAsAt calls f (λ x. h (view.of x))
+      → KeysAscend h cmp (map view.of ys)
+
+  -- ys, through `view`, are the items of xs, and where their keys tie, they keep their order.
+  abbrev pub PermutesByKey : (K → K → Bool) → (view : View A) → List view.Target → List A → Type 0
+  PermutesByKey eq view xs ys = IsPermutation xs (map view.of ys)
+      × ((h : view.Target → K) → ActsAsAt calls f (λ x. h (view.of x))
+      → KeepsTies h eq xs (map view.of ys))
