@@ -128,14 +128,15 @@ def functions(text):
 
 
 def macros(text):
-    """Returns the macros of a file, each with the library's functions and macros that it calls."""
+    """Returns the macros of a file, each with the library's functions and macros that it calls.
+    `add_each`, which they share, is none of them."""
     found = {}
     for name, body in re.findall(r"^macro_rules! (\w+) \{\n(.*?)^\}", text, re.M | re.S):
         made = re.findall(r"\$crate::(\w+)::(\w+)\(", body)
-        changed = [(made[0][0], it) for it in re.findall(r"\b\w+\.(insert|push)\(", body)]
-        found[name] = {"::".join(it) for it in made + changed}
-        found[name].update(re.findall(r"\$crate::(\w+)!", body))
-    return found
+        added = [(made[0][0], it) for it in re.findall(r"\b(insert|push); \$\(", body)]
+        found[name] = {"::".join(it) for it in made + added}
+        found[name].update(it for it in re.findall(r"\$crate::(\w+)!", body) if it != "add_each")
+    return {name: made for name, made in found.items() if made}
 
 
 def cases():

@@ -17,7 +17,10 @@ sys.stdout.reconfigure(line_buffering=True)
 ROOT = os.path.abspath(os.path.join(os.path.dirname(os.path.abspath(__file__)), os.pardir))
 SCRIPT = os.path.basename(sys.argv[0])
 # The crates with the library's public items.
-CRATES = ("ne_vec", "ne_iter", "ne_tree", "ne_hash", "ne_index", "ne_products", "ne_laws")
+CRATES = (
+    *("ne_vec", "ne_iter", "ne_tree", "ne_hash", "ne_index", "ne_products"),
+    *("nonempty_collections", "ne_laws"),
+)
 QUIET = {
     "stdin": subprocess.DEVNULL,
     "stdout": subprocess.PIPE,

@@ -33,6 +33,7 @@ TABLES = {
     "ne_tree": ("NEBTreeMap<u32, u32>", "NEBTreeSet<u32>"),
     "ne_hash": ("NEMap<u32, u32>", "NESet<u32>"),
     "ne_index": ("NEIndexMap<u32, u32>", "NEIndexSet<u32>"),
+    "nonempty_collections": ("NEIndexMap<u32, u32>", "NEIndexSet<u32>"),
 }
 DIGITS = "zero one two three four five six seven eight nine ten".split()
 # The names of what counts, or is a place.

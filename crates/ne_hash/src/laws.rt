@@ -1,8 +1,8 @@
 //! Laws of hashed maps and sets. Each law is the contract of a function that does nothing. A caller
 //! calls the function to use what it ensures.
-ghost use Rattle.std.specs.Prelude.{◌≡◌, ◌↔◌, List, Ok, Result};
-ghost use Rattle.std.specs.HashMap.{HashMap as Entries, get};
-ghost use Rattle.std.specs.HashSet.{HashSet as Keys, IsSameSet};
+ghost use Rattle.std.specs.Prelude.{◌≡◌, ◌↔◌, List, Option, Some, MatchOption, Ok, Result};
+ghost use Rattle.std.specs.HashMap.{HashMap as Entries, IsEmpty as HasNoEntry, get};
+ghost use Rattle.std.specs.HashSet.{HashSet as Keys, IsEmpty as HasNoKey, IsSameSet};
 ghost use Rattle.ne_vec.specs.declared.Error.{Error};
 ghost use Rattle.ne_iter.specs.SameMap.{IsSameMap};
 
@@ -11,19 +11,25 @@ use ne_iter::{FromNonEmptyIterator, Singleton};
 use std::collections::{HashMap, HashSet};
 use std::hash::{BuildHasher, Hash};
 
-/// A map that is converted into std's map and back is the same map with the same hasher, and the
-/// conversion back never fails.
-pub fn hashed_maps_come_back<K: Eq + Hash + Drop, V: Drop, S: BuildHasher + Drop>()
-    ensures { (m inner : Entries K V S) (r : Result (Entries K V S) Error)
+/// A map that is converted into std's map and back, by `try_from` or `try_from_map`, is the same
+/// map with the same hasher, and the conversion back never fails.
+pub fn hashed_maps_come_back<K: Eq + Hash, V, S: BuildHasher + Drop>()
+    ensures by_try_from_map { (m inner : Entries K V S) (r : Option (Entries K V S))
+        → ⟦<HashMap<K, V, S> as From<NEMap<K, V, S>>>⟧.from_gives m inner
+        → MatchOption r (HasNoEntry inner) (λ n. n ≡ inner) → r ≡ Some m }
+    ensures by_try_from { (m inner : Entries K V S) (r : Result (Entries K V S) Error)
         → ⟦<HashMap<K, V, S> as From<NEMap<K, V, S>>>⟧.from_gives m inner
         → ⟦<NEMap<K, V, S> as TryFrom<HashMap<K, V, S>>>⟧.try_from_gives inner r
         → r ≡ Ok m }
 {}
 
-/// A set that is converted into std's set and back is the same set with the same hasher, and the
-/// conversion back never fails.
-pub fn hashed_sets_come_back<T: Eq + Hash + Drop, S: BuildHasher + Drop>()
-    ensures { (s inner : Keys T S) (r : Result (Keys T S) Error)
+/// A set that is converted into std's set and back, by `try_from` or `try_from_set`, is the same
+/// set with the same hasher, and the conversion back never fails.
+pub fn hashed_sets_come_back<T: Eq + Hash, S: BuildHasher + Drop>()
+    ensures by_try_from_set { (s inner : Keys T S) (r : Option (Keys T S))
+        → ⟦<HashSet<T, S> as From<NESet<T, S>>>⟧.from_gives s inner
+        → MatchOption r (HasNoKey inner) (λ t. t ≡ inner) → r ≡ Some s }
+    ensures by_try_from { (s inner : Keys T S) (r : Result (Keys T S) Error)
         → ⟦<HashSet<T, S> as From<NESet<T, S>>>⟧.from_gives s inner
         → ⟦<NESet<T, S> as TryFrom<HashSet<T, S>>>⟧.try_from_gives inner r
         → r ≡ Ok s }

@@ -11,7 +11,6 @@
 #![tactic(auto)]
 
 pub mod laws;
-mod macros;
 pub mod map;
 pub mod set;
 

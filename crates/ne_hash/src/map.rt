@@ -135,13 +135,12 @@ impl<K: Eq + Hash, V, S: BuildHasher> NEMap<K, V, S> {
     /// ```
     pub fn try_from_map(map: HashMap<K, V, S>) -> Option<Self>
     where
-        K: Drop,
-        V: Drop,
         S: Drop,
         ensures { MatchOption result (IsEmpty map) (λ m. (m ≡ map) × IsUnique K.eq m
             × (0 < hash_map_len m)) }
     {
         if map.is_empty() {
+            map.destroy_empty();
             None
         } else {
             // The contract of `len` says that no two keys are equal.
@@ -284,8 +283,10 @@ impl<K: Eq + Hash, V, S: BuildHasher> NEMap<K, V, S> {
 
     /// Returns `false`: the map always holds a key.
     pub fn is_empty(&self) -> bool
-        ensures { result ≡ false }
+        ensures never { result ≡ false }
+        ensures nonempty { 0 < hash_map_len self.now }
     {
+        let _ = &self.inner; // the invariant is known once a field is used
         false
     }
 

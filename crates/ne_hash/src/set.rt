@@ -139,8 +139,10 @@ impl<T: Eq + Hash, S: BuildHasher> NESet<T, S> {
 
     /// Returns `false`: the set always holds an item.
     pub fn is_empty(&self) -> bool
-        ensures { result ≡ false }
+        ensures never { result ≡ false }
+        ensures nonempty { 0 < hash_set_len self.now }
     {
+        let _ = &self.inner; // the invariant is known once a field is used
         false
     }
 }
@@ -201,12 +203,12 @@ impl<T: Eq + Hash, S: BuildHasher> NESet<T, S> {
     /// ```
     pub fn try_from_set(set: HashSet<T, S>) -> Option<Self>
     where
-        T: Drop,
         S: Drop,
         ensures { MatchOption result (IsEmpty set) (λ s. (s ≡ set) × IsUnique T.eq s
             × (0 < hash_set_len s)) }
     {
         if set.is_empty() {
+            set.destroy_empty();
             None
         } else {
             // The contract of `len` says that no two items are equal.

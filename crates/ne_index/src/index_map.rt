@@ -260,13 +260,12 @@ impl<K: Eq + Hash, V, S: BuildHasher> NEIndexMap<K, V, S> {
     /// ```
     pub fn try_from_map(map: IndexMap<K, V, S>) -> Option<Self>
     where
-        K: Drop,
-        V: Drop,
         S: Drop,
         ensures { MatchOption result (IsEmpty map) (λ m. (m ≡ map) × IsUnique K.eq m
             × (0 < index_map_len m)) }
     {
         if map.is_empty() {
+            map.destroy_empty();
             None
         } else {
             // The contract of `len` says that no two keys are equal.

@@ -196,12 +196,12 @@ impl<T: Eq + Hash, S: BuildHasher> NEIndexSet<T, S> {
     /// ```
     pub fn try_from_set(set: IndexSet<T, S>) -> Option<Self>
     where
-        T: Drop,
         S: Drop,
         ensures { MatchOption result (IsEmpty set) (λ s. (s ≡ set) × IsUnique T.eq s
             × (0 < index_set_len s)) }
     {
         if set.is_empty() {
+            set.destroy_empty();
             None
         } else {
             // The contract of `len` says that no two items are equal.

@@ -1,22 +1,33 @@
 //! Laws of index maps and sets. Each law is the contract of a function that does nothing. A caller
 //! calls the function to use what it ensures.
-ghost use Rattle.std.specs.Prelude.{◌≡◌, ◌↔◌, ◌++◌, List, Ok, Result};
+ghost use Rattle.std.specs.Prelude.{◌≡◌, ◌↔◌, ◌++◌, List, Option, Some, MatchOption, Ok, Result};
 ghost use Rattle.ne_vec.specs.declared.Error.{Error};
-ghost use Rattle.indexmap.specs.IndexMap.{IndexMap as Entries, get};
-ghost use Rattle.indexmap.specs.IndexSet.{IndexSet as Keys, IsSameSet};
+ghost use Rattle.indexmap.specs.IndexMap.{IndexMap as Entries, IsEmpty as HasNoEntry, get};
+ghost use Rattle.indexmap.specs.IndexSet.{IndexSet as Keys, IsEmpty as HasNoKey, IsSameSet};
 ghost use Rattle.ne_iter.specs.Collected.{IsSetOf};
 ghost use Rattle.ne_iter.specs.KeyList.{first_seen, key_list};
 ghost use Rattle.ne_iter.specs.SameMap.{IsSameMap};
 
 use crate::{NEIndexMap, NEIndexSet};
-use indexmap::IndexSet;
+use indexmap::{IndexMap, IndexSet};
 use ne_iter::{FromNonEmptyIterator, Singleton};
 use std::hash::{BuildHasher, Hash};
 
-/// A set that is converted into the crate `indexmap`'s set and back is the same set with the same
-/// hasher, and the conversion back never fails.
-pub fn index_sets_come_back<T: Eq + Hash + Drop, S: BuildHasher + Drop>()
-    ensures { (s inner : Keys T S) (r : Result (Keys T S) Error)
+/// A map that is converted into the crate `indexmap`'s map and back, by `try_from_map`, is the same
+/// map with the same hasher, and the conversion back never fails.
+pub fn index_maps_come_back<K: Eq + Hash, V, S: BuildHasher + Drop>()
+    ensures { (m inner : Entries K V S) (r : Option (Entries K V S))
+        → ⟦<IndexMap<K, V, S> as From<NEIndexMap<K, V, S>>>⟧.from_gives m inner
+        → MatchOption r (HasNoEntry inner) (λ n. n ≡ inner) → r ≡ Some m }
+{}
+
+/// A set that is converted into the crate `indexmap`'s set and back, by `try_from` or
+/// `try_from_set`, is the same set with the same hasher, and the conversion back never fails.
+pub fn index_sets_come_back<T: Eq + Hash, S: BuildHasher + Drop>()
+    ensures by_try_from_set { (s inner : Keys T S) (r : Option (Keys T S))
+        → ⟦<IndexSet<T, S> as From<NEIndexSet<T, S>>>⟧.from_gives s inner
+        → MatchOption r (HasNoKey inner) (λ t. t ≡ inner) → r ≡ Some s }
+    ensures by_try_from { (s inner : Keys T S) (r : Result (Keys T S) Error)
         → ⟦<IndexSet<T, S> as From<NEIndexSet<T, S>>>⟧.from_gives s inner
         → ⟦<NEIndexSet<T, S> as TryFrom<IndexSet<T, S>>>⟧.try_from_gives inner r
         → r ≡ Ok s }

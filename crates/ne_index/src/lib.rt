@@ -13,7 +13,6 @@
 pub mod index_map;
 pub mod index_set;
 pub mod laws;
-mod macros;
 
 pub use index_map::NEIndexMap;
 pub use index_set::NEIndexSet;

@@ -8,14 +8,11 @@ use Rattle.std.proofs.Common.{sym, ap, subst, ◌∙◌, Option, None}
 use Rattle.std.proofs.lemmas.Map.Entries.{length-keys_of}
 use Rattle.std.proofs.lemmas.Map.Keys.{IsDistinct-from_sorted}
 use Rattle.std.proofs.lemmas.Map.Made.{is_some-lookup, is_some-update_all}
-use Rattle.std.proofs.lemmas.Result.{IfOk-weaker}
-use Rattle.std.specs.Prelude.{⊤, Result, IfOk}
 use Rattle.std.specs.BTreeMap.{BTreeMap, IsOrdered, btree_map_len}
 use Rattle.std.specs.BTreeSet.{BTreeSet, IsOrdered as AreOrdered, btree_set_len}
 use Rattle.std.specs.HashMap.{HashMap, hash_map_len}
 use Rattle.std.specs.HashSet.{HashSet, hash_set_len}
 use Rattle.std.specs.Cmp.{IsEquivalence, IsTotalOrder, eq_by_cmp_equiv}
-use Rattle.std.specs.Iterator.{DrainsIf}
 use Rattle.std.specs.List.{IsDistinct}
 use Rattle.std.specs.Map.{keys_of, lookup, update_all}
 use Rattle.std.specs.Ordering.{eq_by_cmp}
@@ -23,28 +20,7 @@ use Rattle.std.specs.Set.{is_member}
 use Rattle.std.specs.declared.cmp.Ordering.{Ordering}
 use Rattle.ne_iter.specs.Collected.{last_value, IsMapOf, IsSetOf}
 use Rattle.ne_iter.specs.CollectedLaws.{option_or-none, some_member, update_all-last_value}
-use Rattle.ne_iter.specs.SourceLaws.{some_item}
-use Rattle.ne_iter.specs.Sources.{IsNonEmpty, Reads, SameLists}
 use mathlib.Core.Path.{fun_ext}
-
--- what was made from the items that the source's iterator gave to the end
-module _ {U S V T A : Type 0} {becomes : U → S → Type 0} {steps : S → Option A → S → Type 0}
-    {makes : U → V → Type 0} {becomes' : V → T → Type 0} {steps' : T → Option A → T → Type 0} where
-  pub collects : SameLists becomes steps makes becomes' steps' → IsNonEmpty becomes' steps'
-      → (u : U) (v : V) (it : T) → makes u v → becomes' v it
-      → {C E : Type 0} (gives collected : List A → C → Type 0)
-      → ((xs : List A) (c : C) → 0 < length xs → gives xs c → collected xs c)
-      → (result : Result C E) → IfOk result (λ c. (xs : List A) × DrainsIf steps' ⊤ it xs
-      × gives xs c)
-      → IfOk result (λ c. (xs : List A) × Reads becomes steps true u xs × collected xs c)
-  collects same full u v it m b gives collected made result ran = IfOk-weaker result _ _ (λ c r.
-      let read : Reads becomes' steps' true v
-      r.0 = record { it = it; made = b; given = (r.1.0, r.1.1, λ _. r.1.2 tt) } in (
-        r.0,
-        (same u true r.0).1 v m read,
-        made r.0 c (some_item becomes' steps' full v r.0 read)
-            r.2,
-      )) ran
 
 module _ {K : Type 0} {eq : K → K → Bool} (laws : IsEquivalence eq) where
   -- the keys of a list that has an item

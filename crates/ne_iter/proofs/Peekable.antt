@@ -13,7 +13,7 @@ use Rattle.ne_iter.specs.Peekable.{PutsFirst, YieldsRest, with_head, PeekableGiv
 use Rattle.ne_iter.specs.Peekable.{peekable_first, peekable_rest}
 use Rattle.ne_iter.specs.Sources.{ReadsList, Reads}
 use Rattle.ne_iter.specs.declared.iter.peekable.Peekable.{Peekable}
-use Rattle.ne_vec.proofs.RunFronts.{run_drains}
+use Rattle.ne_vec.specs.RunLaws.{run_drains}
 use Rattle.ne_iter.proofs.Chain.{DrainsIf-chain}
 use Rattle.ne_iter.proofs.SourceLists.{whole_prefix}
 

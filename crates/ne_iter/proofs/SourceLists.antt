@@ -14,7 +14,7 @@ use Rattle.std.proofs.iter.runs.Sources.{lists}
 use Rattle.ne_vec.specs.Lists.{IsPrefix, Lists, YieldsItems, YieldsThrough, YieldsPrefixes}
 use Rattle.ne_vec.specs.Lists.{EachView, View, itself}
 use Rattle.ne_vec.specs.ListLaws.{lists_of, of_lists, triggered}
-use Rattle.ne_vec.proofs.RunFronts.{yields_items, yields_through, run_drains}
+use Rattle.ne_vec.specs.RunLaws.{yields_items, yields_through, run_drains}
 use Rattle.ne_iter.specs.Sources.{ReadsList, ReadsListThrough, Reads, SameLists}
 use Rattle.ne_iter.specs.SourceLists.{BecomesList, MeetsList, EachKept, StdYields}
 

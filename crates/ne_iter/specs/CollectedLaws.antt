@@ -1,11 +1,15 @@
--- Pairs or items that are inserted in turn, one or many, into an earlier map or set make the map or
--- set of all of them. The crates of maps and sets use these lemmas.
+-- What is collected was read to the end of its source. Pairs or items that are inserted in turn,
+-- one or many, into an earlier map or set make the map or set of all of them. The crates of maps
+-- and sets use these lemmas.
 use Rattle.std.proofs.Common.{◌≡◌, ◌<◌, length, arith, is_some, true≢false, Bool, true, false, cond}
 use Rattle.std.proofs.Common.{◌||◌, List, [], ◌∷◌, ◌++◌, reverse, refl, sym, ap, subst, ◌∙◌}
 use Rattle.std.proofs.Common.{append_assoc, append-nil, Option, None, Some}
 use Rattle.std.proofs.lemmas.List.{reverse-append}
 use Rattle.std.proofs.lemmas.Map.Made.{update_all_none, is_some-update_all}
 use Rattle.std.proofs.lemmas.Map.Keys.{IsDistinct-head, IsDistinct-tail}
+use Rattle.std.proofs.lemmas.Result.{IfOk-weaker}
+use Rattle.std.specs.Prelude.{⊤, Result, IfOk}
+use Rattle.std.specs.Iterator.{DrainsIf}
 use Rattle.std.specs.Cmp.{IsEquivalence}
 use Rattle.std.specs.List.{IsDistinct, AllByRecursion, list_any}
 use Rattle.std.specs.Map.{keys_of, lookup, update, update_all}
@@ -13,7 +17,28 @@ use Rattle.std.specs.Option.{option_or}
 use Rattle.std.specs.Set.{is_member}
 use Rattle.ne_iter.specs.Collected.{last_value, IsMapOf, IsSetOf}
 use Rattle.ne_iter.specs.KeyList.{first_seen}
+use Rattle.ne_iter.specs.SourceLaws.{some_item}
+use Rattle.ne_iter.specs.Sources.{IsNonEmpty, Reads, SameLists}
 use mathlib.Core.Path.{fun_ext}
+
+-- what was made from the items that the source's iterator gave to the end
+module _ {U S V T A : Type 0} {becomes : U → S → Type 0} {steps : S → Option A → S → Type 0}
+    {makes : U → V → Type 0} {becomes' : V → T → Type 0} {steps' : T → Option A → T → Type 0} where
+  pub collects : SameLists becomes steps makes becomes' steps' → IsNonEmpty becomes' steps'
+      → (u : U) (v : V) (it : T) → makes u v → becomes' v it
+      → {C E : Type 0} (gives collected : List A → C → Type 0)
+      → ((xs : List A) (c : C) → 0 < length xs → gives xs c → collected xs c)
+      → (result : Result C E) → IfOk result (λ c. (xs : List A) × DrainsIf steps' ⊤ it xs
+      × gives xs c)
+      → IfOk result (λ c. (xs : List A) × Reads becomes steps true u xs × collected xs c)
+  collects same full u v it m b gives collected made result ran = IfOk-weaker result _ _ (λ c r.
+      let read : Reads becomes' steps' true v
+      r.0 = record { it = it; made = b; given = (r.1.0, r.1.1, λ _. r.1.2 tt) } in (
+        r.0,
+        (same u true r.0).1 v m read,
+        made r.0 c (some_item becomes' steps' full v r.0 read)
+            r.2,
+      )) ran
 
 pub lookup-append : {K V : Type 0} (test : K → Bool) (es fs : List (K × V))
     → lookup test (es ++ fs) ≡ option_or (lookup test es) (lookup test fs)

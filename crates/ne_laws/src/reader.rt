@@ -1,11 +1,11 @@
 //! The first runs of a non-empty iterator, and the reader after them.
 ghost use Rattle.std.specs.Prelude.{◌≡◌, ◌<◌, ◌≤◌, IfOk, length};
 ghost use Rattle.std.specs.Iterator.{IsFiniteIterable, CallableOnAllAt};
-ghost use Rattle.ne_iter.specs.GroupingRuns.{HasRead, IsOver};
-ghost use Rattle.ne_iter.specs.Grouping.{Unread};
+ghost use Rattle.nonempty_collections.specs.GroupingRuns.{HasRead, IsOver};
+ghost use Rattle.nonempty_collections.specs.Grouping.{Unread};
 
-use ne_iter::laws::groupings_stand_at_any_moment;
 use nonempty_collections::iter::GroupBy;
+use nonempty_collections::laws::groupings_stand_at_any_moment;
 use nonempty_collections::{NEVec, NonEmptyIterator};
 use std::alloc::{AllocError, Global};
 

@@ -67,12 +67,12 @@ pub fn run_vec<T: Drop>(
     ensures one_each { IfOk result (λ replies. length replies.items ≡ length calls.items) }
     ensures nonempty { 0 < length v.new }
 {
-    // The contract of `len` says that there is an item.
-    let _before = v.len();
+    // The contract of `is_empty` says that there is an item.
+    let _before = v.is_empty();
     let mut replies = Vec::new(alloc);
     for call in calls {
         let reply = answer(v, call)?;
-        let _after = v.len();
+        let _after = v.is_empty();
         replies.push(reply)?;
     }
     Ok(replies)

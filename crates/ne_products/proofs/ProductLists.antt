@@ -1,14 +1,15 @@
 -- From the lists that two sources give to the pairs that their product gives.
-use Rattle.std.proofs.Common.{refl}
-use Rattle.std.specs.Prelude.{List, Ok, Option, Result, map}
+use Rattle.std.proofs.Common.{refl, subst}
+use Rattle.std.specs.Prelude.{◌≡◌, Bool, true, List, Ok, Option, Result, map}
+use Rattle.std.specs.Iterator.{Count, DrainsIf}
 use Rattle.std.specs.declared.alloc.AllocError.{AllocError}
 use Rattle.ne_vec.specs.Lists.{Lists, itself}
 use Rattle.ne_vec.specs.ListLaws.{lists_of, of_lists, triggered}
 use Rattle.ne_iter.specs.Sources.{ReadsList, Reads, SameLists}
 use Rattle.ne_iter.specs.SourceLists.{BecomesList}
 use Rattle.ne_products.specs.Pairs.{cartesian_product, CanRefuse}
-use Rattle.ne_products.specs.Restarts.{HasExactClones, NeverRefuses, PairsListed, PairsLists}
-use Rattle.ne_products.specs.Restarts.{ProductGives}
+use Rattle.ne_products.specs.Restarts.{ClonesAgain, ClonesYield, HasExactClones, NeverRefuses}
+use Rattle.ne_products.specs.Restarts.{PairsListed, PairsLists, ProductGives}
 use Rattle.ne_products.proofs.ProductPrefixes.{all_values, product_prefix}
 
 module _ {U S A : Type 0} (becomes : U → S → Type 0) (steps : S → Option A → S → Type 0) where
@@ -24,57 +25,78 @@ module _ {U S A : Type 0} (becomes : U → S → Type 0) (steps : S → Option A
       let there = (same w whole ys).0 read in
       lists_read there.0 xs (lists there.0 there.1) whole ys there.2
 
--- The list that a product gives, by its clause `gives`.
-pub product_list : {U W V X S R T J A B E : Type 0} {becomes : U → S → Type 0}
-    {steps : S → Option A → S → Type 0} {meets : W → R → Type 0}
-    {other : R → Option B → R → Type 0} {made : V → T → Type 0}
-    {next : T → Option (Result (A × B) E) → T → Type 0} {again : Type 0}
+-- The iterator yields the list: what is said of it as a source.
+abbrev Yields : {J B : Type 0} → (J → Option B → J → Type 0) → J → List B → Type 0
+Yields next = ReadsList (Reads (λ i j. j ≡ i) next)
+
+-- An iterator that a source becomes yields the list that the source yields.
+pub each_yields : {W X R J B : Type 0} {meets : W → R → Type 0} {other : R → Option B → R → Type 0}
+    {makes : W → X → Type 0} {begins : X → J → Type 0} (next : J → Option B → J → Type 0)
+    → SameLists meets other makes begins next → {w : W} {x : X} → makes w x → {ys : List B}
+    → ReadsList (Reads meets other) w ys → (j : J) → begins x j → Yields next j ys
+each_yields next same {w} {x} made list j begun whole zs read = list whole zs
+    ((same w whole zs).1 x made (record {
+      it = j;
+      made = begun;
+      given = subst (λ i. DrainsIf next (whole ≡ true) i zs) read.made read.given;
+    }))
+
+-- The clause `gives` of a product v whose sides are u and x.
+abbrev Gives : {U V X J A B E : Type 0} → (Bool → U → List A → Type 0)
+    → (Bool → V → List (Result (A × B) E) → Type 0) → (J → Count) → (J → J → Type 0)
+    → (J → Option B → J → Type 0) → (A → A → Type 0) → (A → Type 0) → (X → J → Type 0)
+    → (J → Type 0) → U → X → V → Type 0
+Gives reads paired left copies next clones infallible begins certain u x v = ProductGives reads
+    (ClonesAgain begins left copies x) (begins x) (Yields next)
+    (ClonesYield begins copies (Yields next) x) clones infallible (CanRefuse begins certain x)
+    paired u v
+
+-- The list that a product gives.
+pub product_list : {U V X T J A B E : Type 0} {reads : Bool → U → List A → Type 0}
+    {made : V → T → Type 0} {steps : T → Option (Result (A × B) E) → T → Type 0}
+    {copies : J → J → Type 0} {next : J → Option B → J → Type 0} (left : J → Count)
     (clones : A → A → Type 0) (infallible : A → Type 0) (begins : X → J → Type 0)
-    (certain : J → Type 0) (x : X) {u : U} {w : W} {v : V}
-    → ProductGives (Reads becomes steps) (Reads meets other) again clones infallible
-    (CanRefuse begins certain x) (Reads made next) u w v
-    → again → NeverRefuses begins certain x
-    → (xs : List A) (ys : List B) → HasExactClones clones infallible xs
-    → ReadsList (Reads becomes steps) u xs → ReadsList (Reads meets other) w ys
-    → ReadsList (Reads made next) v (map Ok (cartesian_product xs ys))
-product_list clones infallible begins certain x gives anew sure xs ys exact first second whole zs
-    read =
-    let p = gives ys second anew whole zs read in
+    (certain : J → Type 0) {u : U} (x : X) {v : V}
+    → Gives reads (Reads made steps) left copies next clones infallible begins certain u x v
+    → ClonesAgain begins left copies x → NeverRefuses begins certain x
+    → (xs : List A) (ys : List B) → HasExactClones clones infallible xs → ReadsList reads u xs
+    → ((j : J) → begins x j → Yields next j ys)
+    → ReadsList (Reads made steps) v (map Ok (cartesian_product xs ys))
+product_list left clones infallible begins certain x gives again sure xs ys exact first each whole
+    zs read =
+    let came = gives again whole zs read in
+    let p = came.2 ys (each came.0 came.1)
+    (λ j c begun copied _. each c (again j c begun copied).0) in
     product_prefix clones infallible (CanRefuse begins certain x)
     (λ can. can.2 (sure can.0 can.1)) whole xs p.items ys zs exact (first _ p.items p.read)
     p.paired p.all
 
-module _ {U W V X S R T J A B : Type 0} (becomes : U → S → Type 0)
+module _ {U V W R X S T J A B : Type 0} (becomes : U → S → Type 0)
     (steps : S → Option A → S → Type 0) (meets : W → R → Type 0) (other : R → Option B → R → Type 0)
     (made : V → T → Type 0) (next : T → Option (Result (A × B) AllocError) → T → Type 0)
-    (again : Type 0) (clones : A → A → Type 0) (infallible : A → Type 0) (begins : X → J → Type 0)
-    (certain : J → Type 0) (x : X) (u : U) (w : W) (v : V)
-    (gives : ProductGives (Reads becomes steps) (Reads meets other) again clones infallible
-    (CanRefuse begins certain x) (Reads made next) u w v) where
+    (left : J → Count) (copies : J → J → Type 0) (others : J → Option B → J → Type 0)
+    (clones : A → A → Type 0) (infallible : A → Type 0) (makes : W → X → Type 0)
+    (begins : X → J → Type 0) (certain : J → Type 0) (u : U) (w : W) (x : X) (v : V)
+    (same : SameLists meets other makes begins others) (from : makes w x)
+    (gives : Gives (Reads becomes steps) (Reads made next) left copies others clones infallible
+    begins certain u x v) where
   abbrev Exact : List A → Type 0
-  Exact xs = HasExactClones clones infallible xs × NeverRefuses begins certain x × again
-
-  pairs_given : (xs : List A) (ys : List B) → ReadsList (Reads becomes steps) u xs
-      → ReadsList (Reads meets other) w ys → Exact xs
-      → Lists made next (λ x. x) v (map Ok (cartesian_product xs ys))
-  pairs_given xs ys first second exact = lists_of made next v (map Ok (cartesian_product xs ys))
-      (λ it m whole zs given.
-      product_list clones infallible begins certain x gives exact.2 exact.1 xs ys exact.0
-      first second whole zs (record { it = it; made = m; given = given }))
+  Exact xs = HasExactClones clones infallible xs × NeverRefuses begins certain x
+      × ClonesAgain begins left copies x
 
   listed : (xs : List A) (ys : List B) → ReadsList (Reads becomes steps) u xs
       → ReadsList (Reads meets other) w ys → PairsListed made next Exact v xs ys
   listed xs ys first second exact = (
     all_values (cartesian_product xs ys),
-    (triggered v (map Ok (cartesian_product xs ys)), pairs_given xs ys first second exact),
+    (triggered v (map Ok (cartesian_product xs ys)),
+    lists_of made next v (map Ok (cartesian_product xs ys)) (λ it m whole zs given.
+    product_list left clones infallible begins certain x gives exact.2 exact.1 xs ys exact.0 first
+    (each_yields others same from second) whole zs (record { it = it; made = m; given = given }))),
   )
 
-  pub pairs_lists : {X Y : Type 0} (makes : W → X → Type 0) (made' : X → Y → Type 0)
-      (next' : Y → Option B → Y → Type 0) → SameLists meets other makes made' next'
-      → PairsLists (Lists becomes steps (λ x. x)) (Lists meets other (λ x. x))
-      (BecomesList makes made' next' itself)
-      (PairsListed made next Exact v) u w
-  pairs_lists makes made' next' same = (
+  pub pairs_lists : PairsLists (Lists becomes steps (λ x. x)) (Lists meets other (λ x. x))
+      (BecomesList makes begins others itself) (PairsListed made next Exact v) u w
+  pairs_lists = (
     (λ xs first. (
       triggered u xs,
       λ ys second. (
@@ -85,6 +107,6 @@ module _ {U W V X S R T J A B : Type 0} (becomes : U → S → Type 0)
     λ xs ys. (
       refl,
       λ first second. listed xs ys (lists_read becomes steps u xs first)
-          (becomes_read made' next' meets other makes same w ys second),
+          (becomes_read begins others meets other makes same w ys second),
     ),
   )

@@ -4,7 +4,6 @@ use Rattle.std.specs.Iterator.{Count, size}
 use Rattle.std.specs.declared.alloc.AllocError.{AllocError}
 use Rattle.ne_vec.specs.Lists.{Listed, EachList, Naming}
 use Rattle.ne_iter.specs.Collected.{values_or_first_err}
-use Rattle.ne_iter.specs.Sources.{ReadsList}
 use Rattle.ne_products.specs.Pairs.{cartesian_product, IsProduct}
 
 -- A clone of an iterator that u becomes is one that u can become too, and has no more items left.
@@ -23,16 +22,22 @@ abbrev pub HasExactClones : {A : Type 0} → (A → A → Type 0) → (A → Typ
 HasExactClones {A} clones infallible xs = (x : A) → Contains xs x
     → infallible x × ((y : A) → clones x y → y ≡ x)
 
--- This holds if the other side yields the list ys, and clones of its iterator yield it too.
+-- A clone of an iterator that the source u becomes yields the list ys if its original does.
+abbrev pub ClonesYield : {U J B : Type 0} → (U → J → Type 0) → (J → J → Type 0)
+    → (J → List B → Type 0) → U → List B → Type 0
+ClonesYield {J = J} becomes copies yields u ys =
+    (j c : J) → becomes u j → copies j c → yields j ys → yields c ys
+
+-- j is an iterator that the other side became, ys the list that it and its clones yield.
 -- `cartesian_product` yields the pairs of the source's items and the items ys.
-abbrev pub ProductGives : {U W V A B E : Type 0} → (Bool → U → List A → Type 0)
-    → (Bool → W → List B → Type 0) → Type 0 → (A → A → Type 0) → (A → Type 0) → Type 0
-    → (Bool → V → List (Result (A × B) E) → Type 0) → U → W → V → Type 0
-ProductGives {A = A} {B = B} {E = E} reads others again clones infallible refused paired source
-    other result =
-    (ys : List B) → ReadsList others other ys → again
-    → (whole : Bool) (zs : List (Result (A × B) E)) → paired whole result zs
-    → IsProduct reads clones infallible refused source ys whole zs
+abbrev pub ProductGives : {U J V A B E : Type 0} → (Bool → U → List A → Type 0) → Type 0
+    → (J → Type 0) → (J → List B → Type 0) → (List B → Type 0) → (A → A → Type 0)
+    → (A → Type 0) → Type 0 → (Bool → V → List (Result (A × B) E) → Type 0) → U → V → Type 0
+ProductGives {J = J} {A = A} {B = B} {E = E} reads again begins yields keep clones infallible
+    refused paired source result =
+    again → (whole : Bool) (zs : List (Result (A × B) E)) → paired whole result zs
+    → (j : J) × begins j × ((ys : List B) → yields j ys → keep ys
+    → IsProduct reads clones infallible refused source ys whole zs)
 
 -- For the automatic proof: the list of the product v of xs and ys, if `exact` holds for xs.
 abbrev pub PairsListed : {V T A B : Type 0} → (V → T → Type 0)

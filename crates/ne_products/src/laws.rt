@@ -1,11 +1,13 @@
 //! Laws of products and of sources that are one of two. Each law is the contract of a function that
 //! does nothing. A caller calls the function to use what it ensures.
 ghost use Rattle.std.specs.Prelude.{◌≡◌, ℕ, ◌+◌, ◌*◌, List, Ok, Some, length, map, slice_get};
-ghost use Rattle.ne_iter.specs.Sources.{ReadsList};
+ghost use Rattle.ne_vec.specs.Lists.{EachList, itself};
+ghost use Rattle.ne_iter.specs.Sources.{EachReading, ReadsList};
 ghost use Rattle.ne_products.specs.Pairs.{cartesian_product, CanRefuse};
 ghost use Rattle.ne_products.specs.Product.{product_first, product_second};
-ghost use Rattle.ne_products.specs.Restarts.{ClonesAgain, HasExactClones, NeverRefuses};
-ghost use Rattle.ne_products.specs.Restarts.{ProductGives};
+ghost use Rattle.ne_products.specs.Restarts.{ClonesAgain, ClonesYield, HasExactClones};
+ghost use Rattle.ne_products.specs.Restarts.{NeverRefuses, ProductGives};
+ghost use Rattle.ne_products.specs.Sides.{MatchSide};
 
 use crate::products::Product;
 use crate::sides::NEEither;
@@ -26,13 +28,19 @@ where
     U::Item: Drop,
     <U::IntoNEIter as IntoIterator>::IntoIter: Clone,
     ensures { (product : _) (xs : List S.Item) (ys : List U.Item)
-        → ProductGives (⟦<S as Source>⟧.reads) (⟦<U as Source>⟧.reads)
+        → ProductGives (⟦<S as Source>⟧.reads)
         (ClonesAgain U.IntoNEIter.into_iter_gives U.IntoNEIter.IntoIter.remaining
         U.IntoNEIter.IntoIter.is_clone (product_second product))
+        (U.IntoNEIter.into_iter_gives (product_second product))
+        (ReadsList (⟦<<U::IntoNEIter as IntoIterator>::IntoIter as Source>⟧.reads))
+        (ClonesYield U.IntoNEIter.into_iter_gives U.IntoNEIter.IntoIter.is_clone
+        (ReadsList (⟦<<U::IntoNEIter as IntoIterator>::IntoIter as Source>⟧.reads))
+        (product_second product))
         S.Item.is_clone S.Item.is_infallible
         (CanRefuse U.IntoNEIter.into_iter_gives U.IntoNEIter.IntoIter.is_infallible
         (product_second product))
-        (⟦<Product<S, U::IntoNEIter> as Source>⟧.reads) source.now other.now product
+        (⟦<Product<S, U::IntoNEIter> as Source>⟧.reads) source.now product
+        → U.into_nonempty_iter_gives other.now (product_second product)
         → ClonesAgain U.IntoNEIter.into_iter_gives U.IntoNEIter.IntoIter.remaining
         U.IntoNEIter.IntoIter.is_clone (product_second product)
         → NeverRefuses U.IntoNEIter.into_iter_gives U.IntoNEIter.IntoIter.is_infallible
@@ -69,6 +77,22 @@ where
         → ClonesAgain U.into_iter_gives U.IntoIter.remaining U.IntoIter.is_clone
         (product_second product)
         → ⟦<Product<S, U> as Source>⟧.ends product }
+{}
+
+/// A source that is one of two yields what the source of its side yields, also if a closure with
+/// state is below it. A value built by its variant is such a source.
+pub fn either_gives_its_side<L: NonEmptyIterator, R: NonEmptyIterator<Item = L::Item>>(
+    source: &NEEither<L, R>,
+)
+    ensures reads { EachReading (⟦<NEEither<L, R> as Source>⟧.reads) source.now
+        (λ whole xs. MatchSide source.now
+        (λ s. ⟦<L as Source>⟧.reads whole s xs)
+        (λ t. ⟦<R as Source>⟧.reads whole t xs)) }
+    ensures lists { MatchSide source.now
+        (λ s. EachList (⟦<L as Source>⟧.lists itself) s
+        (⟦<NEEither<L, R> as Source>⟧.lists itself source.now))
+        (λ t. EachList (⟦<R as Source>⟧.lists itself) t
+        (⟦<NEEither<L, R> as Source>⟧.lists itself source.now)) }
 {}
 
 /// A source that is one of two ends if the side that is there ends.

@@ -2,11 +2,12 @@
 ghost use Rattle.std.specs.Prelude.{◌≡◌, IfOk};
 ghost use Rattle.ne_vec.specs.Lists.{EachList, itself};
 ghost use Rattle.ne_iter.specs.SourceLists.{BecomesList};
+ghost use Rattle.ne_iter.specs.Sources.{ReadsList};
 ghost use Rattle.ne_products.specs.Pairs.{CanRefuse};
 ghost use Rattle.ne_products.specs.Product.{product_first, product_second, restart_of, PairsItems};
 ghost use Rattle.ne_products.specs.Product.{PairsNext, TriesRestart};
-ghost use Rattle.ne_products.specs.Restarts.{ClonesAgain, HasExactClones, NeverRefuses};
-ghost use Rattle.ne_products.specs.Restarts.{PairsListed, PairsLists, ProductGives};
+ghost use Rattle.ne_products.specs.Restarts.{ClonesAgain, ClonesYield, HasExactClones};
+ghost use Rattle.ne_products.specs.Restarts.{NeverRefuses, PairsListed, PairsLists, ProductGives};
 ghost use Rattle.ne_products.specs.Unique.{ChecksDistinct, ChecksUnique};
 
 use ne_iter::iter::Source;
@@ -53,13 +54,18 @@ pub trait NonEmptyItertools: NonEmptyIterator {
             → ClonesAgain J.IntoNEIter.into_iter_gives J.IntoNEIter.IntoIter.remaining
             J.IntoNEIter.IntoIter.is_clone (product_second result)
             → ⟦<Product<Self, J::IntoNEIter> as Source>⟧.ends result }
-        ensures gives { ProductGives (⟦<Self as Source>⟧.reads) (⟦<J as Source>⟧.reads)
+        ensures gives { ProductGives (⟦<Self as Source>⟧.reads)
             (ClonesAgain J.IntoNEIter.into_iter_gives J.IntoNEIter.IntoIter.remaining
             J.IntoNEIter.IntoIter.is_clone (product_second result))
+            (J.IntoNEIter.into_iter_gives (product_second result))
+            (ReadsList (⟦<<J::IntoNEIter as IntoIterator>::IntoIter as Source>⟧.reads))
+            (ClonesYield J.IntoNEIter.into_iter_gives J.IntoNEIter.IntoIter.is_clone
+            (ReadsList (⟦<<J::IntoNEIter as IntoIterator>::IntoIter as Source>⟧.reads))
+            (product_second result))
             Self.Item.is_clone Self.Item.is_infallible
             (CanRefuse J.IntoNEIter.into_iter_gives J.IntoNEIter.IntoIter.is_infallible
             (product_second result))
-            (⟦<Product<Self, J::IntoNEIter> as Source>⟧.reads) self other result }
+            (⟦<Product<Self, J::IntoNEIter> as Source>⟧.reads) self result }
         ensures lists { PairsLists (⟦<Self as Source>⟧.lists itself)
             (⟦<J as Source>⟧.lists itself)
             (BecomesList J.into_nonempty_iter_gives J.IntoNEIter.into_iter_gives

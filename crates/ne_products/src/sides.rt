@@ -2,6 +2,7 @@
 ghost use Rattle.std.specs.Prelude.{◌≡◌};
 ghost use Rattle.ne_vec.specs.Lists.{list_trigger, EachList, itself};
 ghost use Rattle.ne_iter.specs.SourceLists.{BecomesList};
+ghost use Rattle.ne_iter.specs.Sources.{EachReading};
 ghost use Rattle.ne_products.specs.Sides.{MakesSide, MatchSide, SideLists};
 
 use either::Either;
@@ -35,6 +36,11 @@ impl<L: IntoNonEmptyIterator, R: IntoNonEmptyIterator<Item = L::Item>> NEEither<
     pub fn into_nonempty_iter(self) -> NEEither<L::IntoNEIter, R::IntoNEIter>
         ensures makes { MakesSide L.into_nonempty_iter_gives R.into_nonempty_iter_gives
             self result }
+        ensures gives {
+            EachReading (⟦<NEEither<L::IntoNEIter, R::IntoNEIter> as Source>⟧.reads) result
+            (λ whole xs. MatchSide result
+            (λ s. ⟦<L::IntoNEIter as Source>⟧.reads whole s xs)
+            (λ t. ⟦<R::IntoNEIter as Source>⟧.reads whole t xs)) }
         ensures ends { MatchSide result
             (λ s. ⟦<L::IntoNEIter as Source>⟧.ends s
             → ⟦<NEEither<L::IntoNEIter, R::IntoNEIter> as Source>⟧.ends result)

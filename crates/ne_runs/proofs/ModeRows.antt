@@ -3,8 +3,8 @@ use Rattle.std.proofs.Common.{arith, sym, ap₂, ◌∙◌}
 use Rattle.std.specs.Prelude.{◌≡◌, ℕ, ◌<◌, ◌≤◌, Bool, All, Contains, nat_eq, List, [], ◌∷◌, length}
 use Rattle.std.specs.Prelude.{sum, refl}
 use Rattle.std.specs.Bool.{beq}
-use Rattle.ne_vec.specs.Divisions.{IsDivision, by_first, by_previous}
-use Rattle.ne_iter.specs.KeyList.{key_list}
+use Rattle.nonempty_collections.specs.Divisions.{IsDivision, by_first, by_previous}
+use Rattle.nonempty_collections.specs.KeyList.{key_list}
 use Rattle.ne_runs.specs.Modes.{AreRows, ends_of, is_even, is_near}
 use Rattle.ne_runs.specs.declared.mode.Mode.{Mode}
 use Rattle.ne_runs.specs.declared.mode.Mode.TheVariants.{Ends, Stats, Equal, Parity, Distinct, Near}

@@ -8,8 +8,8 @@ use Rattle.std.specs.List.{flat_map, join_with_byte}
 use Rattle.std.specs.Fmt.{decimal}
 use Rattle.std.specs.Int.{abs_diff}
 use Rattle.std.specs.Str.{bytes_eq}
-use Rattle.ne_vec.specs.Divisions.{IsDivision, by_first, by_previous}
-use Rattle.ne_iter.specs.KeyList.{key_list}
+use Rattle.nonempty_collections.specs.Divisions.{IsDivision, by_first, by_previous}
+use Rattle.nonempty_collections.specs.KeyList.{key_list}
 use Rattle.ne_runs.specs.declared.mode.Mode.{Mode}
 use Rattle.ne_runs.specs.declared.mode.Mode.TheVariants.{Ends, Stats, Equal, Parity, Distinct, Near}
 use Rattle.ne_runs.specs.declared.mode.Mode.TheVariants.{Chain}

@@ -5,8 +5,8 @@ ghost use Rattle.std.specs.Prelude.{◌≡◌, ◌^◌, ◌<◌, ◌∷◌, ◌+
 ghost use Rattle.std.specs.Prelude.{Bool, length, sum, true};
 ghost use Rattle.std.specs.Iterator.{IsFiniteIterable};
 ghost use Rattle.std.specs.List.{flat_map};
-ghost use Rattle.ne_vec.specs.Divisions.{by_first, by_previous};
-ghost use Rattle.ne_vec.specs.SliceRuns.{ActsAsAtPair};
+ghost use Rattle.nonempty_collections.specs.Divisions.{by_first, by_previous};
+ghost use Rattle.nonempty_collections.specs.SliceRuns.{ActsAsAtPair, CallableAtPairs};
 ghost use Rattle.ne_runs.specs.Modes.{row_text, AreRows, HasRowOfEachRun, IsText, IsLeast};
 ghost use Rattle.ne_runs.specs.Modes.{IsGreatest};
 ghost use Rattle.ne_runs.specs.declared.mode.Mode.{Mode};
@@ -122,7 +122,7 @@ fn text_by_first<F: Fn(&u32, &u32) -> bool>(
     numbers: &NEVec<u32>,
     same: F,
 ) -> Result<String, AllocError>
-    requires { F.IsAlwaysCallable same }
+    requires { CallableAtPairs F.Fn same numbers.now }
     ensures { IfOk result (λ text. (h : ℕ → ℕ → Bool) → ActsAsAtPair F.Fn same h
         → HasRowOfEachRun (by_first h) numbers.now (string_bytes text)) }
 {
@@ -137,7 +137,7 @@ fn text_by_previous<F: Fn(&u32, &u32) -> bool>(
     numbers: &NEVec<u32>,
     same: F,
 ) -> Result<String, AllocError>
-    requires { F.IsAlwaysCallable same }
+    requires { CallableAtPairs F.Fn same numbers.now }
     ensures { IfOk result (λ text. (h : ℕ → ℕ → Bool) → ActsAsAtPair F.Fn same h
         → HasRowOfEachRun (by_previous h) numbers.now (string_bytes text)) }
 {

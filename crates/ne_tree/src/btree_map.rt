@@ -103,13 +103,11 @@ impl<K: Ord, V> NEBTreeMap<K, V> {
     /// let none = NEBTreeMap::try_from_map(empty); // None
     /// ```
     pub fn try_from_map(map: BTreeMap<K, V>) -> Option<Self>
-    where
-        K: Drop,
-        V: Drop,
         ensures { MatchOption result (IsEmpty map) (λ m. (m ≡ map) × IsOrdered K.cmp m
             × (0 < btree_map_len m)) }
     {
         if map.is_empty() {
+            map.destroy_empty();
             None
         } else {
             // The contract of `len` says that the keys ascend.

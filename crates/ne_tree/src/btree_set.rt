@@ -142,12 +142,11 @@ impl<T: Ord> NEBTreeSet<T> {
     /// let none = NEBTreeSet::try_from_set(empty); // None
     /// ```
     pub fn try_from_set(set: BTreeSet<T>) -> Option<Self>
-    where
-        T: Drop,
         ensures { MatchOption result (IsEmpty set) (λ s. (s ≡ set) × IsOrdered T.cmp s
             × (0 < btree_set_len s)) }
     {
         if set.is_empty() {
+            set.destroy_empty();
             None
         } else {
             // The contract of `len` says that the items ascend.

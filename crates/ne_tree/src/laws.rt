@@ -1,8 +1,8 @@
 //! Laws of tree maps and sets. Each law is the contract of a function that does nothing. A caller
 //! calls the function to use what it ensures.
-ghost use Rattle.std.specs.Prelude.{◌≡◌, ◌↔◌, List, Ok, Result};
-ghost use Rattle.std.specs.BTreeMap.{BTreeMap as Entries, get};
-ghost use Rattle.std.specs.BTreeSet.{BTreeSet as Keys, IsSameSet};
+ghost use Rattle.std.specs.Prelude.{◌≡◌, ◌↔◌, List, Option, Some, MatchOption, Ok, Result};
+ghost use Rattle.std.specs.BTreeMap.{BTreeMap as Entries, IsEmpty as HasNoEntry, get};
+ghost use Rattle.std.specs.BTreeSet.{BTreeSet as Keys, IsEmpty as HasNoKey, IsSameSet};
 ghost use Rattle.ne_vec.specs.declared.Error.{Error};
 ghost use Rattle.ne_iter.specs.SameMap.{IsSameMap};
 
@@ -10,19 +10,25 @@ use crate::{NEBTreeMap, NEBTreeSet};
 use ne_iter::{FromNonEmptyIterator, Singleton};
 use std::collections::{BTreeMap, BTreeSet};
 
-/// A map that is converted into std's map and back is the same map, and the conversion back never
-/// fails.
-pub fn maps_come_back<K: Ord + Drop, V: Drop>()
-    ensures { (m inner : Entries K V) (r : Result (Entries K V) Error)
+/// A map that is converted into std's map and back, by `try_from` or `try_from_map`, is the same
+/// map, and the conversion back never fails.
+pub fn maps_come_back<K: Ord, V>()
+    ensures by_try_from_map { (m inner : Entries K V) (r : Option (Entries K V))
+        → ⟦<BTreeMap<K, V> as From<NEBTreeMap<K, V>>>⟧.from_gives m inner
+        → MatchOption r (HasNoEntry inner) (λ n. n ≡ inner) → r ≡ Some m }
+    ensures by_try_from { (m inner : Entries K V) (r : Result (Entries K V) Error)
         → ⟦<BTreeMap<K, V> as From<NEBTreeMap<K, V>>>⟧.from_gives m inner
         → ⟦<NEBTreeMap<K, V> as TryFrom<BTreeMap<K, V>>>⟧.try_from_gives inner r
         → r ≡ Ok m }
 {}
 
-/// A set that is converted into std's set and back is the same set, and the conversion back never
-/// fails.
-pub fn sets_come_back<T: Ord + Drop>()
-    ensures { (s inner : Keys T) (r : Result (Keys T) Error)
+/// A set that is converted into std's set and back, by `try_from` or `try_from_set`, is the same
+/// set, and the conversion back never fails.
+pub fn sets_come_back<T: Ord>()
+    ensures by_try_from_set { (s inner : Keys T) (r : Option (Keys T))
+        → ⟦<BTreeSet<T> as From<NEBTreeSet<T>>>⟧.from_gives s inner
+        → MatchOption r (HasNoKey inner) (λ t. t ≡ inner) → r ≡ Some s }
+    ensures by_try_from { (s inner : Keys T) (r : Result (Keys T) Error)
         → ⟦<BTreeSet<T> as From<NEBTreeSet<T>>>⟧.from_gives s inner
         → ⟦<NEBTreeSet<T> as TryFrom<BTreeSet<T>>>⟧.try_from_gives inner r
         → r ≡ Ok s }

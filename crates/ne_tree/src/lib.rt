@@ -12,7 +12,6 @@
 pub mod btree_map;
 pub mod btree_set;
 pub mod laws;
-mod macros;
 
 pub use btree_map::NEBTreeMap;
 pub use btree_set::NEBTreeSet;

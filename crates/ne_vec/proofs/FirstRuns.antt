@@ -2,12 +2,14 @@
 use Rattle.std.proofs.Common.{◌≡◌, ◌≢◌, ℕ, zero, suc, ◌+◌, ◌-◌, ◌<◌, ◌≤◌, Bool, true, false, List}
 use Rattle.std.proofs.Common.{[], ◌∷◌, ◌++◌, length, take, drop, refl, sym, ap, subst, ◌∙◌, arith}
 use Rattle.std.proofs.lemmas.List.{drop_all}
-use Rattle.std.specs.Prelude.{Some, slice_get}
+use Rattle.std.proofs.lemmas.List.Elements.{All-drop}
+use Rattle.std.specs.Prelude.{All, Some, slice_get, slice_index_or}
 use Rattle.std.specs.Borrow.{Bor}
 use Rattle.std.specs.Fn.{Shared}
 use Rattle.std.specs.Iterator.{Yields}
 use Rattle.ne_vec.specs.Divisions.{Adjacent, IsRun, Breaks, IsDivision, by_first, by_previous}
-use Rattle.ne_vec.specs.SliceRuns.{Cutting, ActsAsAtPair, CutsRun, IsFirstRun}
+use Rattle.ne_vec.specs.SliceRuns.{Cutting, ActsAsAtPair, CallableAtPairs, CutsRun, IsFirstRun}
+use Rattle.ne_vec.specs.SliceRuns.{TakesPair}
 use Rattle.ne_vec.proofs.Divisions.{run_one, run_more}
 
 -- the item at place n is the last of the first n + 1 items
@@ -23,6 +25,14 @@ drop_at : {A : Type 0} (xs : List A) (n : ℕ) (x : A)
 drop_at [] n x e = let e = e in cc
 drop_at (y ∷ xs) zero x e = (xs, let e = e in cc)
 drop_at (y ∷ xs) (suc n) x e = drop_at xs n x e
+
+module _ {A F : Type 0} (calls : Shared F (Bor A × (Bor A × Unit {0})) Bool) where
+  -- a closure that may be called with any two items may be so with any two that remain
+  pub callable_later : (f : F) (xs : List A) (n : ℕ)
+      → CallableAtPairs calls f xs → CallableAtPairs calls f (drop n xs)
+  callable_later f xs n callable =
+      All-drop (λ x. All (TakesPair calls f x) (drop n xs)) n xs (λ k d inside.
+          All-drop (TakesPair calls f (slice_index_or xs k d)) n xs (callable k d inside))
 
 pub front_is_some : {A : Type 0} (xs : List A) (n : ℕ) → 0 < n → n ≤ length xs → take n xs ≢ []
 front_is_some xs zero some within = absurd (omega (arith, some))

@@ -8,5 +8,4 @@ pub mod Chunked
 pub mod Compared
 pub mod MappedRuns
 pub mod FirstRuns
-pub mod RunFronts
 pub mod PartLists

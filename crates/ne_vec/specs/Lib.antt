@@ -7,6 +7,7 @@ pub mod Searches
 pub mod Chunks
 pub mod Lists
 pub mod ListLaws
+pub mod RunLaws
 pub mod Clones
 pub mod Iterators
 pub mod IteratorLaws

@@ -1,6 +1,6 @@
 -- The runs of a slice, taken one after another from its front, as a closure compares the items.
 use Rattle.std.specs.Prelude.{◌≡◌, ◌≢◌, ℕ, ◌<◌, length, Bool, List, [], ◌++◌, take, drop, Option}
-use Rattle.std.specs.Prelude.{MatchOption}
+use Rattle.std.specs.Prelude.{MatchOption, All}
 use Rattle.std.specs.Borrow.{Bor}
 use Rattle.std.specs.Fn.{Shared, FnReturnsAtPair}
 use Rattle.ne_vec.specs.Divisions.{IsRun, Breaks, runs_of}
@@ -19,6 +19,14 @@ module _ {A F : Type 0} (calls : Shared F (Bor A × (Bor A × Unit {0})) Bool) w
   -- each call of f with references to x and y returns same x y
   abbrev pub ActsAsAtPair : F → (A → A → Bool) → Type 0
   ActsAsAtPair f same = (x y : A) (r : Bool) → FnReturnsAtPair calls f x y r → r ≡ same x y
+
+  -- f may be called with references to x and y
+  abbrev pub TakesPair : F → A → A → Type 0
+  TakesPair f x y = (v w : Bor A) → v.now ≡ x → w.now ≡ y → calls.pre f (v, (w, tt))
+
+  -- f may be called with any two items of xs
+  abbrev pub CallableAtPairs : F → List A → Type 0
+  CallableAtPairs f xs = All (λ x. All (TakesPair f x) xs) xs
 
   -- `place` is `by_first` or `by_previous`: it turns the test of two items into whether an item
   -- continues a run. What is taken is not empty. If the closure acts as a test of two items, it is

@@ -1,12 +1,14 @@
 //! Laws about the definitions that the contracts use. Each law is the contract of a function that
 //! does nothing.
 ghost use Rattle.std.specs.Prelude.{◌≡◌, ◌≢◌, ◌<◌, ◌≤◌, ◌↔◌, ◌*◌, ℕ, Bool, true, false, List, []};
-ghost use Rattle.std.specs.Prelude.{◌∷◌, ◌++◌, length, map, take, drop, slice_get, Some};
+ghost use Rattle.std.specs.Prelude.{◌∷◌, ◌++◌, length, map, take, drop, slice_get, Option, Some};
+ghost use Rattle.std.specs.Prelude.{MatchOption, Ok, Result};
 ghost use Rattle.std.specs.List.{AllByRecursion, AllZip};
 ghost use Rattle.std.specs.Cmp.{IsPartialEquivalence};
 ghost use Rattle.std.specs.Cmp.Lexicographic.{pointwise, slice_cmp, slice_partial_cmp};
 ghost use Rattle.std.specs.declared.cmp.Ordering.TheVariants.{Less, Equal, Greater};
 ghost use Rattle.std.specs.Iterator.{Yields};
+ghost use Rattle.ne_vec.specs.declared.Error.{Error};
 ghost use Rattle.ne_vec.specs.Divisions.{IsDivision, by_first, by_previous, concat, heads, runs_of};
 ghost use Rattle.ne_vec.specs.Kept.{KeepsFirsts};
 ghost use Rattle.ne_vec.specs.Searches.{CallableAtItems};
@@ -101,6 +103,17 @@ pub fn chunks_make_the_whole<T>()
     ensures sizes { (size : ℕ) (xs : List T) (front : List (List T)) (last : List T) → 0 < size
         → chunks size xs ≡ front ++ last ∷ [] → AllByRecursion (λ c. length c ≡ size) front
         × (0 < length last) × (length last ≤ size) }
+{}
+
+/// A vector that is converted into a `Vec` and back, by `try_from` or `try_from_vec`, is the same
+/// vector, and the conversion back never fails.
+pub fn vectors_come_back<T>()
+    ensures by_try_from_vec { (v : List T) (inner : _) (r : Option (List T))
+        → ⟦<Vec<T> as From<NEVec<T>>>⟧.from_gives v inner
+        → MatchOption r (inner.items ≡ []) (λ w. w ≡ inner.items) → r ≡ Some v }
+    ensures by_try_from { (v : List T) (inner : _) (r : Result (List T) Error)
+        → ⟦<Vec<T> as From<NEVec<T>>>⟧.from_gives v inner
+        → ⟦<NEVec<T> as TryFrom<Vec<T>>>⟧.try_from_gives inner r → r ≡ Ok v }
 {}
 
 /// Vectors compare as their lists do, item by item, and equal vectors have equal hashes.

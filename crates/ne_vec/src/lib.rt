@@ -8,7 +8,6 @@
 #![tactic(auto)]
 
 pub mod laws;
-mod macros;
 pub mod slice;
 pub mod vector;
 

@@ -50,7 +50,7 @@ impl<'a, T> NESlice<'a, T> {
     ghost use Rattle.ne_vec.specs.Iterators.{IteratesOver, ListsItems};
     ghost use Rattle.ne_vec.specs.Chunks.{chunks, ChunksGive};
     ghost use Rattle.ne_vec.specs.Divisions.{by_first, by_previous};
-    ghost use Rattle.ne_vec.specs.SliceRuns.{RunsGive};
+    ghost use Rattle.ne_vec.specs.SliceRuns.{CallableAtPairs, RunsGive};
 
     /// Returns the first item.
     ///
@@ -174,7 +174,7 @@ impl<'a, T> NESlice<'a, T> {
     /// ```
     pub fn runs_by<F: Fn(&T, &T) -> bool>(&'a self, same: F) -> SliceRuns<'a, T, F>
         ensures holds { result ≡ record { left = self.now; closure = same } }
-        ensures ends { F.IsAlwaysCallable same
+        ensures ends { CallableAtPairs F.Fn same self.now
             → IsFiniteIterable (⟦<SliceRuns<'a, T, F> as IntoIterator>⟧.into_iter_gives)
             (⟦<SliceRunsIter<'a, T, F> as Iterator>⟧.can_next)
             (⟦<SliceRunsIter<'a, T, F> as Iterator>⟧.remaining) result }
@@ -203,7 +203,7 @@ impl<'a, T> NESlice<'a, T> {
     /// ```
     pub fn adjacent_runs<F: Fn(&T, &T) -> bool>(&'a self, same: F) -> AdjacentRuns<'a, T, F>
         ensures holds { result ≡ record { left = self.now; closure = same } }
-        ensures ends { F.IsAlwaysCallable same
+        ensures ends { CallableAtPairs F.Fn same self.now
             → IsFiniteIterable (⟦<AdjacentRuns<'a, T, F> as IntoIterator>⟧.into_iter_gives)
             (⟦<AdjacentRunsIter<'a, T, F> as Iterator>⟧.can_next)
             (⟦<AdjacentRunsIter<'a, T, F> as Iterator>⟧.remaining) result }

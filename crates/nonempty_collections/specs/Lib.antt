@@ -3,6 +3,7 @@
 pub use Rattle.ne_vec.specs.Chunks
 pub use Rattle.ne_vec.specs.Divisions
 pub use Rattle.ne_vec.specs.Lists
+pub use Rattle.ne_vec.specs.ListLaws
 pub use Rattle.ne_vec.specs.Kept
 pub use Rattle.ne_vec.specs.KeyOrder
 pub use Rattle.ne_vec.specs.SliceRuns

@@ -20,8 +20,9 @@ pub use ne_hash::laws::{
 };
 pub use ne_index::laws::{
     index_map_equality_is_reflexive, index_map_equality_is_symmetric_and_transitive,
-    index_maps_one_by_one_are_collected, index_set_equality_is_an_equivalence,
-    index_sets_come_back, index_sets_one_by_one_are_collected, key_lists_are_sets_in_order,
+    index_maps_come_back, index_maps_one_by_one_are_collected,
+    index_set_equality_is_an_equivalence, index_sets_come_back,
+    index_sets_one_by_one_are_collected, key_lists_are_sets_in_order,
 };
 pub use ne_iter::laws::{
     always_callable_is_callable_on_all_items, arrays_give_their_items, calls_of_a_function,
@@ -36,7 +37,8 @@ pub use ne_iter::laws::{
     whole_reading_gives_the_division, zip_ends,
 };
 pub use ne_products::laws::{
-    cartesian_product_ends, either_ends, list_of_cartesian_product, products_have_their_places,
+    cartesian_product_ends, either_ends, either_gives_its_side, list_of_cartesian_product,
+    products_have_their_places,
 };
 pub use ne_tree::laws::{
     map_equality_is_reflexive, map_equality_is_symmetric_and_transitive, maps_come_back,
@@ -49,5 +51,5 @@ pub use ne_vec::laws::{
     has_one_division, lists_are_in_lexicographic_order, longer_list_keeps_runs,
     mapped_list_has_the_mapped_runs, one_item_more, partial_ties_are_passed_over,
     runs_taken_are_the_first_runs, slices_compare_as_lists, ties_are_passed_over,
-    vectors_compare_as_lists,
+    vectors_come_back, vectors_compare_as_lists,
 };

@@ -9,13 +9,14 @@
 pub mod either;
 pub mod itertools;
 pub mod laws;
+mod macros;
 
-pub use ne_hash::{NEMap, NESet, map, nem, nes, set};
-pub use ne_index::{NEIndexMap, NEIndexSet, index_map, index_set, ne_indexmap, neim, neis};
+pub use ne_hash::{NEMap, NESet, map, set};
+pub use ne_index::{NEIndexMap, NEIndexSet, index_map, index_set};
 pub use ne_iter::{
     ArrayNonEmptyIterator, Error, FromNonEmptyIterator, IntoIteratorExt, IntoNonEmptyIterator,
     NonEmptyArrayExt, NonEmptyIterator, Singleton, array, iter,
 };
 pub use ne_products::{NEEither, NonEmptyItertools};
-pub use ne_tree::{NEBTreeMap, NEBTreeSet, btree_map, btree_set, nebtm, nebts};
-pub use ne_vec::{NESlice, NEVec, nev, slice, vector};
+pub use ne_tree::{NEBTreeMap, NEBTreeSet, btree_map, btree_set};
+pub use ne_vec::{NESlice, NEVec, slice, vector};

@@ -1,6 +1,6 @@
 //! The input of the workloads: numbers of a linear congruential generator, and pairs of them.
 
-use ne_vec::NEVec;
+use nonempty_collections::NEVec;
 use std::alloc::{AllocError, Global};
 use std::num::NonZeroUsize;
 

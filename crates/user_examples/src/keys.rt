@@ -1,6 +1,6 @@
 //! The examples of collecting std's maps and sets.
 ghost use Rattle.std.specs.Prelude.{◌≡◌, ◌/◌, ◌∷◌, [], List, ℕ, IfOk, Some, map, nat_eq};
-ghost use Rattle.ne_iter.specs.Collected.{IsMapOf, IsSetOf, last_value};
+ghost use Rattle.nonempty_collections.specs.Collected.{IsMapOf, IsSetOf, last_value};
 
 use nonempty_collections::{IntoNonEmptyIterator, NonEmptyIterator, nev};
 use std::alloc::{AllocError, Global};

@@ -7,9 +7,9 @@ ghost use Rattle.std.specs.Prelude.{None, Ok, Some, false, true, map, filter, fo
 ghost use Rattle.std.specs.Bool.{then_some};
 ghost use Rattle.std.specs.List.{scan, filter_map, flat_map, prefix_len, reduce, take_while, zip};
 ghost use Rattle.std.specs.Ordering.{nat_cmp};
-ghost use Rattle.ne_iter.specs.Intersperse.{interspersed};
-ghost use Rattle.ne_vec.specs.KeyOrder.{KeysAscend};
-ghost use Rattle.ne_iter.specs.Keys.{IsDividedBy};
+ghost use Rattle.nonempty_collections.specs.Intersperse.{interspersed};
+ghost use Rattle.nonempty_collections.specs.KeyOrder.{KeysAscend};
+ghost use Rattle.nonempty_collections.specs.Keys.{IsDividedBy};
 
 use nonempty_collections::{IntoNonEmptyIterator, NEVec, NonEmptyIterator, nev};
 use std::alloc::{AllocError, Global};

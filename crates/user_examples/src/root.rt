@@ -1,8 +1,7 @@
 //! The examples of the root of `ne_vec`.
 ghost use Rattle.std.specs.Prelude.{◌≡◌, ◌∷◌, [], ◌++◌, List, ℕ, Err, IfOk};
 
-use ne_vec::Error;
-use nonempty_collections::{NEVec, Singleton};
+use nonempty_collections::{Error, NEVec, Singleton};
 use std::alloc::{AllocError, Global};
 
 /// By hand. A conversion of an empty vector returns the error `Empty`.

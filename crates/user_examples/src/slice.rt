@@ -1,7 +1,7 @@
 //! The examples of the slice, written by `.ci/examples --write`.
 ghost use Rattle.std.specs.Prelude.{◌≡◌, ◌∷◌, [], List, ℕ, IfOk, true, length, ltb, map};
 ghost use Rattle.std.specs.Int.{abs_diff};
-ghost use Rattle.ne_vec.specs.Divisions.{by_first, by_previous, runs_of};
+ghost use Rattle.nonempty_collections.specs.Divisions.{by_first, by_previous, runs_of};
 
 use nonempty_collections::{NESlice, NEVec, NonEmptyIterator, nev};
 use std::alloc::{AllocError, Global};

@@ -1,8 +1,7 @@
 //! The examples of the vector's conversions and indices, written by `.ci/examples --write`.
 ghost use Rattle.std.specs.Prelude.{◌≡◌, ◌∷◌, [], IfOk, Ok};
 
-use ne_vec::Error;
-use nonempty_collections::{NEVec, nev};
+use nonempty_collections::{Error, NEVec, nev};
 use std::alloc::{AllocError, Global};
 
 /// The example of `from`.

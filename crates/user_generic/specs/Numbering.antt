@@ -2,7 +2,7 @@
 use Rattle.std.specs.Prelude.{◌≡◌, ◌≤◌, ℕ, Bool, ◌||◌, ◌&&◌, ltb, List, ◌++◌, length}
 use Rattle.std.specs.Fn.{Mut}
 use Rattle.std.specs.List.{enumerate_from}
-use Rattle.ne_iter.specs.Calls.{Calls}
+use Rattle.nonempty_collections.specs.Calls.{Calls}
 
 -- The items are at most n, each with its index. If they are fewer and c is complete, both sources
 -- have ended.

@@ -1,7 +1,7 @@
 -- What the chain into two collections makes.
 use Rattle.std.specs.Prelude.{◌≡◌, ◌≤◌, ◌<◌, ℕ, Bool, ◌||◌, List, length, IsTrue}
 use Rattle.std.specs.Fn.{Mut}
-use Rattle.ne_iter.specs.Calls.{Calls}
+use Rattle.nonempty_collections.specs.Calls.{Calls}
 
 -- The items are at most n. If they are fewer, one of the two sources has ended.
 -- r is made of what f returns for the source's items, and of as many items of the other source.

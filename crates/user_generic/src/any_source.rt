@@ -3,7 +3,7 @@
 ghost use Rattle.std.specs.Prelude.{◌≡◌, ◌/◌, ◌++◌, ◌≤◌, ℕ, List, IfOk, ltb, map, filter, take};
 ghost use Rattle.std.specs.Int.NonZero.{non_zero_usize_get};
 ghost use Rattle.std.specs.List.{All, Contains};
-ghost use Rattle.ne_vec.specs.Lists.{Listed};
+ghost use Rattle.nonempty_collections.specs.Lists.{Listed};
 
 use nonempty_collections::NEVec;
 use nonempty_collections::iter::{NonEmptyIterator, Source};

@@ -15,6 +15,7 @@ mod over_a_stack;
 mod own_maps;
 mod own_sources;
 mod runs;
+mod sides;
 mod two_collections;
 mod vector_calls;
 pub mod vectors;
@@ -30,6 +31,7 @@ pub use over_a_stack::{all_below_ten, second_parts};
 pub use own_maps::PairMap;
 pub use own_sources::{Boxed, Countdown, CountdownIter, Stack, StackIntoIter, StackIter, Start};
 pub use runs::{first_runs, run_lengths, runs_of_answers};
+pub use sides::mapped_side;
 pub use two_collections::parted;
 pub use vector_calls::{
     any_calls_on_a_vector, no_calls_on_a_vector, pop_the_only_item, push_and_pop, push_and_reverse,

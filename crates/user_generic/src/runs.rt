@@ -2,9 +2,9 @@
 ghost use Rattle.std.specs.Prelude.{◌≡◌, ◌≤◌, Bool, List, ltb, length, map, IfOk};
 ghost use Rattle.std.specs.Iterator.{IsFiniteIterable, CallableOnAll};
 ghost use Rattle.std.specs.Int.NonZero.{non_zero_usize_get};
-ghost use Rattle.ne_vec.specs.Divisions.{IsDivision, by_previous};
-ghost use Rattle.ne_vec.specs.SliceRuns.{ActsAsAtPair};
-ghost use Rattle.ne_iter.specs.GroupBy.{HasRuns};
+ghost use Rattle.nonempty_collections.specs.Divisions.{IsDivision, by_previous};
+ghost use Rattle.nonempty_collections.specs.SliceRuns.{ActsAsAtPair, CallableAtPairs};
+ghost use Rattle.nonempty_collections.specs.GroupBy.{HasRuns};
 ghost use Rattle.user_generic.specs.RunsOfAnswers.{AreRunsOfAnswers};
 
 use nonempty_collections::iter::{Map, NEGroupBy, NonEmptyIterator, Source, Take};
@@ -69,7 +69,7 @@ pub fn run_lengths<T, F: Fn(&T, &T) -> bool + Drop>(
     items: &NESlice<'_, T>,
     same: F,
 ) -> Result<NEVec<usize>, AllocError>
-    requires { F.IsAlwaysCallable same }
+    requires { CallableAtPairs F.Fn same items.now }
     ensures { IfOk result (λ v. (test : T → T → Bool) → ActsAsAtPair F.Fn same test
         → (rs : List (List T)) × IsDivision (by_previous test) items.now rs
         × (v ≡ map length rs)) }

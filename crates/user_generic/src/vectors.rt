@@ -9,10 +9,11 @@ ghost use Rattle.std.specs.List.{AllZip};
 ghost use Rattle.std.specs.List.Sorted.{IsSearchInRange};
 ghost use Rattle.std.specs.NonZero.{non_zero_usize_get};
 ghost use Rattle.std.specs.declared.cmp.Ordering.TheVariants.{Equal, Greater};
-ghost use Rattle.ne_vec.specs.Chunks.{chunks};
-ghost use Rattle.ne_vec.specs.Kept.{KeepsFirsts};
+ghost use Rattle.nonempty_collections.specs.Chunks.{chunks};
+ghost use Rattle.nonempty_collections.specs.Kept.{KeepsFirsts};
+ghost use Rattle.nonempty_collections.specs.SliceRuns.{CallableAtPairs};
 
-use ne_vec::laws::always_callable_is_callable_at_items;
+use nonempty_collections::laws::always_callable_is_callable_at_items;
 use nonempty_collections::{NESlice, NEVec, Singleton, nev};
 use std::alloc::{AllocError, Global};
 use std::cmp::Ordering;
@@ -239,7 +240,7 @@ pub fn first_run_of_slice<'a, T, F: Fn(&T, &T) -> bool + Drop>(
     items: &'a NESlice<'a, T>,
     same: F,
 ) -> NESlice<'a, T>
-    requires { F.IsAlwaysCallable same }
+    requires { CallableAtPairs F.Fn same items.now }
     ensures { (rest : List T) × (items.now ≡ result ++ rest) }
 {
     items.runs_by(same).into_iter().next().unwrap()

@@ -4,7 +4,7 @@
 ghost use Rattle.std.specs.Prelude.{◌≡◌, ◌/◌, ◌≤◌, ◌++◌, List, ℕ, filter, map, take, IfOk, ltb};
 ghost use Rattle.std.specs.List.{All, Contains, enumerate_from};
 ghost use Rattle.std.specs.Int.NonZero.{non_zero_usize_get};
-ghost use Rattle.ne_vec.specs.Lists.{Listed};
+ghost use Rattle.nonempty_collections.specs.Lists.{Listed};
 
 use nonempty_collections::iter::Source;
 use nonempty_collections::{IntoNonEmptyIterator, NEVec, NonEmptyIterator};

@@ -7,8 +7,8 @@ ghost use lib.Ieee as Ieee;
 ghost use lib.Ieee.{binary64};
 ghost use Rattle.std.specs.Int.NonZero.{non_zero_usize_get};
 ghost use Rattle.std.specs.Ordering.{nat_cmp};
-ghost use Rattle.ne_iter.specs.Collected.{IsSetOf, values_or_first_err};
-ghost use Rattle.ne_vec.specs.KeyOrder.{KeepsTies, KeysAscend};
+ghost use Rattle.nonempty_collections.specs.Collected.{IsSetOf, values_or_first_err};
+ghost use Rattle.nonempty_collections.specs.KeyOrder.{KeepsTies, KeysAscend};
 
 use nonempty_collections::{IntoNonEmptyIterator, NEVec, NonEmptyIterator};
 use std::alloc::{AllocError, Global};

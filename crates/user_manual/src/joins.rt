@@ -4,7 +4,7 @@
 ghost use Rattle.std.specs.Prelude.{◌≡◌, ◌++◌, take, map, nat_eq, cond, IfOk, string_bytes};
 ghost use Rattle.std.specs.Int.NonZero.{non_zero_usize_get};
 ghost use Rattle.std.specs.List.{join_by};
-ghost use Rattle.ne_iter.specs.Intersperse.{interspersed};
+ghost use Rattle.nonempty_collections.specs.Intersperse.{interspersed};
 
 use nonempty_collections::{IntoNonEmptyIterator, NEVec, NonEmptyIterator};
 use std::alloc::{AllocError, Global};

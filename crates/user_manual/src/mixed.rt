@@ -3,7 +3,7 @@ ghost use Rattle.std.specs.Prelude.{◌≡◌, ◌/◌, ◌+◌, ◌++◌, ◌�
 ghost use Rattle.std.specs.Prelude.{IfOk, ltb};
 ghost use Rattle.std.specs.List.{enumerate_from, flat_map, zip};
 ghost use Rattle.std.specs.Int.NonZero.{non_zero_usize_get};
-ghost use Rattle.ne_iter.specs.Collected.{IsMapOf};
+ghost use Rattle.nonempty_collections.specs.Collected.{IsMapOf};
 
 use nonempty_collections::{IntoNonEmptyIterator, NESlice, NEVec, NonEmptyIterator};
 use std::alloc::{AllocError, Global};

@@ -2,7 +2,7 @@
 ghost use Rattle.std.specs.Prelude.{◌≡◌, ◌<◌, ◌^◌, length, map, take, IfOk};
 ghost use Rattle.std.specs.List.{enumerate_from};
 ghost use Rattle.std.specs.Int.NonZero.{non_zero_usize_get};
-ghost use Rattle.ne_vec.specs.Chunks.{chunks};
+ghost use Rattle.nonempty_collections.specs.Chunks.{chunks};
 
 use nonempty_collections::{NESlice, NEVec, NonEmptyIterator};
 use std::alloc::{AllocError, Global};

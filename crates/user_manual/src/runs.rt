@@ -1,7 +1,7 @@
 //! Runs of items by a key, and of a slice by a test of two items.
-ghost use Rattle.std.specs.Prelude.{◌≡◌, ◌/◌, length, ltb, map, nat_eq, true, IfOk};
-ghost use Rattle.ne_vec.specs.Divisions.{by_first, by_previous, runs_of};
-ghost use Rattle.ne_iter.specs.Keys.{IsDividedBy};
+ghost use Rattle.std.specs.Prelude.{◌≡◌, ◌<◌, ◌/◌, length, ltb, map, nat_eq, true, All, IfOk};
+ghost use Rattle.nonempty_collections.specs.Divisions.{by_first, by_previous, runs_of};
+ghost use Rattle.nonempty_collections.specs.Keys.{IsDividedBy};
 
 use nonempty_collections::{IntoNonEmptyIterator, NESlice, NEVec, NonEmptyIterator};
 use std::alloc::{AllocError, Global};
@@ -29,6 +29,22 @@ pub fn lengths_above_first(
 {
     items
         .runs_by(|x, y| *x < *y)
+        .map(|run| run.len().get())
+        .collect(alloc)
+}
+
+/// Returns the lengths of the runs in which each further item has the quotient of the run's first
+/// one. The closure, which divides by the items, may be called with these alone.
+pub fn lengths_of_quotients(
+    alloc: Global,
+    items: NESlice<'_, u32>,
+) -> Result<NEVec<usize>, AllocError>
+    requires { All (λ x. 0 < x) items }
+    ensures { IfOk result (λ v. v ≡ map (λ run. length run)
+        (runs_of by_first (λ x y. nat_eq (1000 / x) (1000 / y)) items.entry)) }
+{
+    items
+        .runs_by(|x, y| 1000 / *x == 1000 / *y)
         .map(|run| run.len().get())
         .collect(alloc)
 }

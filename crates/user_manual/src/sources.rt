@@ -1,10 +1,10 @@
 //! Kinds of source, collected. Only `pairs_of_any_sources`, which is generic in its sources, calls
 //! a law and has a stored proof.
 ghost use Rattle.std.specs.Prelude.{◌≡◌, ◌/◌, ℕ, List, IfOk, Ok, map};
-ghost use Rattle.ne_iter.specs.Sources.{ReadsList};
-ghost use Rattle.ne_products.specs.Pairs.{cartesian_product};
-ghost use Rattle.ne_products.specs.Restarts.{ClonesAgain, NeverRefuses};
-ghost use Rattle.ne_products.specs.Sides.{by_side};
+ghost use Rattle.nonempty_collections.specs.Sources.{ReadsList};
+ghost use Rattle.nonempty_collections.specs.Pairs.{cartesian_product};
+ghost use Rattle.nonempty_collections.specs.Restarts.{ClonesAgain, NeverRefuses};
+ghost use Rattle.nonempty_collections.specs.Sides.{by_side};
 
 use nonempty_collections::iter::Source;
 use nonempty_collections::{

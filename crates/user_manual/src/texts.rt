@@ -10,9 +10,9 @@ ghost use Rattle.std.specs.List.{reduce as list_reduce, filter_map};
 ghost use Rattle.std.specs.Cmp.Lexicographic.{pointwise, slice_cmp};
 ghost use Rattle.std.specs.Ordering.{is_lt, nat_cmp};
 ghost use Rattle.std.specs.String.{string_bytes};
-ghost use Rattle.ne_iter.specs.Collected.{IsMapOf, IsSetOf, values_or_first_err};
-ghost use Rattle.ne_vec.specs.KeyOrder.{KeepsTies, KeysAscend};
-ghost use Rattle.ne_iter.specs.Keys.{IsDividedBy};
+ghost use Rattle.nonempty_collections.specs.Collected.{IsMapOf, IsSetOf, values_or_first_err};
+ghost use Rattle.nonempty_collections.specs.KeyOrder.{KeepsTies, KeysAscend};
+ghost use Rattle.nonempty_collections.specs.Keys.{IsDividedBy};
 
 use nonempty_collections::{IntoIteratorExt, IntoNonEmptyIterator, NEVec, NonEmptyIterator, iter};
 use std::alloc::{AllocError, Global};

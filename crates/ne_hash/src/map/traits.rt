@@ -71,8 +71,7 @@ impl<K: Eq + Hash, V, S: BuildHasher> From<NEMap<K, V, S>> for HashMap<K, V, S> 
 /// Converts a map as `try_from_map` does, and returns `Error::Empty` if and only if `map` is empty.
 /// It does not allocate and keeps the hasher; the Rust crate collects the pairs into a new map with
 /// a default hasher.
-impl<K: Eq + Hash + Drop, V: Drop, S: BuildHasher + Drop> TryFrom<HashMap<K, V, S>>
-    for NEMap<K, V, S> {
+impl<K: Eq + Hash, V, S: BuildHasher + Drop> TryFrom<HashMap<K, V, S>> for NEMap<K, V, S> {
     ghost use Rattle.std.specs.Prelude.{Result};
 
     type Error = Error;

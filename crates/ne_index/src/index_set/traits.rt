@@ -101,7 +101,7 @@ impl<T: Eq + Hash + Debug, S: BuildHasher> Debug for NEIndexSet<T, S> {
 /// Converts a set as `try_from_set` does, and returns `Error::Empty` if and only if `set` is empty.
 /// It does not allocate and keeps the hasher; the Rust crate collects the items into a new set with
 /// a new hasher.
-impl<T: Eq + Hash + Drop, S: BuildHasher + Drop> TryFrom<IndexSet<T, S>> for NEIndexSet<T, S> {
+impl<T: Eq + Hash, S: BuildHasher + Drop> TryFrom<IndexSet<T, S>> for NEIndexSet<T, S> {
     ghost use Rattle.std.specs.Prelude.{Result};
 
     type Error = Error;

@@ -1,7 +1,10 @@
 //! The adapter that yields the items of the sources that a closure returns, one source after
 //! another.
-ghost use Rattle.std.specs.Prelude.{◌^◌, ◌<◌};
-ghost use Rattle.std.specs.Iterator.{CallableOnAll, IsFinite, size};
+ghost use Rattle.std.specs.Prelude.{◌≡◌};
+ghost use Rattle.std.specs.Iterator.{CallableOnAll};
+ghost use Rattle.std.specs.Iterator.Adapters.{InnersAreFinite};
+ghost use Rattle.std.specs.Iterator.Adapters.{map_source as std_map_source};
+ghost use Rattle.std.specs.Iterator.Adapters.{map_callee as std_map_callee};
 ghost use Rattle.ne_iter.specs.FlatMap.{flat_map_source, flat_map_callee};
 
 use super::{IntoNonEmptyIterator, NonEmptyIterator, Source};
@@ -59,14 +62,15 @@ impl<U: IntoNonEmptyIterator, I: NonEmptyIterator, F: FnMut(I::Item) -> U> NonEm
         U.same_lists U.IntoNEIter.not_empty) };
 }
 
-/// `flat_map` ends if its source does, so do all sources that its closure may return, and the
-/// closure can be called with each item.
+/// `flat_map` ends if its source does, its closure can be called with each item that comes, and the
+/// sources that it returns for them end.
 pub fn flat_map_ends<S: IntoIterator, U: IntoNonEmptyIterator, F: FnMut(S::Item) -> U>()
     ensures { (spread : _) → ⟦<S as Source>⟧.ends (flat_map_source spread)
         → ((it : S.IntoIter) → S.into_iter_gives (flat_map_source spread) it
         → CallableOnAll S.IntoIter.next_gives F.FnMut it (flat_map_callee spread))
-        → ((inner : U) (it : U.IntoIter) → U.into_iter_gives inner it
-        → U.IntoIter.can_next it × IsFinite (U.IntoIter.remaining it)
-        × (size (U.IntoIter.remaining it) < 2 ^ 64))
+        → ((mapped : _) → S.into_iter_gives (flat_map_source spread) (std_map_source mapped)
+        → std_map_callee mapped ≡ flat_map_callee spread
+        → InnersAreFinite (⟦<iter::Map<S::IntoIter, F> as Iterator>⟧.next_gives)
+        U.into_iter_gives U.IntoIter.can_next U.IntoIter.remaining mapped)
         → ⟦<FlatMap<S, U, F> as Source>⟧.ends spread }
 {}

@@ -1,7 +1,6 @@
 //! The adapter that yields the items of inner sources, one source after another. The inner sources
 //! are the items themselves.
-ghost use Rattle.std.specs.Prelude.{◌^◌, ◌<◌};
-ghost use Rattle.std.specs.Iterator.{IsFinite, size};
+ghost use Rattle.std.specs.Iterator.Adapters.{InnersAreFinite};
 ghost use Rattle.ne_iter.specs.Flatten.{flatten_source};
 
 use super::{IntoNonEmptyIterator, NonEmptyIterator, Source};
@@ -45,11 +44,11 @@ impl<U: IntoNonEmptyIterator, I: NonEmptyIterator<Item = U>> NonEmptyIterator fo
         U.same_lists U.IntoNEIter.not_empty) };
 }
 
-/// `flatten` ends if its source does and so do all inner sources.
+/// `flatten` ends if its source does and so do the inner sources that come.
 pub fn flatten_ends<U: IntoNonEmptyIterator, S: IntoIterator<Item = U>>()
     ensures { (flat : _) → ⟦<S as Source>⟧.ends (flatten_source flat)
-        → ((inner : U) (it : U.IntoIter) → U.into_iter_gives inner it
-        → U.IntoIter.can_next it × IsFinite (U.IntoIter.remaining it)
-        × (size (U.IntoIter.remaining it) < 2 ^ 64))
+        → ((it : S.IntoIter) → S.into_iter_gives (flatten_source flat) it
+        → InnersAreFinite S.IntoIter.next_gives U.into_iter_gives U.IntoIter.can_next
+        U.IntoIter.remaining it)
         → ⟦<Flatten<S> as Source>⟧.ends flat }
 {}

@@ -54,7 +54,8 @@ ghost use Rattle.ne_iter.specs.SortedByKey.{AscendsByKey, PermutesByKey};
 ghost use Rattle.ne_iter.specs.Map.{map_source, map_callee, IsMapped};
 ghost use Rattle.ne_iter.specs.Take.{take_source, take_count, IsTaken};
 ghost use Rattle.ne_iter.specs.Copied.{copied_source, IsCopied};
-ghost use Rattle.ne_iter.specs.Scan.{scan_source, scan_init, scan_callee, IsScanned};
+ghost use Rattle.ne_iter.specs.Scan.{scan_source, scan_init, scan_callee};
+ghost use Rattle.ne_iter.specs.Scan.{CallableInScan, IsScanned};
 ghost use Rattle.ne_iter.specs.GroupBy.{group_by_source, group_by_callee, GroupByGives};
 ghost use Rattle.ne_iter.specs.Filter.{IsFiltered, IsFilterMapped};
 ghost use Rattle.ne_iter.specs.Skip.{IsSkipped, IsSkippedWhile};
@@ -833,7 +834,9 @@ pub trait NonEmptyIterator: IntoIterator {
         Self: Sized,
         ensures holds { (scan_source result ≡ self) × (scan_init result ≡ init)
             × (scan_callee result ≡ f) }
-        ensures ends { ⟦<Self as Source>⟧.ends self → F.IsAlwaysCallable f
+        ensures ends { ⟦<Self as Source>⟧.ends self
+            → ((it : Self.IntoIter) → Self.into_iter_gives self it
+            → CallableInScan Self.IntoIter.next_gives F.FnMut it f init)
             → ⟦<Scan<Self, St, F> as Source>⟧.ends result }
         ensures gives { EachReading (⟦<Scan<Self, St, F> as Source>⟧.reads) result
             (IsScanned (⟦<Self as Source>⟧.reads) F.FnMut self init f) }

@@ -1,5 +1,5 @@
 //! The adapter whose closure has a state.
-ghost use Rattle.ne_iter.specs.Scan.{scan_source, scan_callee};
+ghost use Rattle.ne_iter.specs.Scan.{scan_source, scan_init, scan_callee, CallableInScan};
 
 use super::{NonEmptyIterator, Source};
 
@@ -77,9 +77,11 @@ impl<St: Drop, B, I: Iterator, F: FnMut(&mut St, I::Item) -> B> Iterator for Sca
     }
 }
 
-/// `scan` ends if its source does and its closure can be called with any value.
+/// `scan` ends if its source does and its closure can be called with each item that comes.
 pub fn scan_ends<St: Drop, S: IntoIterator, B, F: FnMut(&mut St, S::Item) -> B>()
     ensures { (scanned : _) → ⟦<S as Source>⟧.ends (scan_source scanned)
-        → F.IsAlwaysCallable (scan_callee scanned)
+        → ((it : S.IntoIter) → S.into_iter_gives (scan_source scanned) it
+        → CallableInScan S.IntoIter.next_gives F.FnMut it (scan_callee scanned)
+        (scan_init scanned))
         → ⟦<Scan<S, St, F> as Source>⟧.ends scanned }
 {}

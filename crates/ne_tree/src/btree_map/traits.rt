@@ -65,7 +65,7 @@ impl<K: Ord, V> From<NEBTreeMap<K, V>> for BTreeMap<K, V> {
 
 /// Converts a map as `try_from_map` does, and returns `Error::Empty` if and only if `map` is empty.
 /// It does not allocate; the Rust crate collects the pairs into a new map.
-impl<K: Ord + Drop, V: Drop> TryFrom<BTreeMap<K, V>> for NEBTreeMap<K, V> {
+impl<K: Ord, V> TryFrom<BTreeMap<K, V>> for NEBTreeMap<K, V> {
     ghost use Rattle.std.specs.Prelude.{Result};
 
     type Error = Error;

@@ -97,7 +97,7 @@ impl<T: Ord + Debug> Debug for NEBTreeSet<T> {
 
 /// Converts a set as `try_from_set` does, and returns `Error::Empty` if and only if `set` is empty.
 /// It does not allocate; the Rust crate collects the items into a new set.
-impl<T: Ord + Drop> TryFrom<BTreeSet<T>> for NEBTreeSet<T> {
+impl<T: Ord> TryFrom<BTreeSet<T>> for NEBTreeSet<T> {
     ghost use Rattle.std.specs.Prelude.{Result};
 
     type Error = Error;

@@ -2,7 +2,7 @@
 ghost use Rattle.std.specs.Prelude.{◌≡◌, ◌<◌, ◌≤◌, Bool, length};
 ghost use Rattle.std.specs.Iterator.{item_count};
 ghost use Rattle.ne_vec.specs.Divisions.{by_first, by_previous};
-ghost use Rattle.ne_vec.specs.SliceRuns.{ActsAsAtPair, CutsRun, IsFirstRun};
+ghost use Rattle.ne_vec.specs.SliceRuns.{ActsAsAtPair, CallableAtPairs, CutsRun, IsFirstRun};
 
 use super::NESlice;
 use std::marker::Model;
@@ -65,7 +65,7 @@ impl<'a, T, F> Model for SliceRunsIter<'a, T, F> {
 impl<'a, T, F: Fn(&T, &T) -> bool> Iterator for SliceRunsIter<'a, T, F> {
     type Item = NESlice<'a, T>;
 
-    ghost can_next = { λ s. F.IsAlwaysCallable s.closure };
+    ghost can_next = { λ s. CallableAtPairs F.Fn s.closure s.left };
 
     ghost next_gives = { CutsRun F.Fn by_first };
 
@@ -85,7 +85,7 @@ impl<'a, T, F: Fn(&T, &T) -> bool> Iterator for SliceRunsIter<'a, T, F> {
 // Returns the length of the first run, where each further item is compared with the first one.
 fn run_by_first<T, F: Fn(&T, &T) -> bool>(items: &[T], same: &F) -> usize
     requires not_empty { 0 < length items.now }
-    requires callable { F.IsAlwaysCallable same.now }
+    requires callable { CallableAtPairs F.Fn same.now items.now }
     ensures some { 0 < result }
     ensures within { result ≤ length items.now }
     ensures run { (test : T → T → Bool) → ActsAsAtPair F.Fn same.now test
@@ -160,7 +160,7 @@ impl<'a, T, F> Model for AdjacentRunsIter<'a, T, F> {
 impl<'a, T, F: Fn(&T, &T) -> bool> Iterator for AdjacentRunsIter<'a, T, F> {
     type Item = NESlice<'a, T>;
 
-    ghost can_next = { λ s. F.IsAlwaysCallable s.closure };
+    ghost can_next = { λ s. CallableAtPairs F.Fn s.closure s.left };
 
     ghost next_gives = { CutsRun F.Fn by_previous };
 
@@ -180,7 +180,7 @@ impl<'a, T, F: Fn(&T, &T) -> bool> Iterator for AdjacentRunsIter<'a, T, F> {
 // Returns the length of the first run, where each further item is compared with the one before it.
 fn run_by_previous<T, F: Fn(&T, &T) -> bool>(items: &[T], same: &F) -> usize
     requires not_empty { 0 < length items.now }
-    requires callable { F.IsAlwaysCallable same.now }
+    requires callable { CallableAtPairs F.Fn same.now items.now }
     ensures some { 0 < result }
     ensures within { result ≤ length items.now }
     ensures run { (test : T → T → Bool) → ActsAsAtPair F.Fn same.now test

@@ -23,7 +23,7 @@ use std::ops::{Index, IndexMut};
 /// let vec: Vec<u32> = nev![alloc; 4, 6, 8]?.into(); // [4, 6, 8]
 /// ```
 impl<T> From<NEVec<T>> for Vec<T> {
-    ghost from_gives = { λ v w. w.items ≡ v };
+    ghost from_gives = { λ v w. (w.items ≡ v) × (0 < length v) };
 
     fn from(value: NEVec<T>) -> Vec<T> {
         value.inner

@@ -1,6 +1,7 @@
 //! Laws that the collections' iterators end: each gives as many items as there are. With these laws
 //! and those of the adapters, every chain built on a collection ends.
 ghost use Rattle.std.specs.Iterator.{IsFinite};
+ghost use Rattle.ne_vec.specs.SliceRuns.{CallableAtPairs};
 ghost use Rattle.ne_iter.specs.Intersperse.{intersperse_rest};
 ghost use Rattle.ne_iter.specs.TryInto.{peeked_iterator};
 
@@ -17,6 +18,7 @@ use std::iter::Peekable;
 pub fn vectors_end<'a, T: Drop + 'a>()
     ensures vectors { (v : _) → ⟦<NEVec<T> as Source>⟧.ends v }
     ensures lent { (v : _) → ⟦<&'a NEVec<T> as Source>⟧.ends v }
+    ensures mutable { (v : _) → ⟦<&'a mut NEVec<T> as Source>⟧.ends v }
     ensures iterators { (v : _) → ⟦<vector::Iter<'a, T> as Source>⟧.ends v }
     ensures writing { (v : _) → ⟦<vector::IterMut<'a, T> as Source>⟧.ends v }
     ensures own { (v : _) → ⟦<vector::IntoIter<T> as Source>⟧.ends v }
@@ -30,17 +32,19 @@ pub fn slices_end<'a, T: 'a>()
     ensures chunks { (v : _) → ⟦<slice::NEChunks<'a, T> as Source>⟧.ends v }
 {}
 
-/// The runs of a slice end, if the closure may be called at any two items.
+/// The runs of a slice end, if the closure may be called with any two of its items.
 pub fn slice_runs_end<'a, T: 'a, F: Fn(&T, &T) -> bool>()
-    ensures by_first { (s : _) → F.IsAlwaysCallable s.closure
+    ensures by_first { (s : _) → CallableAtPairs F.Fn s.closure s.left
         → ⟦<slice::SliceRuns<'a, T, F> as Source>⟧.ends s }
-    ensures by_previous { (s : _) → F.IsAlwaysCallable s.closure
+    ensures by_previous { (s : _) → CallableAtPairs F.Fn s.closure s.left
         → ⟦<slice::AdjacentRuns<'a, T, F> as Source>⟧.ends s }
 {}
 
-/// An array's iterator ends.
-pub fn arrays_end<T: Drop, const N: usize>()
-    ensures { (a : _) → ⟦<ArrayNonEmptyIterator<T, N> as Source>⟧.ends a }
+/// An array ends, by value and by reference, and so does its iterator.
+pub fn arrays_end<'a, T: Drop + 'a, const N: usize>()
+    ensures arrays { (a : _) → ⟦<[T; N] as Source>⟧.ends a }
+    ensures lent { (a : _) → ⟦<&'a [T; N] as Source>⟧.ends a }
+    ensures iterators { (a : _) → ⟦<ArrayNonEmptyIterator<T, N> as Source>⟧.ends a }
 {}
 
 /// The source that an iterator with an item becomes ends if the iterator does.
@@ -65,6 +69,7 @@ where
 pub fn tree_maps_end<'a, K: Ord + Drop + 'a, V: Drop + 'a>()
     ensures maps { (m : _) → ⟦<NEBTreeMap<K, V> as Source>⟧.ends m }
     ensures lent { (m : _) → ⟦<&'a NEBTreeMap<K, V> as Source>⟧.ends m }
+    ensures mutable { (m : _) → ⟦<&'a mut NEBTreeMap<K, V> as Source>⟧.ends m }
     ensures iterators { (m : _) → ⟦<btree_map::Iter<'a, K, V> as Source>⟧.ends m }
     ensures writing { (m : _) → ⟦<btree_map::IterMut<'a, K, V> as Source>⟧.ends m }
     ensures own { (m : _) → ⟦<btree_map::IntoIter<K, V> as Source>⟧.ends m }
@@ -85,6 +90,7 @@ pub fn tree_sets_end<'a, T: Ord + Drop + 'a>()
 pub fn hashed_maps_end<'a, K: Eq + Hash + Drop + 'a, V: Drop + 'a, S: BuildHasher + Drop + 'a>()
     ensures maps { (m : _) → ⟦<NEMap<K, V, S> as Source>⟧.ends m }
     ensures lent { (m : _) → ⟦<&'a NEMap<K, V, S> as Source>⟧.ends m }
+    ensures mutable { (m : _) → ⟦<&'a mut NEMap<K, V, S> as Source>⟧.ends m }
     ensures iterators { (m : _) → ⟦<map::Iter<'a, K, V> as Source>⟧.ends m }
     ensures writing { (m : _) → ⟦<map::IterMut<'a, K, V> as Source>⟧.ends m }
     ensures own { (m : _) → ⟦<map::IntoIter<K, V> as Source>⟧.ends m }

@@ -3,8 +3,8 @@ ghost use Rattle.std.specs.Prelude.{◌≡◌, ◌+◌, ◌++◌, ◌↔◌, [],
 ghost use Rattle.std.specs.Prelude.{OnOk, Some};
 ghost use Rattle.std.specs.HashMap.{get};
 ghost use Rattle.std.specs.HashSet.{IsSameSet, IsUnion};
-ghost use Rattle.ne_iter.specs.Collected.{IsMapOf, IsSetOf};
-ghost use Rattle.ne_iter.specs.SameMap.{IsSameMap};
+ghost use Rattle.nonempty_collections.specs.Collected.{IsMapOf, IsSetOf};
+ghost use Rattle.nonempty_collections.specs.SameMap.{IsSameMap};
 
 use super::two;
 use nonempty_collections::{IntoNonEmptyIterator, NEMap, NESet, NEVec, NonEmptyIterator};

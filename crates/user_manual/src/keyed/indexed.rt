@@ -3,8 +3,8 @@ ghost use Rattle.std.specs.Prelude.{◌≡◌, ◌≤◌, ◌+◌, ◌/◌, ◌+
 ghost use Rattle.std.specs.Prelude.{All, IsTrue, OnOk, Some, true};
 ghost use Rattle.indexmap.specs.IndexMap.{get, hasher_of};
 ghost use Rattle.indexmap.specs.IndexSet.{union, IsSameSet};
-ghost use Rattle.ne_iter.specs.KeyList.{key_list, IsKeyListMapOf};
-ghost use Rattle.ne_iter.specs.SameMap.{IsSameMap};
+ghost use Rattle.nonempty_collections.specs.KeyList.{key_list, IsKeyListMapOf};
+ghost use Rattle.nonempty_collections.specs.SameMap.{IsSameMap};
 
 use super::two;
 use indexmap::{IndexMap, IndexSet};

@@ -4,8 +4,8 @@ ghost use Rattle.std.specs.Prelude.{All, Contains, IfOk, IsTrue, OnOk, Some};
 ghost use Rattle.std.specs.BTreeMap.{get, values};
 ghost use Rattle.std.specs.BTreeSet.{union, IsSameSet};
 ghost use Rattle.std.specs.Ordering.{nat_cmp};
-ghost use Rattle.ne_iter.specs.Collected.{IsMapOf, IsSetOf};
-ghost use Rattle.ne_iter.specs.SameMap.{IsSameMap};
+ghost use Rattle.nonempty_collections.specs.Collected.{IsMapOf, IsSetOf};
+ghost use Rattle.nonempty_collections.specs.SameMap.{IsSameMap};
 
 use super::two;
 use nonempty_collections::{IntoNonEmptyIterator, NEBTreeMap, NEBTreeSet, NEVec, NonEmptyIterator};

@@ -1,8 +1,8 @@
 use Rattle.ne_laws.proofs.reader.take_runs.Given as goal
 use Rattle.std.proofs.Common.{◌≤◌, ◌-◌, length, vec_len, ◌≡◌}
 use Rattle.std.specs.Iterator.{CallableOnAllAt}
-use Rattle.ne_iter.specs.GroupingRuns.{HasRead, CanRead}
-use Rattle.ne_iter.specs.Grouping.{Unread}
+use Rattle.nonempty_collections.specs.GroupingRuns.{HasRead, CanRead}
+use Rattle.nonempty_collections.specs.Grouping.{Unread}
 
 -- The reader began with the source that the first reader of the loop had.
 abbrev pub invariant-loop-reader : goal.invariant-loop-reader

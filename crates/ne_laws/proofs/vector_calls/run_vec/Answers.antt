@@ -6,7 +6,7 @@ use Rattle.ne_laws.proofs.VectorCalls.{one_more}
 
 pub loop-call-preserved : goal.loop-call-preserved
 loop-call-preserved g c =
-    let some : 0 < length c.answer.new.v = let n = c.len-after.result.ok in search rules in
+    let some = c.is_empty-after.ensures.nonempty in
     record {
       run = rw c.in_ok-push.ensures.items (one_more _ c.loop-call.yielded
           c.loop-call.replies.items _ c.in-Some.call c.in_ok-reply.reply _
@@ -19,7 +19,7 @@ loop-call-preserved g c =
 
 pub returns-in_err-push-clause-refused : goal.returns-in_err-push-clause-refused
 returns-in_err-push-clause-refused g c =
-    let some : 0 < length c.answer.new.v = let n = c.len-after.result.ok in search rules in
+    let some = c.is_empty-after.ensures.nonempty in
     on_err c.from_residual-in_err-push.result _ (
       c.loop-call.yielded ++ c.in-Some.call ∷ [],
       into_iter_items c.next.new.self,

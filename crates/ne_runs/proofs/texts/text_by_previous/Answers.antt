@@ -1,8 +1,8 @@
 use Rattle.ne_runs.proofs.texts.text_by_previous.Goals as goal
 use Rattle.std.proofs.Common.{true, refl, sym, ap, subst, ◌∙◌, ◌++◌, append-nil}
 use Rattle.std.proofs.lemmas.Result.{IfOk-weaker}
-use Rattle.ne_vec.specs.Divisions.{IsDivision, by_previous}
-use Rattle.ne_vec.specs.SliceRuns.{ActsAsAtPair}
+use Rattle.nonempty_collections.specs.Divisions.{IsDivision, by_previous}
+use Rattle.nonempty_collections.specs.SliceRuns.{ActsAsAtPair}
 
 pub returns : goal.returns
 returns g c = IfOk-weaker c.text_of_runs.result _ _ (λ text made h acts.

@@ -1,5 +1,5 @@
 use Rattle.ne_index.proofs.index_set.traits.collected.Goals as goal
-use Rattle.ne_iter.proofs.Collects.{collects}
+use Rattle.ne_iter.specs.CollectedLaws.{collects}
 use Rattle.ne_index.proofs.IndexInserts.{key_list_set-made}
 
 pub returns : goal.returns

@@ -1,5 +1,6 @@
 use Rattle.ne_iter.proofs.keys.BTreeMapFromNonEmptyIteratorTuple2.from_nonempty_iter.Goals as goal
-use Rattle.ne_iter.proofs.Collects.{collects, tree_map_made}
+use Rattle.ne_iter.specs.CollectedLaws.{collects}
+use Rattle.ne_iter.proofs.Collects.{tree_map_made}
 
 pub returns : goal.returns
 returns g c =

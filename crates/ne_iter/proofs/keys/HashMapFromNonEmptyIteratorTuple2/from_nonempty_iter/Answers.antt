@@ -1,5 +1,6 @@
 use Rattle.ne_iter.proofs.keys.HashMapFromNonEmptyIteratorTuple2.from_nonempty_iter.Goals as goal
-use Rattle.ne_iter.proofs.Collects.{collects, hash_map_made}
+use Rattle.ne_iter.specs.CollectedLaws.{collects}
+use Rattle.ne_iter.proofs.Collects.{hash_map_made}
 
 pub returns : goal.returns
 returns g c =

@@ -1,23 +1,26 @@
 use Rattle.ne_products.proofs.sides.NEEither.into_nonempty_iter.Goals as goal
 use Rattle.std.proofs.Common.{refl}
 use Rattle.ne_vec.specs.ListLaws.{triggered}
-use Rattle.ne_products.proofs.SideRuns.{left_lists, right_lists}
+use Rattle.ne_products.specs.declared.sides.NEEither.TheVariants.{Left, Right}
+use Rattle.ne_products.proofs.SideRuns.{side_lists, side_reads}
+
+pub returns-in-Left-clause-gives : goal.returns-in-Left-clause-gives
+returns-in-Left-clause-gives g c = side_reads _ _ _ _ _
+
+pub returns-in-Right-clause-gives : goal.returns-in-Right-clause-gives
+returns-in-Right-clause-gives g c = side_reads _ _ _ _ _
 
 pub returns-in-Left-clause-lists : goal.returns-in-Left-clause-lists
-returns-in-Left-clause-lists g c xs lists = (
-  triggered _ xs,
-  left_lists g.L.IntoNEIter.IntoIterator.into_iter_gives g.L.IntoNEIter.IntoIter.Iterator.next_gives
-      g.R.IntoNEIter.IntoIterator.into_iter_gives g.R.IntoNEIter.IntoIter.Iterator.next_gives
-      c.into_nonempty_iter.result xs lists,
-)
+returns-in-Left-clause-lists g c =
+    side_lists g.L.IntoNEIter.IntoIterator.into_iter_gives
+    g.L.IntoNEIter.IntoIter.Iterator.next_gives g.R.IntoNEIter.IntoIterator.into_iter_gives
+    g.R.IntoNEIter.IntoIter.Iterator.next_gives (Left c.into_nonempty_iter.result)
 
 pub returns-in-Right-clause-lists : goal.returns-in-Right-clause-lists
-returns-in-Right-clause-lists g c xs lists = (
-  triggered _ xs,
-  right_lists g.L.IntoNEIter.IntoIterator.into_iter_gives
-      g.L.IntoNEIter.IntoIter.Iterator.next_gives g.R.IntoNEIter.IntoIterator.into_iter_gives
-      g.R.IntoNEIter.IntoIter.Iterator.next_gives c.into_nonempty_iter-in-Right.result xs lists,
-)
+returns-in-Right-clause-lists g c =
+    side_lists g.L.IntoNEIter.IntoIterator.into_iter_gives
+    g.L.IntoNEIter.IntoIter.Iterator.next_gives g.R.IntoNEIter.IntoIterator.into_iter_gives
+    g.R.IntoNEIter.IntoIter.Iterator.next_gives (Right c.into_nonempty_iter-in-Right.result)
 
 pub returns-in-Left-clause-side : goal.returns-in-Left-clause-side
 returns-in-Left-clause-side g c f h = (

@@ -1,9 +1,8 @@
 use Rattle.ne_iter.proofs.iter.non_empty.NonEmptyIterator.scan.Goals as goal
-use Rattle.std.proofs.Common.{subst, sym}
+use Rattle.std.proofs.Common.{subst}
 use Rattle.ne_iter.specs.Calls.{CallsWithState}
-use Rattle.ne_iter.specs.Scan.{scanned_from, state_of, callee_of}
-use denote.Param.Always.{always_mut}
-use Rattle.ne_iter.proofs.Scan.{DrainsIf-scan, CallableInScan-always, scans_lists}
+use Rattle.ne_iter.specs.Scan.{scanned_from}
+use Rattle.ne_iter.proofs.Scan.{DrainsIf-scan, scans_lists}
 
 pub returns-clause-gives : goal.returns-clause-gives
 returns-clause-gives g c whole ys h =
@@ -21,12 +20,10 @@ returns-clause-gives g c whole ys h =
     }
 
 pub returns-clause-ends : goal.returns-clause-ends
-returns-clause-ends g c runs always it made =
+returns-clause-ends g c runs callable it made =
     let source = runs (scanned_from it) made.0 in
-    let callable = CallableInScan-always g.Self.IntoIter.Iterator.next_gives g.F.FnMut
-    (scanned_from it) (callee_of it) (state_of it)
-    (subst (always_mut g.F.FnMut) (sym made.2) always) in
-    ((source.0, callable), source.1)
+    let each = callable (scanned_from it) made.0 in
+    ((source.0, rw (made.1, made.2) each), source.1)
 
 pub returns-clause-lists : goal.returns-clause-lists
 returns-clause-lists g c =

@@ -1,7 +1,8 @@
 use Rattle.ne_vec.proofs.slice.runs.AdjacentRunsIterIterator.next.Goals as goal
-use Rattle.std.proofs.Common.{refl, sym}
+use Rattle.std.proofs.Common.{rules, refl, subst, sym}
 use Rattle.std.proofs.lemmas.List.{take-append-drop}
-use Rattle.ne_vec.proofs.FirstRuns.{front_is_some}
+use Rattle.ne_vec.specs.SliceRuns.{CallableAtPairs}
+use Rattle.ne_vec.proofs.FirstRuns.{callable_later, front_is_some}
 
 pub returns-clause-steps : goal.returns-clause-steps
 returns-clause-steps g c =
@@ -15,3 +16,14 @@ returns-clause-steps g c =
         cut.run,
       ),
     )
+
+pub returns-clause-goes : goal.returns-clause-goes
+returns-clause-goes g c =
+    let same = c.self.inside.same in
+    let items = c.self.inside.items.now in
+    let callable : CallableAtPairs g.F.Fn same items =
+        subst (λ s. CallableAtPairs g.F.Fn s.closure s.left) (sym c.self.view_is) c.requires in
+    let later : CallableAtPairs g.F.Fn same c.split_at.result.1.now =
+        subst (CallableAtPairs g.F.Fn same) (sym c.split_at.ensures.back)
+        (callable_later g.F.Fn same items c.run_by_previous.result callable) in
+    search rules

@@ -1,0 +1,31 @@
+//! A chain over a source that is one of two, whose closure may have state.
+ghost use Rattle.std.specs.Prelude.{IfOk, List};
+ghost use Rattle.std.specs.Iterator.{CallableOnAll, IsFiniteIterable};
+ghost use Rattle.nonempty_collections.specs.Calls.{Calls};
+ghost use Rattle.nonempty_collections.specs.Sides.{MatchSide};
+
+use nonempty_collections::either::NEEither;
+use nonempty_collections::iter::Source;
+use nonempty_collections::laws::either_gives_its_side;
+use nonempty_collections::{NEVec, NonEmptyIterator};
+use std::alloc::{AllocError, Global};
+
+/// Collects what `f` returns for the items of the side that is there.
+pub fn mapped_side<
+    L: NonEmptyIterator,
+    R: NonEmptyIterator<Item = L::Item>,
+    T: Drop,
+    F: FnMut(L::Item) -> T,
+>(alloc: Global, source: NEEither<L, R>, f: F) -> Result<NEVec<T>, AllocError>
+    requires ends { ⟦<NEEither<L, R> as Source>⟧.ends source }
+    requires callable { (it : _) → ⟦<NEEither<L, R> as IntoIterator>⟧.into_iter_gives source it
+        → CallableOnAll (⟦<<NEEither<L, R> as IntoIterator>::IntoIter as Iterator>⟧.next_gives)
+        F.FnMut it f }
+    ensures { IfOk result (λ ys. (xs : List L.Item) × (g : F) × Calls F.FnMut f xs ys g
+        × MatchSide source
+        (λ s. ⟦<L as Source>⟧.reads true s xs)
+        (λ t. ⟦<R as Source>⟧.reads true t xs)) }
+{
+    either_gives_its_side(&source);
+    source.map(f).collect(alloc)
+}
