@@ -1,6 +1,6 @@
 """The public calls that may report a failed allocation, as the sources of the library declare them:
-the functions that return an `AllocError`, with where they stand, and the macros. For each, the
-clauses of its contract that say what stands after a refusal."""
+the functions that return an `AllocError`, with where they stand, the macros, and the clones that
+are derived. For each, the clauses of its contract that say what stands after a refusal."""
 
 import glob
 import os
@@ -25,16 +25,15 @@ ITEMS = {
     "ClonedIter": "NonEmptyIterator::cloned",
     "GroupBy": "GroupBy::next",
     "ProductIter": "NonEmptyItertools::cartesian_product",
+    "RawIntersperse": "NonEmptyIterator::intersperse",
 }
 # A clause that says what stands after a refusal, with its name, if it has one, and its first word.
 CLAUSE = r"ensures (\w*) ?\{ (OnErr|ExtendsWithItems|IsUnchanged|IsReordered)\b"
-# Calls that never allocate, although their type allows an `AllocError`; calls that fail only if a
-# clone of the items fails, which is tested in `test_library`; and calls that are tested under
-# another name.
+# Calls that never allocate, although their type allows an `AllocError`; and methods of traits that
+# have a body only in an implementation, each of which is tested.
 EXCUSED = {
     *("NESlice::clone", "Iter::clone", "NonEmptyIter::clone", "collect into ()"),
-    *("RawIntersperse::next", "FromNonEmptyIterator::from_nonempty_iter", "NonEmptyMap::put"),
-    "ne_indexmap",
+    *("FromNonEmptyIterator::from_nonempty_iter", "NonEmptyMap::put"),
 }
 
 
@@ -96,13 +95,13 @@ def case(head, name):
     trait, kind = words[1] if "for" in words else "", words[-1]
     if trait == "Iterator":
         return ITEMS.get(kind, f"{kind}::{name}")
-    if trait == "Singleton":
-        return f"Singleton::{name}{KINDS[kind]}"
+    if trait in ("Singleton", "NonEmptyMap"):
+        return f"{trait}::{name}{KINDS[kind]}"
     if trait == "FromNonEmptyIterator":
         return "NonEmptyIterator::collect" if kind == "NEVec" else f"collect into {kind}"
     if trait == "NonEmptyArrayExt":
         return f"{trait}::{name}"
-    return "run_map" if trait == "NonEmptyMap" else f"{kind}::{name}"
+    return f"{kind}::{name}"
 
 
 def path(head, name):
@@ -139,16 +138,24 @@ def macros(text):
     return {name: made for name, made in found.items() if made}
 
 
+def derived(text):
+    """Returns the clones that a file derives for types with parameters. They have no body."""
+    types = r"^#\[derive\(.*\bClone\b.*\)\]\npub (?:struct|enum) (\w+)<"
+    return [f"{it}::clone" for it in re.findall(types, text, re.M)]
+
+
 def cases():
     """Returns the names that the tests have for all of these calls, each with the clauses that say
     what stands after a refusal."""
     found = defaultdict(list)
     for _, text in sources():
-        for macro in macros(text):
-            found[macro] = []
+        for it in (*macros(text), *derived(text)):
+            found[it] = []
         for it in functions(text):
             found[it.case] += re.findall(CLAUSE, it.signature)
-    return {name: found[name] for name in found if name not in EXCUSED}
+    # a method of a trait for a type has the clauses of the trait
+    said = {name: found[name] or found.get(name.partition(" of ")[0], []) for name in found}
+    return {name: said[name] for name in said if name not in EXCUSED}
 
 
 def declared(line, names):

@@ -10,6 +10,7 @@ mod clones;
 mod collected;
 mod consumers;
 mod drops;
+mod macros;
 mod makes;
 mod owners;
 mod products;

@@ -1,7 +1,7 @@
 //! The calls that clone. A clone allocates, so a later clone can fail after an earlier one is made.
 
 use super::{holds, tell};
-use nonempty_collections::{IntoNonEmptyIterator, NEVec, NonEmptyIterator};
+use nonempty_collections::{IntoNonEmptyIterator, NEEither, NEVec, NonEmptyIterator};
 use std::alloc::{AllocError, Global};
 use std::num::NonZeroUsize;
 use std::test::Fail;
@@ -81,6 +81,28 @@ fn clone(rt: HostRuntime) -> Result<(), Fail> {
     gives(&rt, "NEVec::clone", answer, &[7])
 }
 
+// Whether the left side is there, and the number of the one that is.
+fn side(either: &NEEither<Number, Number>) -> (bool, u32) {
+    match either {
+        NEEither::Left(left) => (true, left.value),
+        NEEither::Right(right) => (false, right.value),
+    }
+}
+
+#[test]
+fn either(rt: HostRuntime) -> Result<(), Fail> {
+    let call = "NEEither::clone";
+    let left = NEEither::Left(fresh(rt.alloc(), 7));
+    let right = NEEither::Right(fresh(rt.alloc(), 8));
+    let of_left = left.clone().map(|copy| side(&copy));
+    let of_right = right.clone().map(|copy| side(&copy));
+    let copies = (of_left.unwrap_or((true, 7)), of_right.unwrap_or((false, 8)));
+    holds(call, (side(&left), side(&right)) == copies)?;
+    holds(call, copies == ((true, 7), (false, 8)))?;
+    let is_made = of_left.is_ok() && of_right.is_ok();
+    tell(&rt, if is_made { "made" } else { "refused" }, call)
+}
+
 // A failed clone is an `Err` in its place, and the others are there.
 #[test]
 fn cloned(rt: HostRuntime) -> Result<(), Fail> {
@@ -94,4 +116,20 @@ fn cloned(rt: HostRuntime) -> Result<(), Fail> {
     holds("cloned", told == 12 || told == 10 || told == 2)?;
     let outcome = if told == 12 { "made" } else { "refused" };
     tell(&rt, outcome, "NonEmptyIterator::cloned")
+}
+
+// Each separator is a clone. A failed one is an `Err` in its place, and the last item.
+#[test]
+fn intersperse(rt: HostRuntime) -> Result<(), Fail> {
+    let three = [1u32, 2, 3]
+        .into_nonempty_iter()
+        .map(|value| fresh(rt.alloc(), value));
+    let items = three.intersperse(fresh(rt.alloc(), 5)).into_iter();
+    let told = items.map(|item| item.map_or(9, |it| it.value)).fold(
+        0u32,
+        |told, digit| told.wrapping_mul(10).wrapping_add(digit),
+    );
+    holds("intersperse", [15253, 19, 1529].contains(&told))?;
+    let outcome = if told == 15253 { "made" } else { "refused" };
+    tell(&rt, outcome, "NonEmptyIterator::intersperse")
 }

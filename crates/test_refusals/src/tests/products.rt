@@ -24,6 +24,24 @@ fn all_unique(rt: HostRuntime) -> Result<(), Fail> {
     tell(&rt, if answer.is_ok() { "made" } else { "refused" }, call)
 }
 
+// How many pairs come, at most four, whether an `Err` comes after them, and whether `None` does.
+macro_rules! drawn {
+    ($pairs:ident) => {{
+        let (mut count, mut is_refused) = (0u32, false);
+        for _ in 0..4 {
+            match $pairs.next() {
+                Some(Ok(_)) => count = count.wrapping_add(1),
+                Some(Err(_)) => {
+                    is_refused = true;
+                    break;
+                }
+                None => break,
+            }
+        }
+        (count, is_refused, $pairs.next().is_none())
+    }};
+}
+
 // Two rows of two pairs, each with a clone of an owner. If a clone fails, an `Err` comes in place
 // of its pair, and then `None`, and nothing more is drawn.
 #[test]
@@ -40,22 +58,36 @@ fn cartesian_product(rt: HostRuntime) -> Result<(), Fail> {
             row
         });
     let mut pairs = rows.cartesian_product(&[5u32, 6]).into_iter();
-    let mut count = 0u32;
-    let mut is_refused = false;
-    for _ in 0..4 {
-        match pairs.next() {
-            Some(Ok(_)) => count = count.wrapping_add(1),
-            Some(Err(_)) => {
-                is_refused = true;
-                break;
-            }
-            None => break,
-        }
-    }
-    let is_over = pairs.next().is_none();
+    let (count, is_refused, is_over) = drawn!(pairs);
     drop(pairs);
     is(call, draws.get() as usize, if count < 2 { 1 } else { 2 })?;
     holds(call, is_over && is_refused == (count < 4))?;
+    owned(call, &token, 0)?;
+    tell(&rt, if is_refused { "refused" } else { "made" }, call)
+}
+
+// Three rows of one pair. The iterator of the right side is cloned when the product becomes an
+// iterator, and for each row after the first. If the first clone fails, nothing is drawn.
+#[test]
+fn right_side(rt: HostRuntime) -> Result<(), Fail> {
+    let call = "NonEmptyItertools::cartesian_product of a right side";
+    let Ok(token) = token(rt.alloc()) else {
+        return tell(&rt, "not reached", call);
+    };
+    let draws = Cell::new(0u32);
+    let rows = [1u32, 2, 3].into_nonempty_iter().map(|row| {
+        draws.set(draws.get().wrapping_add(1));
+        row
+    });
+    let right = once(one_more(rt.alloc(), &token)?);
+    let mut pairs = rows.cartesian_product(right).into_iter();
+    let (count, is_refused, is_over) = drawn!(pairs);
+    drop(pairs);
+    let wanted = [0, 2, 3, 3].get(count as usize).copied();
+    holds(
+        call,
+        wanted == Some(draws.get()) && is_over && is_refused == (count < 3),
+    )?;
     owned(call, &token, 0)?;
     tell(&rt, if is_refused { "refused" } else { "made" }, call)
 }

@@ -1,6 +1,7 @@
 //! The six types, and the rows of calls that are tried on each.
 
 use super::{Change, Item, Items, Key, Make, Owner, Row, Table, every_call};
+use ne_laws::maps::NonEmptyMap;
 use nonempty_collections::{
     NEBTreeMap, NEBTreeSet, NEIndexMap, NEIndexSet, NEMap, NESet, Singleton, neim, neis, nem, nes,
 };
@@ -32,6 +33,7 @@ macro_rules! changed_map {
     ($map:expr, $call:expr, $item:expr) => {{
         let (key, value) = $item;
         match $call {
+            Change::Put => $map.put(key, value).map(|_| ()),
             Change::Insert | Change::Replace => $map.insert(key, value).map(|_| ()),
             Change::ExtendOne => $map.extend_one((key, value)),
             _ => $map.shrink_to_fit(),
@@ -94,6 +96,7 @@ impl Table for NEBTreeMap<Key, Owner> {
     fn change(&mut self, call: Change, item: Item) -> Result<(), AllocError> {
         let (key, value) = item;
         match call {
+            Change::Put => self.put(key, value).map(|_| ()),
             Change::Insert => self.insert(key, value).map(|_| ()),
             _ => self.extend_one((key, value)),
         }
@@ -221,7 +224,7 @@ impl Table for NEIndexSet<Item> {
 
 #[test]
 fn tree_map(rt: HostRuntime) -> Result<(), Fail> {
-    let rows: [Row; 4] = [
+    let rows: [Row; 5] = [
         (
             (Make::New, "NEBTreeMap::new"),
             (Change::Insert, "NEBTreeMap::insert"),
@@ -232,6 +235,10 @@ fn tree_map(rt: HostRuntime) -> Result<(), Fail> {
         ),
         ((Make::New, ""), (Change::Extend, "NEBTreeMap::extend")),
         ((Make::New, ""), (Change::Clone, "NEBTreeMap::clone")),
+        (
+            (Make::New, ""),
+            (Change::Put, "NonEmptyMap::put of a tree map"),
+        ),
     ];
     every_call::<NEBTreeMap<Key, Owner>>(&rt, rt.alloc(), &rows, "collect into NEBTreeMap")
 }
@@ -256,7 +263,7 @@ fn tree_set(rt: HostRuntime) -> Result<(), Fail> {
 
 #[test]
 fn hashed_map(rt: HostRuntime) -> Result<(), Fail> {
-    let rows: [Row; 5] = [
+    let rows: [Row; 6] = [
         ((Make::New, "NEMap::new"), (Change::Insert, "NEMap::insert")),
         (
             (Make::Singleton, "Singleton::singleton of a hashed map"),
@@ -276,6 +283,10 @@ fn hashed_map(rt: HostRuntime) -> Result<(), Fail> {
         (
             (Make::WithHasher, "NEMap::with_hasher"),
             (Change::Clone, "NEMap::clone"),
+        ),
+        (
+            (Make::New, ""),
+            (Change::Put, "NonEmptyMap::put of a hashed map"),
         ),
     ];
     every_call::<NEMap<Key, Owner>>(&rt, rt.alloc(), &rows, "collect into NEMap")
@@ -314,7 +325,7 @@ fn hashed_set(rt: HostRuntime) -> Result<(), Fail> {
 
 #[test]
 fn index_map(rt: HostRuntime) -> Result<(), Fail> {
-    let rows: [Row; 5] = [
+    let rows: [Row; 6] = [
         (
             (Make::New, "NEIndexMap::new"),
             (Change::Insert, "NEIndexMap::insert"),
@@ -337,6 +348,10 @@ fn index_map(rt: HostRuntime) -> Result<(), Fail> {
         (
             (Make::WithHasher, "NEIndexMap::with_hasher"),
             (Change::Clone, "NEIndexMap::clone"),
+        ),
+        (
+            (Make::New, ""),
+            (Change::Put, "NonEmptyMap::put of an index map"),
         ),
     ];
     every_call::<NEIndexMap<Key, Owner>>(&rt, rt.alloc(), &rows, "collect into NEIndexMap")
