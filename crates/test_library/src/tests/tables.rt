@@ -279,12 +279,15 @@ impl BuildHasher for Numbered {
     }
 }
 
-// The hasher that is passed is the one that is kept.
+// The hasher that is passed is the one that is kept, by the hashed kinds also as they grow.
 #[test]
 fn numbered_hashers(rt: HostRuntime) -> Result<(), Fail> {
     let (alloc, four) = (rt.alloc(), of(4)?);
-    let map = NEMap::with_capacity_and_hasher(alloc, four, of_number(5), 1, 'a')?;
-    let set = NESet::with_capacity_and_hasher(alloc, four, of_number(6), 1)?;
+    let mut map = NEMap::with_capacity_and_hasher(alloc, four, of_number(5), 1, 'a')?;
+    let mut set = NESet::with_capacity_and_hasher(alloc, four, of_number(6), 1)?;
+    is([map.hasher().number, set.hasher().number], [5, 6])?;
+    map.extend((0..100).map(|key| (key, 'b')))?;
+    set.extend(0..100)?;
     is([map.hasher().number, set.hasher().number], [5, 6])?;
     let map = NEIndexMap::with_capacity_and_hasher(alloc, four, of_number(7), 1, 'a')?;
     let set = NEIndexSet::with_capacity_and_hasher(alloc, four, of_number(8), 1)?;

@@ -1,8 +1,10 @@
-//! Texts of one of two sources, collecting from owned texts and from characters, and size hints.
+//! Texts of one of two sources and of maps and sets, collecting from owned texts and from
+//! characters, and size hints.
 
 use super::{is, list, of, prints};
 use nonempty_collections::{
-    FromNonEmptyIterator, IntoNonEmptyIterator, NEEither, NESlice, NonEmptyIterator,
+    FromNonEmptyIterator, IntoNonEmptyIterator, NEEither, NEIndexMap, NEIndexSet, NEMap, NESet,
+    NESlice, NonEmptyIterator,
 };
 use std::borrow::CowStr;
 use std::convert::AsSlice;
@@ -14,6 +16,39 @@ fn one_of_two(rt: HostRuntime) -> Result<(), Fail> {
     is(seven.clone()?, seven)?;
     is(seven < NEEither::Right(0), true)?;
     prints(rt.alloc(), &seven, "Left(7)")
+}
+
+// A hashed map or set prints its entries in the order of its iterator.
+#[test]
+fn twenty_pairs(rt: HostRuntime) -> Result<(), Fail> {
+    let alloc = rt.alloc();
+    let mut map = NEIndexMap::new(alloc, 39u32, 1u32)?;
+    map.extend((20..39).rev().map(|key| (key, 2)))?;
+    let wanted = concat!(
+        "{39: 1, 38: 2, 37: 2, 36: 2, 35: 2, 34: 2, 33: 2, 32: 2, 31: 2, 30: 2, ",
+        "29: 2, 28: 2, 27: 2, 26: 2, 25: 2, 24: 2, 23: 2, 22: 2, 21: 2, 20: 2}"
+    );
+    prints(alloc, &map, wanted)?;
+    let map: NEMap<u32, u32> = map.into_nonempty_iter().collect(alloc)?;
+    let text = format!(in alloc; "{map:?}")?;
+    let in_order: NEIndexMap<u32, u32> = map.into_nonempty_iter().collect(alloc)?;
+    prints(alloc, &in_order, text.as_str())
+}
+
+#[test]
+fn twenty_items(rt: HostRuntime) -> Result<(), Fail> {
+    let alloc = rt.alloc();
+    let mut set = NEIndexSet::new(alloc, 39u32)?;
+    set.extend((20..39).rev())?;
+    prints(
+        alloc,
+        &set,
+        "{39, 38, 37, 36, 35, 34, 33, 32, 31, 30, 29, 28, 27, 26, 25, 24, 23, 22, 21, 20}",
+    )?;
+    let set: NESet<u32> = set.into_nonempty_iter().collect(alloc)?;
+    let text = format!(in alloc; "{set:?}")?;
+    let in_order: NEIndexSet<u32> = set.into_nonempty_iter().collect(alloc)?;
+    prints(alloc, &in_order, text.as_str())
 }
 
 #[test]
