@@ -153,7 +153,7 @@ ROWS = [
     ("from_elem with_capacity nev_many", NONE, "count item", MAKES),
     ("from_parts", NONE, "other", MAKES),
     ("try_from_vec try_from_slice try_from", NONE, "items", MAKES),
-    ("first_mut last_mut push", NONE, "item", CHANGES),
+    ("first_mut last_mut push extend_one", NONE, "item", CHANGES),
     ("get_mut index_mut insert", NONE, "place item", CHANGES),
     ("remove swap_remove", NONE, "place", CHANGES),
     ("append extend", NONE, "items", CHANGES),
@@ -209,8 +209,9 @@ ROWS = [
     ("zip_flat_map_peekable_take_enumerate map_zip_take_unzip", ANY, "size items", READS),
     ("group_by", ANY, "", READS),
     ("group_by_take", ANY, "size", READS),
-    ("group_by_stopped", ANY, "count", READS),
+    ("group_by_stopped take_runs", ANY, "count", READS),
     ("array_len array_slice array_vec array_iter array_ref_iter", NONE, "pair", READS),
+    ("array_longest", NONE, "item", READS),
 ]
 Row = namedtuple("Row", "closures kinds does")
 CALLS = {
@@ -219,13 +220,6 @@ CALLS = {
     for name in names.split()
 }
 NAMES = list(CALLS)
-# The calls that allocate for each item, and how many items the sample has for them.
-GROWING = """
-clone into_vec try_from_slice all_unique unzip sorted_by_key cloned intersperse group_by
-collect_nevec collect_vec collect_strings collect_cows collect_path collect_result collect_tree_map
-collect_tree_set collect_hash_map collect_hash_set extend append run_vec
-"""
-MANY = 400
 # The sort that comes before each search.
 SORTS = {
     "binary_search": "sort",
@@ -399,6 +393,8 @@ retain_mut
 try_from_vec 0 1 2 3
 retain tens
 retain
+try_from_vec 1 2 3 4
+retain calls
 try_from_vec 10 20 30
 contains 20
 contains 25
@@ -431,8 +427,6 @@ hash 2 1
 try_from_vec 1 2 3
 find
 any
-try_from_vec 2 1 3
-all
 try_from_vec 2 4 7 8 9
 skip_while
 take_while
@@ -450,6 +444,9 @@ try_from_vec 1
 intersperse 0
 run_vec
 try_from_vec 1 2
+clone
+slice_clone
+nonempty_iter_clone
 copied
 collect_unit
 try_from_vec 1 2 3
@@ -471,6 +468,8 @@ try_from_vec 1 1 2 3
 group_by
 try_from_vec 9 9 9 9 9
 group_by pairs
+try_from_vec 4 4
+group_by calls
 try_from_vec 1 1 1 2 3 2 2 1
 dedup
 try_from_vec 2 1 8
@@ -494,15 +493,70 @@ sorted_by_key falling
 try_from_vec 5
 chain
 """
+# Each call that may report a failed allocation, over a hundred thousand items; an array has at most
+# 32. `.ci/calls` fails if one is left out.
+LARGE = """
+vector 7
+from_elem 100000 7
+with_capacity 100000 7
+nev_many 100000 7
+from_parts 100000*7919
+try_from_slice 100000*7919
+vector 7
+run_vec 200000*4
+iter
+vector 100000*7919
+push 5
+extend_one 6
+insert 100002 7
+append 100000*1
+extend 100000*1
+iter
+sort
+sort_by falling
+sort_by_key half
+iter
+vector 100000*1
+clone
+slice_clone
+nonempty_iter_clone
+array_longest 7
+cloned
+all_unique
+unzip half
+sorted_by_key falling
+intersperse 5
+cartesian_product 7
+group_by
+group_by zero
+take_runs 100000
+take_runs zero 1
+collect_nevec
+collect_vec
+collect_unit
+collect_result zero
+collect_tree_map
+collect_hash_map 5
+collect_tree_set
+collect_hash_set 5
+collect_chars
+collect_char_refs
+collect_strs
+collect_strings
+collect_cows
+vector 100000*5
+collect_path
+vector 7
+cartesian_product 100000*1
+"""
 
 
 def parsed(table):
     """Returns the script that the rows of a table write."""
     split = [row.split() for row in table.strip().splitlines()]
-    named = [(name, [it for it in words if not it.isdigit()], words) for name, *words in split]
     return [
-        (name, "".join(closure), tuple(it for it in words if it.isdigit()))
-        for name, closure, words in named
+        (name, "".join(it for it in words if it in ANY), tuple(it for it in words if it not in ANY))
+        for name, *words in split
     ]
 
 
@@ -519,21 +573,9 @@ def counted(script):
     return [(script[0][0], name) for name, _, _ in script[1:]]
 
 
-def over_many():
-    """Returns a script with each call that allocates for each item, over many items."""
-    items = f"{MANY}*1"
-    numbers = {"item": (5,), "pair": (5, 8), "items": (items,), "calls": (0, 7) * MANY}
-    script = [setting([items])]
-    for name in GROWING.split():
-        kinds = [kind for kind in numbers if KINDS[kind] in CALLS[name].kinds]
-        closure = "half" if CALLS[name].closures != NONE else ""
-        script.append((name, closure, tuple(itertools.chain(*map(numbers.get, kinds)))))
-    return script
-
-
 def sample():
-    """Returns the example cases, then two turns of each call, and then some calls over many items.
-    In a turn, all calls but those that make a vector are on the same vector."""
+    """Returns the example cases, then two turns of each call, and then the large calls. In a turn,
+    all calls but those that make a vector are on the same vector."""
     script = parsed(ROWS)
     for turn, items in enumerate([(3, 1, 4, 1, 5, 9, 2, 6), (7, 7, 0, 12, 12, 35, GREATEST)]):
         is_set = False
@@ -548,7 +590,7 @@ def sample():
             )
             script += calls if is_set or row.does == MAKES else [setting(items), *calls]
             is_set = all(CALLS[it].does == READS for it, _, _ in calls)
-    return script + over_many()
+    return script + parsed(LARGE)
 
 
 def line(call):

@@ -423,6 +423,28 @@ keys_clone
 values_clone
 """
 
+# Calls that may report a failed allocation, over a hundred thousand keys. `.ci/calls` fails if one
+# is left out.
+LARGE_ROOM = """
+with_capacity {numbers} 100000
+capacity 100000
+with_capacity_and_hasher {numbers} 100000
+capacity 100000
+"""
+LARGE_MAP = """
+clone
+insert 400001 7
+extend_one 400003 8
+extend 300000*7919
+"""
+LARGE_SET = """
+clone
+insert 400001
+replace 400000
+extend_one 400003
+extend 300000*7919
+"""
+
 
 def rows():
     """Returns a script of the worked rows of each kind. For tree sets, each pair of sets of three
@@ -442,7 +464,7 @@ def rows():
     return script
 
 
-def large(count):
+def scrambled(count):
     """Returns the numbers of each kind for a call on so many keys: a known key and another one, and
     half as many keys again. The programs write out `COUNT*STEP`."""
     keys = f"{3 * count}*7919"
@@ -455,7 +477,7 @@ def large(count):
     }
     values |= {"keys": (keys,) * 2, "pairs": (keys,) * 2, "other": (keys, f"{2 * count}*1")}
     values["calls"] = (
-        " ".join([f"0 {count} 7 1 {4 * count} 8 2 0 0 3 0 0"] * (1 + count // 100)),
+        f"0 {count} 7 1 {4 * count} 8 2 0 0 3 0 0",
         f"0 {4 * count} 7 1 {count} 8 2 {9 * count} 0",
     )
     return {id(KINDS[kind]): [(number,) for number in numbers] for kind, numbers in values.items()}
@@ -480,20 +502,35 @@ def each(subject, turn, begin, values):
     return script
 
 
+def large():
+    """Returns the large calls of each kind."""
+    script = []
+    for subject in SUBJECTS:
+        is_map, has_room = subject in MAPS, subject not in ("tree_map", "tree_set")
+        makes = ["run_map 300000*1"] * is_map + ["collect 200000*7919"]
+        makes += [LARGE_ROOM.format(numbers="2 1" if is_map else "2")] * has_room
+        others = [LARGE_MAP if is_map else LARGE_SET]
+        others += ["reserve 100000"] * (subject in SETS[1:]) + ["shrink_to_fit"] * has_room
+        others += ["nonempty_iter_clone"] * (subject == "indexed_map")
+        for keys, tables in ((2,), makes), (("200000*7919",), others):
+            script += [(subject, "", keys), *parsed("\n".join(map(str.strip, tables)))]
+    return script
+
+
 def sample():
-    """Returns the worked rows; each call on a few keys; and each call on 1, 2, 10 and 10,000 keys.
-    These keys are in scrambled order, and at last in rising and in falling order."""
+    """Returns the worked rows; each call on a few keys; each call on 1, 2 and 10 keys, which are in
+    scrambled order, and at last in rising and in falling order; and the large calls."""
     script = rows()
     for turn, subject in enumerate(SUBJECTS):
         script += each(
             subject, turn, setting(subject, (6, 3, 8, 1, 7, 12, 9)), lambda kind: kind.telling
         )
-    for count in 1, 2, 10, 10_000:
-        values, twice = large(count), 2 * count
+    for count in 1, 2, 10:
+        values, twice = scrambled(count), 2 * count
         for turn, subject in enumerate(SUBJECTS):
             script += each(
                 subject, turn, (subject, "", (f"{twice}*7919",)), lambda kind: values[id(kind)]
             )
             for step in 1, twice - 1:
                 script += [(subject, "", (f"{twice}*{step}",)), WALK]
-    return script
+    return script + large()

@@ -82,7 +82,10 @@ impl Subject {
 
     fn write(&self, call: &Call, out: &mut Transcript) {
         match self {
-            Subject::Vector(items) => out.said(&format!("{items:?} | {}", call.closure.calls())),
+            Subject::Vector(items) => {
+                out.yielded(items.iter());
+                out.said(&format!(" | {}", call.closure.calls()))
+            }
             Subject::TreeMap(map) => out.yielded(map.iter()),
             Subject::HashedMap(map) => out.yielded(map.iter()),
             Subject::IndexedMap(map) => out.yielded(map.iter()),
@@ -312,7 +315,12 @@ struct Transcript {
 
 impl Transcript {
     fn told<T: Debug>(&mut self, answer: T) {
-        self.said(&format!("{answer:?}"))
+        let text = format!("{answer:?}");
+        if text.len() <= LONGEST {
+            self.said(&text)
+        } else {
+            self.said(&format!("{} bytes, {}", text.len(), checksum(&text)))
+        }
     }
 
     fn said(&mut self, words: &str) {
@@ -347,6 +355,7 @@ impl Transcript {
     }
 }
 
+const LONGEST: usize = 1000;
 const MOST: usize = 100;
 
 fn checksum(text: &str) -> u32 {

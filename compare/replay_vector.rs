@@ -23,7 +23,9 @@ pub fn made(items: &mut NEVec<u32>, call: &Call, out: &mut Transcript) {
         "nev_one" => *items = nev![first],
         "nev_two" => *items = nev![first, last],
         "nev_three" => *items = nev![first, last, first],
-        "nev_many" => *items = nev![last; 3],
+        // The Rust crate's macro takes a constant.
+        "nev_many" if call.size.get() == 3 => *items = nev![last; 3],
+        "nev_many" => *items = NEVec::from_elem(last, call.size),
         "try_from_vec" => put_some(items, out, NEVec::try_from_vec(call.numbers.clone())),
         "try_from_slice" => put_some(items, out, NEVec::try_from_slice(call.numbers.as_slice())),
         "try_from" => put_ok(items, out, NEVec::try_from(call.numbers.clone())),
@@ -57,6 +59,7 @@ fn edited(items: &mut NEVec<u32>, call: &Call, out: &mut Transcript) {
     let len = items.len().get();
     match call.name {
         "push" => items.push(call.first),
+        "extend_one" => items.extend([call.first]),
         "pop" => out.told(items.pop()),
         "remove" if len == 1 || call.place < len => out.told(items.remove(call.place)),
         "swap_remove" if len == 1 || call.place < len => out.told(items.swap_remove(call.place)),
@@ -231,6 +234,7 @@ fn other(items: &NEVec<u32>, call: &Call, out: &mut Transcript) {
         "array_len" => out.told(array.nonzero_len()),
         "array_slice" => out.told(array.as_nonempty_slice()),
         "array_vec" => out.told(array.into_nonempty_vec()),
+        "array_longest" => out.told([call.first; 32].into_nonempty_vec()),
         "array_iter" => out.collected(array.into_nonempty_iter()),
         "array_ref_iter" => out.collected((&array).into_nonempty_iter()),
         "once" => out.collected(once(call.first)),
@@ -315,6 +319,10 @@ fn divided(source: IntoIter<u32>, call: &Call, out: &mut Transcript) {
                     None => out.said("None "),
                 }
             }
+        }
+        // The Rust crate has no function that takes runs.
+        "take_runs" => {
+            out.told(source.group_by(key).into_iter().take(call.place).collect::<Vec<_>>())
         }
         "intersperse" => out.collected(source.intersperse(call.first)),
         _ => answered(source, call, out),

@@ -4,6 +4,7 @@
 use crate::call::Call;
 use crate::consumers;
 use crate::transcript::{Answered, Transcript};
+use ne_laws::reader::take_runs;
 use nonempty_collections::vector::IntoIter;
 use nonempty_collections::{IntoNonEmptyIterator, NEVec, NonEmptyIterator, NonEmptyItertools};
 use std::alloc::AllocError;
@@ -116,6 +117,7 @@ fn divided(source: IntoIter<u32>, call: &Call, out: &mut Transcript) -> Answered
             out.cloned(runs.collect::<Runs>(alloc))
         }
         "group_by_stopped" => stopped(source, call, out),
+        "take_runs" => out.told(take_runs(alloc, source, key, call.place)?.0),
         "intersperse" => {
             let items = source.intersperse(call.first);
             out.cloned(items.collect::<Result<NEVec<u32>, AllocError>>(alloc))

@@ -50,9 +50,12 @@ fn replayed(alloc: Global, script: &str) -> Result<String, AllocError> {
     Ok(out.text)
 }
 
-// Makes the call, and writes its line.
+// Makes the call, and writes its line. A call that reports a failed allocation leaves the others
+// as they are.
 fn replay(subject: &mut Subject, call: &Call, out: &mut Transcript) -> Answered {
-    answered(subject, call, out)?;
+    if answered(subject, call, out).is_err() {
+        out.said("AllocError")?;
+    }
     out.said(" | ")?;
     out.is_sorted = subject.is_hashed();
     out.is_brief = true;
@@ -108,7 +111,7 @@ impl Subject {
 
     fn write(&self, call: &Call, out: &mut Transcript) -> Answered {
         match self {
-            Subject::Vector(items) => write!(out.text, "{items:?} | {}", call.closure.calls()),
+            Subject::Vector(items) => vector::written_out(items, call, out),
             Subject::TreeMap(map) => keyed::tree_map_iter(map.iter(), out),
             Subject::HashedMap(map) => keyed::hashed_map_iter(map.iter(), out),
             Subject::IndexedMap(map) => keyed::indexed_map_iter(map.iter(), out),

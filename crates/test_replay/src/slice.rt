@@ -88,6 +88,7 @@ fn other(items: &NEVec<u32>, call: &Call, out: &mut Transcript) -> Answered {
         "array_len" => out.told(array.nonzero_len()),
         "array_slice" => out.told(array.as_nonempty_slice()),
         "array_vec" => out.made(array.into_nonempty_vec(out.alloc)),
+        "array_longest" => out.made([call.first; 32].into_nonempty_vec(out.alloc)),
         "array_iter" => out.collected(array.into_nonempty_iter()),
         "array_ref_iter" => out.collected((&array).into_nonempty_iter()),
         "once" => out.collected(once(call.first)),

@@ -36,9 +36,18 @@ impl Transcript {
         }
     }
 
-    /// Writes a result.
+    /// Writes a result, or the length and a checksum of its text, if that is long.
     pub fn told<T: Debug + Drop>(&mut self, answer: T) -> Answered {
-        write!(self.text, "{answer:?}")
+        let text = format!(in self.alloc; "{answer:?}")?;
+        if text.len() <= LONGEST {
+            return self.said(text.as_str());
+        }
+        write!(
+            self.text,
+            "{} bytes, {}",
+            text.len(),
+            checksum(text.as_str())
+        )
     }
 
     /// Writes a result, if there was memory for it.
@@ -133,6 +142,9 @@ impl Transcript {
         self.yielded(long.as_str().lines())
     }
 }
+
+// The length of the longest result that is written in full.
+const LONGEST: usize = 1000;
 
 // For more items than these, an iterator is written by their number, the first, the last and a
 // checksum.

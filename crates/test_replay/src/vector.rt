@@ -22,7 +22,7 @@ pub fn made(items: &mut NEVec<u32>, call: &Call, out: &mut Transcript) -> Answer
         "nev_one" => put(items, nev![alloc; first]),
         "nev_two" => put(items, nev![alloc; first, last]),
         "nev_three" => put(items, nev![alloc; first, last, first]),
-        "nev_many" => put(items, nev![alloc; last; 3]),
+        "nev_many" => put(items, nev![alloc; last; call.size.get()]),
         _ => tried(items, call, out),
     }
 }
@@ -71,6 +71,7 @@ fn rewrite<'a, I: IntoIterator<Item = &'a mut u32>>(iter: I, call: &Call)
 fn edited(items: &mut NEVec<u32>, call: &Call, out: &mut Transcript) -> Answered {
     match call.name {
         "push" => items.push(call.first),
+        "extend_one" => items.extend_one(call.first),
         "pop" => out.told(items.pop()),
         "remove" if items.len().get() == 1 || call.place < items.len().get() => {
             out.told(items.remove(call.place))
@@ -160,6 +161,12 @@ fn read(items: &NEVec<u32>, call: &Call, out: &mut Transcript) -> Answered {
         "debug" => out.printed(items),
         _ => iterated(items, call, out),
     }
+}
+
+/// Writes a vector, and how often the call's closure was called.
+pub fn written_out(items: &NEVec<u32>, call: &Call, out: &mut Transcript) -> Answered {
+    shared(items.iter(), out)?;
+    write!(out.text, " | {}", call.closure.calls())
 }
 
 /// Writes what an iterator over references yields.

@@ -1,4 +1,4 @@
-//! Products with many rows, what `all_unique` draws, and clones of items that fail.
+//! What `all_unique` draws, and products of items whose clones fail.
 
 use super::numbers::Number;
 use super::{bump, is, list, prints};
@@ -6,22 +6,6 @@ use nonempty_collections::{IntoNonEmptyIterator, NEVec, NonEmptyIterator, NonEmp
 use std::alloc::{AllocError, Global};
 use std::cell::Cell;
 use std::test::Fail;
-
-// Three hundred rows of three hundred pairs: pair 40 of row 7 is at its index.
-#[test]
-fn large(rt: HostRuntime) -> Result<(), Fail> {
-    let items: Vec<u32> = (0u32..300).collect(rt.alloc())?;
-    let items = NEVec::try_from_vec(items).ok_or("no item")?;
-    let rows = items.nonempty_iter().copied();
-    let mut pairs = rows.cartesian_product(&items).into_iter();
-    let (row, column) = pairs.nth(7 * 300 + 40).ok_or("no pair")??;
-    let mut later = 0usize;
-    for pair in pairs {
-        let _pair = pair?;
-        later = later.wrapping_add(1);
-    }
-    is((row, *column, later), (7, 40, 300 * 300 - (7 * 300 + 41)))
-}
 
 // What `all_unique` returns for the items, and how many items it draws for that.
 fn differs(alloc: Global, items: &[u32], unique: bool, drawn: u32) -> Result<(), Fail> {
