@@ -15,7 +15,7 @@ use std::convert::AsSlice;
 use std::test::Fail;
 use user_generic::PairMap;
 
-// Takes `k` runs of the items by their tens. Fails unless they and the run that the reader then
+// Takes `k` runs of the items, each its own key. Fails unless they and the run that the reader then
 // yields print this text, and so many items were drawn and the key was called as often for the
 // first `k`.
 fn takes(alloc: Global, items: &[u32], k: usize, drawn: u32, wanted: &str) -> Result<(), Fail> {
@@ -26,7 +26,7 @@ fn takes(alloc: Global, items: &[u32], k: usize, drawn: u32, wanted: &str) -> Re
     });
     let key = |item: &u32| {
         bump(&keys);
-        *item / 10
+        *item
     };
     let (taken, mut reader) = take_runs(alloc, source, key, k)?;
     is((draws.get(), keys.get()), (drawn, drawn))?;
@@ -36,28 +36,15 @@ fn takes(alloc: Global, items: &[u32], k: usize, drawn: u32, wanted: &str) -> Re
 #[test]
 fn first_runs(rt: HostRuntime) -> Result<(), Fail> {
     let alloc = rt.alloc();
-    let pairs = [50u32, 50, 60, 60];
-    takes(alloc, &pairs, 0, 0, "([], Some(Ok([50, 50])))")?;
-    takes(alloc, &pairs, 1, 3, "([[50, 50]], Some(Ok([60, 60])))")?;
-    takes(alloc, &pairs, 2, 4, "([[50, 50], [60, 60]], None)")?;
-    takes(alloc, &pairs, usize::MAX, 4, "([[50, 50], [60, 60]], None)")?;
-    takes(alloc, &[70], 1, 1, "([[70]], None)")?;
-    let tens = [10u32, 20, 21, 30, 20];
-    takes(alloc, &tens, 9, 5, "([[10], [20, 21], [30], [20]], None)")?;
-    takes(alloc, &tens, 2, 4, "([[10], [20, 21]], Some(Ok([30])))")
-}
-
-// Ten thousand items, ten in each run.
-#[test]
-fn many_runs(rt: HostRuntime) -> Result<(), Fail> {
-    let items: Vec<u32> = (0u32..10_000).collect(rt.alloc())?;
-    let items = NEVec::try_from_vec(items)
-        .ok_or("no item")?
-        .into_nonempty_iter();
-    let (runs, mut reader) = take_runs(rt.alloc(), items, |item| *item / 10, 500)?;
-    let are_whole = runs.iter().all(|run| run.len().get() == 10);
-    let next = reader.next().ok_or("no run")??;
-    is((runs.len(), are_whole, *next.first()), (500, true, 5000))
+    let pairs = [5u32, 5, 6, 6];
+    takes(alloc, &pairs, 0, 0, "([], Some(Ok([5, 5])))")?;
+    takes(alloc, &pairs, 1, 3, "([[5, 5]], Some(Ok([6, 6])))")?;
+    takes(alloc, &pairs, 2, 4, "([[5, 5], [6, 6]], None)")?;
+    takes(alloc, &pairs, usize::MAX, 4, "([[5, 5], [6, 6]], None)")?;
+    takes(alloc, &[7], 1, 1, "([[7]], None)")?;
+    let more = [1u32, 2, 2, 3, 2];
+    takes(alloc, &more, 9, 5, "([[1], [2, 2], [3], [2]], None)")?;
+    takes(alloc, &more, 2, 4, "([[1], [2, 2]], Some(Ok([3])))")
 }
 
 // A reply as a number: 0 if the call was made, 1 if it was refused, 2 if no item was taken, 10 more

@@ -48,6 +48,24 @@ fn draws_and_keys(rt: HostRuntime) -> Result<(), Fail> {
     )
 }
 
+// One run of two fives. Its end is found by one more draw, and then nothing is drawn again.
+#[test]
+fn equal_items(rt: HostRuntime) -> Result<(), Fail> {
+    let draws = Cell::new(0u32);
+    let fives = down_from(2, &draws).map(|_| 5u32);
+    let mut reader = fives.group_by(rt.alloc(), |x| *x).into_iter();
+    let run = reader.next().ok_or("no run")??;
+    same(run.as_slice(), &[5, 5])?;
+    is(
+        (
+            reader.next().is_none(),
+            reader.next().is_none(),
+            draws.get(),
+        ),
+        (true, true, 3),
+    )
+}
+
 // The closure is called once for each item that is drawn, and not again at the end.
 #[test]
 fn calls_of_scan(rt: HostRuntime) -> Result<(), Fail> {

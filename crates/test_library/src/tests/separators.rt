@@ -35,9 +35,11 @@ fn second_clone_fails(rt: HostRuntime) -> Result<(), Fail> {
 #[test]
 fn drawn(rt: HostRuntime) -> Result<(), Fail> {
     let draws = Cell::new(0u32);
-    let mut items = down_from(2, &draws).intersperse(0).into_iter();
+    let fives = down_from(2, &draws).map(|_| 5);
+    let mut items = fives.intersperse(0).into_iter();
+    is(draws.get(), 1)?;
     let mut next = || (items.next(), draws.get());
-    is([next(), next()], [(Some(Ok(2)), 1), (Some(Ok(0)), 2)])?;
-    is([next(), next()], [(Some(Ok(1)), 2), (None, 3)])?;
+    is([next(), next()], [(Some(Ok(5)), 1), (Some(Ok(0)), 2)])?;
+    is([next(), next()], [(Some(Ok(5)), 2), (None, 3)])?;
     is([next(), next()], [(None, 4), (None, 5)])
 }
