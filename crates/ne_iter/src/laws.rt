@@ -24,7 +24,10 @@ pub use crate::iter::peekable::peekable_ends;
 pub use crate::iter::scan::scan_ends;
 pub use crate::iter::take::take_ends;
 pub use crate::iter::zip::zip_ends;
-pub use closures::{always_callable_is_callable_on_all_items, calls_of_a_function};
+pub use closures::{
+    always_callable_is_callable_in_scan, always_callable_is_callable_on_all_items,
+    calls_of_a_function,
+};
 pub use collected::{
     interspersed_lists_have_their_places, results_are_read_whole, results_make_a_vector,
     vectors_one_by_one_are_collected,

@@ -40,8 +40,9 @@ fn check_rows(
 
 #[test]
 fn rows_of_ends(rt: HostRuntime) -> Result<(), Fail> {
-    let rows: [(&[u8], Result<(), Fault>, &[u8]); 16] = [
+    let rows: [(&[u8], Result<(), Fault>, &[u8]); 17] = [
         (b"3\n1\n2\n", Ok(()), b"3 3 2\n"),
+        (b"1\n", Ok(()), b"1 1 1\n"),
         (b"007", Ok(()), b"1 7 7\n"),
         (b"999999999\n000000000", Ok(()), b"2 999999999 0\n"),
         (b"", Err(Fault::Empty), b""),
@@ -249,7 +250,7 @@ fn each_read_failed(rt: HostRuntime) -> Result<(), Fail> {
             let mut reader = reader_of(input, 1);
             reader.fails_at = turn;
             let mut writer = empty_tape(rt.alloc(), usize::MAX);
-            let answered = run(rt.alloc(), "equal", &mut reader, &mut writer);
+            let answered = run(rt.alloc(), "ends", &mut reader, &mut writer);
             is((input, turn, answered), (input, turn, Err(Fault::Read)))?;
             is(writer.calls, 0)?;
         }

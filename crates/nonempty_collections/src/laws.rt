@@ -25,16 +25,17 @@ pub use ne_index::laws::{
     index_sets_one_by_one_are_collected, key_lists_are_sets_in_order,
 };
 pub use ne_iter::laws::{
-    always_callable_is_callable_on_all_items, arrays_give_their_items, calls_of_a_function,
-    chain_ends, cloned_ends, copied_ends, enumerate_ends, first_items_stay_first, flat_map_ends,
-    flatten_ends, group_by_ends, groupings_stand_at_any_moment,
-    interspersed_lists_have_their_places, lists_are_read_whole, lists_follow_one_another, map_ends,
-    no_list_is_empty, numbers_have_one_greatest, numbers_have_one_least, once_ends, peekable_ends,
-    results_are_read_whole, results_make_a_vector, runs_by_a_function,
-    runs_by_keys_are_the_division, runs_make_the_whole, scan_ends, slice_runs_are_the_division,
-    sources_give_what_is_left, std_vectors_give_their_items, stopped_grouping_has_the_first_runs,
-    take_ends, vectors_give_their_items, vectors_one_by_one_are_collected,
-    whole_reading_gives_the_division, zip_ends,
+    always_callable_is_callable_in_scan, always_callable_is_callable_on_all_items,
+    arrays_give_their_items, calls_of_a_function, chain_ends, cloned_ends, copied_ends,
+    enumerate_ends, first_items_stay_first, flat_map_ends, flatten_ends, group_by_ends,
+    groupings_stand_at_any_moment, interspersed_lists_have_their_places, lists_are_read_whole,
+    lists_follow_one_another, map_ends, no_list_is_empty, numbers_have_one_greatest,
+    numbers_have_one_least, once_ends, peekable_ends, results_are_read_whole,
+    results_make_a_vector, runs_by_a_function, runs_by_keys_are_the_division, runs_make_the_whole,
+    scan_ends, slice_runs_are_the_division, sources_give_what_is_left,
+    std_vectors_give_their_items, stopped_grouping_has_the_first_runs, take_ends,
+    vectors_give_their_items, vectors_one_by_one_are_collected, whole_reading_gives_the_division,
+    zip_ends,
 };
 pub use ne_products::laws::{
     cartesian_product_ends, either_ends, either_gives_its_side, list_of_cartesian_product,

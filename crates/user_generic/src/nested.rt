@@ -4,7 +4,8 @@ ghost use Rattle.std.specs.Iterator.{IsFinite, IsFiniteIterable, size};
 ghost use Rattle.std.specs.List.{scan};
 ghost use Rattle.user_generic.specs.Nested.{IsScanOfAll};
 
-use nonempty_collections::iter::{FromNonEmptyIterator, NonEmptyIterator, Source};
+use nonempty_collections::iter::{Flatten, FromNonEmptyIterator, NonEmptyIterator, Source};
+use nonempty_collections::laws::always_callable_is_callable_in_scan;
 use nonempty_collections::{IntoNonEmptyIterator, NEVec};
 use std::alloc::{AllocError, Global};
 
@@ -28,6 +29,7 @@ pub fn scan_of_all<
     ensures { IfOk result (IsScanOfAll (⟦<S as Source>⟧.reads) (⟦<U as Source>⟧.reads)
         F.FnMut B.is_complete B.collected source init f) }
 {
+    always_callable_is_callable_in_scan::<St, <Flatten<S> as IntoIterator>::IntoIter, D, F>();
     source.flatten().scan(init, f).collect(alloc)
 }
 

@@ -2,6 +2,7 @@
 ghost use Rattle.std.specs.Prelude.{◌≡◌, List, map};
 ghost use Rattle.std.specs.Iterator.{ActsAs, CallableOnAllAt};
 ghost use Rattle.ne_iter.specs.Calls.{Calls};
+ghost use Rattle.ne_iter.specs.Scan.{CallableInScan};
 
 /// A closure that acts as a function returns the function's values, and stays unchanged.
 pub fn calls_of_a_function<A, B, F: FnMut(A) -> B>(f: &F)
@@ -15,4 +16,11 @@ pub fn calls_of_a_function<A, B, F: FnMut(A) -> B>(f: &F)
 pub fn always_callable_is_callable_on_all_items<I: Iterator, R, F: FnMut(&I::Item) -> R>()
     ensures { (it : I) (f : F) → F.IsAlwaysCallable f
         → CallableOnAllAt I.next_gives F.FnMut it f }
+{}
+
+/// A closure that can be called with any state and item can be called in a `scan` of an iterator.
+/// Generic code that knows the former calls this law before `scan`.
+pub fn always_callable_is_callable_in_scan<St, I: Iterator, B, F: FnMut(&mut St, I::Item) -> B>()
+    ensures { (it : I) (f : F) (init : St) → F.IsAlwaysCallable f
+        → CallableInScan I.next_gives F.FnMut it f init }
 {}
