@@ -3,8 +3,8 @@ use Rattle.std.specs.BTreeMap as tree
 use Rattle.std.specs.BTreeSet as tree_set
 use Rattle.std.specs.HashMap as hash
 use Rattle.std.specs.HashSet as hash_set
-use Rattle.std.proofs.Common.{◌≡◌, ◌<◌, ◌||◌, Bool, true, List, [], ◌∷◌, length, arith, is_some}
-use Rattle.std.proofs.Common.{sym, ap, subst, ◌∙◌, Option, None}
+use Rattle.std.proofs.Common.{◌≡◌, ◌<◌, ◌||◌, Bool, List, [], ◌∷◌, length, arith, is_some}
+use Rattle.std.proofs.Common.{sym, ap, subst, ◌∙◌, None}
 use Rattle.std.proofs.lemmas.Map.Entries.{length-keys_of}
 use Rattle.std.proofs.lemmas.Map.Keys.{IsDistinct-from_sorted}
 use Rattle.std.proofs.lemmas.Map.Made.{is_some-lookup, is_some-update_all}

@@ -1,5 +1,4 @@
 use Rattle.ne_iter.proofs.iter.scan.scan_ends.Goals as goal
-use Rattle.std.proofs.Common.{sym}
 use Rattle.ne_iter.specs.Scan.{scanned_from}
 
 pub returns : goal.returns
