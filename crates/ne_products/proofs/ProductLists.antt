@@ -86,13 +86,17 @@ module _ {U V W R X S T J A B : Type 0} (becomes : U → S → Type 0)
 
   listed : (xs : List A) (ys : List B) → ReadsList (Reads becomes steps) u xs
       → ReadsList (Reads meets other) w ys → PairsListed made next Exact v xs ys
-  listed xs ys first second exact = (
-    all_values (cartesian_product xs ys),
-    (triggered v (map Ok (cartesian_product xs ys)),
-    lists_of made next v (map Ok (cartesian_product xs ys)) (λ it m whole zs given.
-    product_list left clones infallible begins certain x gives exact.2 exact.1 xs ys exact.0 first
-    (each_yields others same from second) whole zs (record { it = it; made = m; given = given }))),
-  )
+  listed xs ys first second exact =
+      let each = each_yields others same from second in
+      let list = product_list left clones infallible begins certain x gives exact.2 exact.1 xs ys
+      exact.0 first each in (
+        all_values (cartesian_product xs ys),
+        (
+          triggered v (map Ok (cartesian_product xs ys)),
+          lists_of made next v (map Ok (cartesian_product xs ys)) (λ it m whole zs given.
+              list whole zs (record { it = it; made = m; given = given })),
+        ),
+      )
 
   pub pairs_lists : PairsLists (Lists becomes steps (λ x. x)) (Lists meets other (λ x. x))
       (BecomesList makes begins others itself) (PairsListed made next Exact v) u w

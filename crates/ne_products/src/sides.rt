@@ -36,9 +36,8 @@ impl<L: IntoNonEmptyIterator, R: IntoNonEmptyIterator<Item = L::Item>> NEEither<
     pub fn into_nonempty_iter(self) -> NEEither<L::IntoNEIter, R::IntoNEIter>
         ensures makes { MakesSide L.into_nonempty_iter_gives R.into_nonempty_iter_gives
             self result }
-        ensures gives {
-            EachReading (⟦<NEEither<L::IntoNEIter, R::IntoNEIter> as Source>⟧.reads) result
-            (λ whole xs. MatchSide result
+        ensures gives { EachReading (⟦<NEEither<L::IntoNEIter, R::IntoNEIter> as Source>⟧.reads)
+            result (λ whole xs. MatchSide result
             (λ s. ⟦<L::IntoNEIter as Source>⟧.reads whole s xs)
             (λ t. ⟦<R::IntoNEIter as Source>⟧.reads whole t xs)) }
         ensures ends { MatchSide result

@@ -32,7 +32,7 @@ module _ {A F : Type 0} (calls : Shared F (Bor A × (Bor A × Unit {0})) Bool) w
       → CallableAtPairs calls f xs → CallableAtPairs calls f (drop n xs)
   callable_later f xs n callable =
       All-drop (λ x. All (TakesPair calls f x) (drop n xs)) n xs (λ k d inside.
-          All-drop (TakesPair calls f (slice_index_or xs k d)) n xs (callable k d inside))
+      All-drop (TakesPair calls f (slice_index_or xs k d)) n xs (callable k d inside))
 
 pub front_is_some : {A : Type 0} (xs : List A) (n : ℕ) → 0 < n → n ≤ length xs → take n xs ≢ []
 front_is_some xs zero some within = absurd (omega (arith, some))

@@ -22,8 +22,8 @@ returns-clause-goes g c =
     let same = c.self.inside.same in
     let items = c.self.inside.items.now in
     let callable : CallableAtPairs g.F.Fn same items =
-        subst (λ s. CallableAtPairs g.F.Fn s.closure s.left) (sym c.self.view_is) c.requires in
+    subst (λ s. CallableAtPairs g.F.Fn s.closure s.left) (sym c.self.view_is) c.requires in
     let later : CallableAtPairs g.F.Fn same c.split_at.result.1.now =
-        subst (CallableAtPairs g.F.Fn same) (sym c.split_at.ensures.back)
-        (callable_later g.F.Fn same items c.run_by_first.result callable) in
+    subst (CallableAtPairs g.F.Fn same) (sym c.split_at.ensures.back)
+    (callable_later g.F.Fn same items c.run_by_first.result callable) in
     search rules
