@@ -1,8 +1,8 @@
 //! Non-empty collections and iterators: a port of the Rust crate of this name.
 //!
 //! A vector, slice, map, set or source of this crate always has an item, so methods that return an
-//! item always succeed. This crate has no code of its own except some laws. It exports the other
-//! crates of the port under the Rust crate's names, modules and macros included, and their laws in
+//! item always succeed. This crate has no code of its own except the macros and some laws. It
+//! exports the other crates of the port under the Rust crate's names and modules, and their laws in
 //! [`laws`]. Contracts name the definitions as `Rattle.nonempty_collections.specs`.
 #![tactic(auto)]
 
