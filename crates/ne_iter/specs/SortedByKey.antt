@@ -9,7 +9,7 @@ use Rattle.ne_vec.specs.KeyOrder.{KeysAscend, KeepsTies}
 use Rattle.ne_vec.specs.Lists.{View}
 
 module _ {A K F : Type 0} (calls : Mut F (Bor A × Unit {0}) K) (f : F) where
-  -- If f acts as a function h of what `view` makes of an item, these are the keys that h gives.
+  -- It speaks of an f that acts as a function h of what `view` makes of an item.
   -- The keys that f returns for ys ascend.
   abbrev pub AscendsByKey : (K → K → Ordering) → View A → List A → Type 0
   AscendsByKey cmp view ys = (h : view.Target → K) → ActsAsAt calls f (λ x. h (view.of x))

@@ -1,4 +1,4 @@
--- The order that a sort by a key makes. `grind` does not unfold these definitions.
+-- The order that a sort by a key makes. `grind` unfolds neither `KeysAscend` nor `KeepsTies`.
 use Rattle.std.specs.Prelude.{◌≡◌, ℕ, ◌≤◌, ◌<◌, Bool, false, List, length, slice_index_or}
 use Rattle.std.specs.List.{filter}
 use Rattle.std.specs.Ordering.{is_lt}
