@@ -20,6 +20,8 @@ pub mod ExtendListLaws
 pub mod SortedByKey
 pub mod KeyClones
 pub mod KeyCloneLaws
+pub mod KeptEntries
+pub mod KeptEntryLaws
 pub mod SameMap
 pub mod Arrays
 pub mod Once

@@ -1,8 +1,23 @@
 -- Methods that remove an item, but never the last one.
-use Rattle.std.specs.Prelude.{◌≡◌, ◌↔◌, List, Option, None, MatchOption, length}
+use Rattle.std.specs.Prelude.{◌≡◌, ◌↔◌, ◌⊎◌, Bool, false, List, Option, None, MatchBool}
+use Rattle.std.specs.Prelude.{MatchOption, length}
 
 -- If the list has one item, and only then, the result is `None` and the list is unchanged.
 -- An item is returned unless it is the only one, and `taken` says which one and what is left.
 abbrev pub TakesUnlessLast : {A : Type 0} → List A → List A → Option A → (A → Type 0) → Type 0
 TakesUnlessLast old new result taken = ((result ≡ None) ↔ (length old ≡ 1))
     × MatchOption result (new ≡ old) taken
+
+-- If the item is absent or the list has one item, and only then, the result is `None` and the list
+-- is unchanged. Otherwise `taken` says what is returned and what is left.
+abbrev pub TakesFoundUnlessLast : {A B : Type 0} → Type 0 → List A → List A → Option B
+    → (B → Type 0) → Type 0
+TakesFoundUnlessLast absent old new result taken =
+    ((result ≡ None) ↔ (absent ⊎ (length old ≡ 1))) × MatchOption result (new ≡ old) taken
+
+-- If the item is absent or the list has one item, and only then, the result is `false` and the
+-- list is unchanged. Otherwise `left` says what is left.
+abbrev pub RemovesFoundUnlessLast : {A : Type 0} → Type 0 → List A → List A → Bool → Type 0
+    → Type 0
+RemovesFoundUnlessLast absent old new result left =
+    ((result ≡ false) ↔ (absent ⊎ (length old ≡ 1))) × MatchBool result left (new ≡ old)

@@ -23,6 +23,7 @@ pub use Rattle.ne_iter.specs.Grouping
 pub use Rattle.ne_iter.specs.GroupingRuns
 pub use Rattle.ne_iter.specs.Intersperse
 pub use Rattle.ne_iter.specs.KeyList
+pub use Rattle.ne_iter.specs.KeptEntries
 pub use Rattle.ne_iter.specs.Keys
 pub use Rattle.ne_iter.specs.Map
 pub use Rattle.ne_iter.specs.Peekable

@@ -1,0 +1,24 @@
+-- What `retain` keeps of the entries of a map, if its closure depends on the entry alone.
+use Rattle.std.proofs.Common.{◌≡◌, Bool, true, false, cond, List, [], ◌∷◌, refl, subst, ◌∙◌, map}
+use Rattle.std.specs.List.{filter}
+use Rattle.std.specs.Map.Calls.{RetainsPairs}
+use Rattle.ne_iter.specs.KeptEntries.{kept_entries}
+
+module _ {F K V : Type 0} (called : F → K → V → Bool → V → F → Type 0) (keeps : K → V → Bool)
+    (writes : K → V → V) (f : F)
+    (pure : (k : K) (v : V) (b : Bool) (w : V) (f' : F) → called f k v b w f'
+    → (f' ≡ f) × (b ≡ keeps k v) × (w ≡ writes k v)) where
+  pub retains_kept : (es kept : List (K × V)) → RetainsPairs called f es kept
+      → kept ≡ kept_entries keeps writes es
+  retains_kept [] kept r = r
+  retains_kept (e ∷ es) kept (b, w, f', rest, call, others, is) =
+      let p = pure e.0 e.1 b w f' call in
+      let kept_rest : rest ≡ kept_entries keeps writes es = retains_kept es rest
+      (subst (λ v. RetainsPairs called v es rest) p.0 others) in
+      let one : kept ≡ cond (keeps e.0 e.1) ((e.0, writes e.0 e.1) ∷ kept_entries keeps writes es)
+      (kept_entries keeps writes es) = rw (is, p.1, p.2, kept_rest) refl in
+      one ∙ elim (keeps e.0 e.1) as (λ v. cond v
+      ((e.0, writes e.0 e.1) ∷ kept_entries keeps writes es) (kept_entries keeps writes es)
+      ≡ map (λ e. (e.0, writes e.0 e.1))
+      (cond v (e ∷ filter (λ e. keeps e.0 e.1) es)
+      (filter (λ e. keeps e.0 e.1) es))) [ true ↦ refl | false ↦ refl ]
