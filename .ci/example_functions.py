@@ -17,6 +17,7 @@ FOLDER = os.path.join("crates", "user_examples", "src")
 # The modules that are not named like the file whose examples they have.
 MODULES = {
     "ne_vec_lib": "root",
+    "ne_vec_vector_additions": "vector",
     "ne_tree_btree_map": "tree_map",
     "ne_tree_btree_set": "tree_set",
     "ne_hash_map": "hashed_map",

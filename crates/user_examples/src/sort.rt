@@ -13,3 +13,12 @@ pub fn sort(alloc: Global) -> Result<NEVec<u32>, AllocError>
     items.sort()?;
     Ok(items)
 }
+
+/// The example of `sort_unstable`.
+pub fn sort_unstable(alloc: Global) -> Result<NEVec<u32>, AllocError>
+    ensures { IfOk result (λ v. v ≡ 1 ∷ 1 ∷ 2 ∷ 3 ∷ 4 ∷ 5 ∷ 6 ∷ 9 ∷ []) }
+{
+    let mut items = nev![alloc; 3, 1, 4, 1, 5, 9, 2, 6]?;
+    items.sort_unstable();
+    Ok(items)
+}

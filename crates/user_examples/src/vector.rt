@@ -340,3 +340,30 @@ pub fn nonempty_chunks(alloc: Global) -> Result<(usize, usize, usize), AllocErro
         chunks[1].len().get(),
     ))
 }
+
+/// The example of `swap`.
+pub fn swap(alloc: Global) -> Result<NEVec<u32>, AllocError>
+    ensures { IfOk result (λ v. v ≡ 8 ∷ 6 ∷ 4 ∷ []) }
+{
+    let mut items = nev![alloc; 4, 6, 8]?;
+    items.swap(0, 2);
+    Ok(items)
+}
+
+/// The example of `extend_from_slice`.
+pub fn extend_from_slice(alloc: Global) -> Result<NEVec<u32>, AllocError>
+    ensures { IfOk result (λ v. v ≡ 4 ∷ 6 ∷ 8 ∷ 9 ∷ []) }
+{
+    let mut items = nev![alloc; 4, 6]?;
+    items.extend_from_slice(&[8, 9])?;
+    Ok(items)
+}
+
+/// The example of `split_off`.
+pub fn split_off(alloc: Global) -> Result<(Vec<u32>, NEVec<u32>), AllocError>
+    ensures { IfOk result (λ r. (r.0.items ≡ 6 ∷ 8 ∷ 9 ∷ []) × (r.1 ≡ 4 ∷ [])) }
+{
+    let mut items = nev![alloc; 4, 6, 8, 9]?;
+    let rest = items.split_off(NonZeroUsize::new(1).unwrap())?;
+    Ok((rest.to_vec(alloc)?, items))
+}

@@ -105,6 +105,14 @@ pub fn sort_by_price(sales: &mut NEVec<Sale>) -> Result<(), AllocError>
     sales.sort_by_key(|s| s.price)
 }
 
+/// Sorts the sales by their prices, and allocates nothing.
+pub fn sort_unstable_by_price(sales: &mut NEVec<Sale>)
+    ensures permutation { IsPermutation sales.old sales.new }
+    ensures ascend { KeysAscend (λ s. s.price) nat_cmp sales.new }
+{
+    sales.sort_unstable_by_key(|s| s.price);
+}
+
 /// Returns the price of the last sale, by a fold.
 pub fn last_price(sales: &NEVec<Sale>) -> u32
     ensures { result ≡ fold (λ before s. s.price) 0 sales.now }

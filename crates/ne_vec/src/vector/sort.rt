@@ -76,4 +76,56 @@ impl<T> NEVec<T> {
     {
         self.inner.sort_by_key(f)
     }
+    /// Sorts the items in ascending order, without allocating. Equal items may change their order.
+    /// The Rust crate lacks it; it is `Vec`'s.
+    ///
+    /// ```
+    /// let mut items = nev![alloc; 3, 1, 4, 1, 5, 9, 2, 6]?;
+    /// items.sort_unstable(); // [1, 1, 2, 3, 4, 5, 6, 9]
+    /// ```
+    pub fn sort_unstable(&mut self)
+    where
+        T: Ord,
+        ensures permutation { IsPermutation self.old self.new }
+        ensures sorted { IsSorted T.cmp self.new }
+    {
+        self.inner.sort_unstable();
+    }
+
+    /// Sorts the items in ascending order by `f`, without allocating. Items for which `f` returns
+    /// `Equal` may change their order. The Rust crate lacks it; it is `Vec`'s.
+    ///
+    /// `f` must be callable with any two values of the items' type. The items are sorted if the
+    /// results of `f` are a total preorder; otherwise they are in some order.
+    ///
+    /// ```
+    /// let mut items = nev![alloc; 3, 1, 4, 9, 5]?;
+    /// items.sort_unstable_by(|x, y| y.cmp(x)); // [9, 5, 4, 3, 1]
+    /// ```
+    pub fn sort_unstable_by<F: FnMut(&T, &T) -> Ordering>(&mut self, f: F)
+        requires { F.IsAlwaysCallable f }
+        ensures permutation { IsPermutation self.old self.new }
+        ensures sorted { IsSortedByClosure F.FnMut f self.new }
+    {
+        self.inner.sort_unstable_by(f);
+    }
+
+    /// Sorts the items in ascending order of their keys, as `f` returns them, without allocating.
+    /// Items with equal keys may change their order. The Rust crate lacks it; it is `Vec`'s.
+    ///
+    /// `f` must be callable with any value of the items' type. The items are sorted if the key
+    /// depends on the item alone; otherwise they are in some order.
+    ///
+    /// ```
+    /// let mut items = nev![alloc; 31, 12, 44, 23]?;
+    /// items.sort_unstable_by_key(|x| *x % 10); // [31, 12, 23, 44]
+    /// ```
+    pub fn sort_unstable_by_key<K: Ord + Drop, F: FnMut(&T) -> K>(&mut self, f: F)
+        requires { F.IsAlwaysCallable f }
+        ensures permutation { IsPermutation self.old self.new }
+        ensures sorted { IsSortedByKeyClosure F.FnMut K.cmp f self.new }
+        ensures keys { (h : T → K) → ActsAsAt F.FnMut f h → KeysAscend h K.cmp self.new }
+    {
+        self.inner.sort_unstable_by_key(f);
+    }
 }
