@@ -26,6 +26,7 @@ ghost use Rattle.ne_iter.specs.SourceLists.{MeetsList};
 ghost use Rattle.ne_hash.specs.HashLends.{std_iterator, LendsValue, LendsValues};
 ghost use Rattle.ne_iter.specs.KeyClones.{KeepsEntries};
 
+mod additions;
 mod iter;
 mod traits;
 
