@@ -26,6 +26,7 @@ ghost use Rattle.ne_tree.specs.TreeLends.{std_iterator, LendsValue, LendsValues}
 ghost use Rattle.ne_tree.specs.TreeLends.{LendsValuesInside};
 ghost use Rattle.ne_iter.specs.KeyClones.{KeepsEntries};
 
+mod additions;
 mod iter;
 mod traits;
 

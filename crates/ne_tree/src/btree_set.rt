@@ -22,6 +22,7 @@ ghost use Rattle.ne_iter.specs.KeyIterators.{ListsEntries, ListsUnion};
 ghost use Rattle.ne_iter.specs.SourceLists.{MeetsList};
 ghost use Rattle.ne_iter.specs.KeyClones.{KeepsItems};
 
+mod additions;
 mod iter;
 mod traits;
 

@@ -1,0 +1,187 @@
+//! The methods of an [`NEBTreeMap`] that the Rust crate lacks. They have the names of std's methods.
+//! Those that remove an entry never remove the only one.
+ghost use Rattle.std.specs.Prelude.{◌≡◌, ◌+◌, ◌-◌, ◌<◌, ◌^◌, [], ◌∷◌, ◌++◌, false, length, None};
+ghost use Rattle.std.specs.Prelude.{Some, is_some, slice_get, if◌then◌else◌, IfSome};
+ghost use Rattle.std.specs.BTreeMap.{btree_map_len, get, get_key, is_at, values, IsLowerBound};
+ghost use Rattle.std.specs.BTreeMap.{IsOrdered, IsRun, IsUpperBound, Updates};
+ghost use Rattle.std.specs.BTreeMap.Range.{entries_between, IsLeBy, IsLtBy, IsRangeOf};
+ghost use Rattle.std.specs.Map.{remove_entry};
+ghost use Rattle.std.specs.Map.Iter.{ShowsInOrder, ShowsInReverse, TakesFirst, TakesLast};
+ghost use Rattle.std.specs.Map.Iter.{deref_pair, ValuesAreAmong};
+ghost use Rattle.ne_vec.specs.Taken.{TakesFoundUnlessLast, TakesUnlessLast};
+
+use super::NEBTreeMap;
+use std::collections::btree_map;
+use std::ops::RangeBounds;
+
+impl<K: Ord, V> NEBTreeMap<K, V> {
+    /// Removes the key equal to `k` and returns its value. Returns `None` if there is no such key,
+    /// or if it is the only one, which then stays.
+    ///
+    /// ```
+    /// let mut map = nebtm![alloc; 2 => 24, 4 => 26]?;
+    /// let removed = map.remove(&2); // Some(24), and map is {4: 26}
+    /// let none = map.remove(&4); // None: the only key stays
+    /// ```
+    pub fn remove(&mut self, k: &K) -> Option<V>
+    where
+        K: Drop,
+        ensures entries { TakesFoundUnlessLast (get K.cmp self.old k.now ≡ None) self.old.entries
+            self.new.entries result (λ v. (get K.cmp self.old k.now ≡ Some v)
+            × (self.new.entries ≡ remove_entry (is_at (K.cmp k.now)) self.old.entries)) }
+        ensures updates { IfSome result (λ _. Updates K.cmp self.old self.new k.now None) }
+        ensures len { btree_map_len self.new + (if is_some result then 1 else 0)
+            ≡ btree_map_len self.old }
+        ensures ordered { IsOrdered K.cmp self.new }
+        ensures nonempty { 0 < btree_map_len self.new }
+    {
+        if self.inner.len() > 1 {
+            self.inner.remove(k)
+        } else {
+            None
+        }
+    }
+
+    /// Removes the key equal to `k` and returns it, as it was in the map, and its value. Returns
+    /// `None` if there is no such key, or if it is the only one, which then stays.
+    ///
+    /// ```
+    /// let mut map = nebtm![alloc; 2 => 24, 4 => 26]?;
+    /// let removed = map.remove_entry(&4); // Some((4, 26)), and map is {2: 24}
+    /// let none = map.remove_entry(&2); // None: the only key stays
+    /// ```
+    pub fn remove_entry(&mut self, k: &K) -> Option<(K, V)>
+        ensures entries { TakesFoundUnlessLast (get K.cmp self.old k.now ≡ None) self.old.entries
+            self.new.entries result (λ p. (get_key K.cmp self.old k.now ≡ Some p.0)
+            × (get K.cmp self.old k.now ≡ Some p.1)
+            × (self.new.entries ≡ remove_entry (is_at (K.cmp k.now)) self.old.entries)) }
+        ensures updates { IfSome result (λ _. Updates K.cmp self.old self.new k.now None) }
+        ensures len { btree_map_len self.new + (if is_some result then 1 else 0)
+            ≡ btree_map_len self.old }
+        ensures ordered { IsOrdered K.cmp self.new }
+        ensures nonempty { 0 < btree_map_len self.new }
+    {
+        if self.inner.len() > 1 {
+            self.inner.remove_entry(k)
+        } else {
+            None
+        }
+    }
+
+    /// Returns the least key and its value, which are always there.
+    ///
+    /// ```
+    /// let map = nebtm![alloc; 4 => 1, 2 => 3]?;
+    /// let pair = map.first_key_value(); // (&2, &3)
+    /// ```
+    pub fn first_key_value(&self) -> (&K, &V)
+        ensures first { slice_get self.now.entries 0 ≡ Some (result.0.now, result.1.now) }
+        ensures value { get K.cmp self.now result.0.now ≡ Some result.1.now }
+        ensures least { IsLowerBound K.cmp self.now result.0.now }
+    {
+        self.inner.first_key_value().unwrap()
+    }
+
+    /// Returns the greatest key and its value, which are always there.
+    ///
+    /// ```
+    /// let map = nebtm![alloc; 4 => 1, 2 => 3]?;
+    /// let pair = map.last_key_value(); // (&4, &1)
+    /// ```
+    pub fn last_key_value(&self) -> (&K, &V)
+        ensures last { slice_get self.now.entries (btree_map_len self.now - 1)
+            ≡ Some (result.0.now, result.1.now) }
+        ensures value { get K.cmp self.now result.0.now ≡ Some result.1.now }
+        ensures greatest { IsUpperBound K.cmp self.now result.0.now }
+    {
+        self.inner.last_key_value().unwrap()
+    }
+
+    /// Removes the least key and returns it and its value, or returns `None` if it is the only key,
+    /// which then stays.
+    ///
+    /// ```
+    /// let mut map = nebtm![alloc; 2 => 24, 4 => 26]?;
+    /// let popped = map.pop_first(); // Some((2, 24)), and map is {4: 26}
+    /// let none = map.pop_first(); // None: the only key stays
+    /// ```
+    pub fn pop_first(&mut self) -> Option<(K, V)>
+        ensures entries { TakesUnlessLast self.old.entries self.new.entries result
+            (λ p. self.old.entries ≡ p ∷ self.new.entries) }
+        ensures value { IfSome result (λ p. get K.cmp self.old p.0 ≡ Some p.1) }
+        ensures least { IfSome result (λ p. IsLowerBound K.cmp self.old p.0) }
+        ensures updates { IfSome result (λ p. Updates K.cmp self.old self.new p.0 None) }
+        ensures ordered { IsOrdered K.cmp self.new }
+        ensures nonempty { 0 < btree_map_len self.new }
+    {
+        if self.inner.len() > 1 {
+            self.inner.pop_first()
+        } else {
+            None
+        }
+    }
+
+    /// Removes the greatest key and returns it and its value, or returns `None` if it is the only
+    /// key, which then stays.
+    ///
+    /// ```
+    /// let mut map = nebtm![alloc; 2 => 24, 4 => 26]?;
+    /// let popped = map.pop_last(); // Some((4, 26)), and map is {2: 24}
+    /// let none = map.pop_last(); // None: the only key stays
+    /// ```
+    pub fn pop_last(&mut self) -> Option<(K, V)>
+        ensures entries { TakesUnlessLast self.old.entries self.new.entries result
+            (λ p. self.old.entries ≡ self.new.entries ++ p ∷ []) }
+        ensures value { IfSome result (λ p. get K.cmp self.old p.0 ≡ Some p.1) }
+        ensures greatest { IfSome result (λ p. IsUpperBound K.cmp self.old p.0) }
+        ensures updates { IfSome result (λ p. Updates K.cmp self.old self.new p.0 None) }
+        ensures ordered { IsOrdered K.cmp self.new }
+        ensures nonempty { 0 < btree_map_len self.new }
+    {
+        if self.inner.len() > 1 {
+            self.inner.pop_last()
+        } else {
+            None
+        }
+    }
+
+    /// Returns `false`, as there is always a key.
+    ///
+    /// It exists for code that is written for `BTreeMap` too.
+    pub fn is_empty(&self) -> bool
+        ensures never { result ≡ false }
+        ensures nonempty { 0 < btree_map_len self.now }
+    {
+        let _ = &self.inner; // the invariant is known once a field is used
+        false
+    }
+
+    /// Returns an iterator over the pairs whose keys are in `range`, in ascending order of the
+    /// keys. There may be none, so this is std's iterator.
+    ///
+    /// The end of `range` must not be below its start, and they must not be equal if both are
+    /// excluded; std panics otherwise.
+    ///
+    /// ```
+    /// let map = nebtm![alloc; 2 => 24, 4 => 26, 6 => 23]?;
+    /// let pairs = map.range(3..7); // (&4, &26) and (&6, &23)
+    /// ```
+    pub fn range<R: RangeBounds<K> + Drop>(&self, range: R) -> btree_map::Range<'_, K, V>
+        requires { R.is_forward range (IsLeBy K.cmp) (IsLtBy K.cmp) }
+        ensures between { R.has_bounds range → result ≡ entries_between K.cmp (R.start_bound range)
+            (R.end_bound range) self.now.entries }
+        ensures in_range { R.has_bounds range
+            → IsRangeOf K.cmp (R.start_bound range) (R.end_bound range) self.now result }
+        ensures contiguous { IsRun self.now result }
+        ensures runs { ShowsInOrder (deref_pair {K = K} {X = V}) }
+        ensures runs_back { ShowsInReverse (deref_pair {K = K} {X = V}) }
+        ensures fits { length result < 2 ^ 63 }
+        ensures member { ValuesAreAmong (TakesFirst deref_pair) (λ x. x.1.now) result
+            (values self.now) }
+        ensures listed_back { ValuesAreAmong (TakesLast deref_pair) (λ x. x.1.now) result
+            (values self.now) }
+        ensures ordered { IsOrdered K.cmp self.now }
+    {
+        self.inner.range(range)
+    }
+}
