@@ -1,3 +1,4 @@
+pub mod Found
 pub mod IndexInserts
 pub mod KeyLists
 pub mod Put

@@ -25,6 +25,7 @@ ghost use Rattle.ne_iter.specs.SourceLists.{MeetsList};
 ghost use Rattle.ne_index.specs.IndexLends.{LendsValue};
 ghost use Rattle.ne_index.specs.Puts.{put_entry, put_item};
 
+mod additions;
 mod iter;
 mod traits;
 

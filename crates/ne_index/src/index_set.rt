@@ -23,6 +23,7 @@ ghost use Rattle.ne_iter.specs.SourceLists.{MeetsList};
 ghost use Rattle.ne_index.specs.KeyListSets.{IsKeyListSetOf};
 ghost use Rattle.ne_index.specs.Puts.{put_in_place, put_item};
 
+mod additions;
 mod iter;
 mod traits;
 

@@ -1,0 +1,155 @@
+//! Methods of index maps that the Rust crate lacks: those that remove entries, but never the last.
+ghost use Rattle.std.specs.Prelude.{◌≡◌, ◌+◌, ◌-◌, ◌<◌, ◌++◌, [], ◌∷◌, None, Some, IfSome, IsTrue};
+ghost use Rattle.std.specs.Prelude.{if◌then◌else◌, is_some, slice_get};
+ghost use Rattle.std.specs.Option.{option_map};
+ghost use Rattle.ne_vec.specs.Taken.{TakesFoundUnlessLast, TakesUnlessLast};
+ghost use Rattle.indexmap.specs.IndexMap.{get, get_key, hasher_of, index_map_len, IsUnique};
+ghost use Rattle.indexmap.specs.IndexMap.{shift_remove_entry, swap_remove_entry, Updates};
+
+use super::NEIndexMap;
+use std::hash::{BuildHasher, Hash};
+
+impl<K: Eq + Hash, V, S: BuildHasher> NEIndexMap<K, V, S> {
+    /// Removes the key equal to `k` and returns its value, or returns `None` if there is no such
+    /// key, or if it is the only one, which then stays. The last entry moves to the index of the
+    /// removed one.
+    ///
+    /// ```
+    /// let mut map = neim![alloc; 2 => 24, 4 => 26, 6 => 23]?;
+    /// let removed = map.swap_remove(&2); // Some(24), and map is {6: 23, 4: 26}
+    /// let none = map.swap_remove(&8); // None: there is no such key
+    /// ```
+    pub fn swap_remove(&mut self, k: &K) -> Option<V>
+    where
+        K: Drop,
+        ensures entries { TakesFoundUnlessLast (get K.eq self.old k.now ≡ None) self.old.entries
+            self.new.entries result (λ v. (get K.eq self.old k.now ≡ Some v)
+            × (self.new.entries ≡ swap_remove_entry (K.eq k.now) self.old.entries)) }
+        ensures updates { IfSome result (λ _. Updates K.eq self.old self.new k.now None) }
+        ensures len { index_map_len self.new + (if is_some result then 1 else 0)
+            ≡ index_map_len self.old }
+        ensures hasher { hasher_of self.new ≡ hasher_of self.old }
+        ensures unique { IsUnique K.eq self.new }
+        ensures nonempty { 0 < index_map_len self.new }
+    {
+        if self.inner.len() > 1 {
+            self.inner.swap_remove(k)
+        } else {
+            None
+        }
+    }
+
+    /// Removes the key equal to `k` and returns its value, or returns `None` if there is no such
+    /// key, or if it is the only one, which then stays. The entries after the removed one move one
+    /// index down.
+    ///
+    /// ```
+    /// let mut map = neim![alloc; 2 => 24, 4 => 26]?;
+    /// let removed = map.shift_remove(&2); // Some(24), and map is {4: 26}
+    /// let none = map.shift_remove(&4); // None: the only entry stays
+    /// ```
+    pub fn shift_remove(&mut self, k: &K) -> Option<V>
+    where
+        K: Drop,
+        ensures entries { TakesFoundUnlessLast (get K.eq self.old k.now ≡ None) self.old.entries
+            self.new.entries result (λ v. (get K.eq self.old k.now ≡ Some v)
+            × (self.new.entries ≡ shift_remove_entry (K.eq k.now) self.old.entries)) }
+        ensures updates { IfSome result (λ _. Updates K.eq self.old self.new k.now None) }
+        ensures len { index_map_len self.new + (if is_some result then 1 else 0)
+            ≡ index_map_len self.old }
+        ensures hasher { hasher_of self.new ≡ hasher_of self.old }
+        ensures unique { IsUnique K.eq self.new }
+        ensures nonempty { 0 < index_map_len self.new }
+    {
+        if self.inner.len() > 1 {
+            self.inner.shift_remove(k)
+        } else {
+            None
+        }
+    }
+
+    /// Removes the key equal to `k` and returns it, as it was in the map, with its value. Returns
+    /// `None` if there is no such key, or if it is the only one, which then stays. The last entry
+    /// moves to the index of the removed one.
+    ///
+    /// ```
+    /// let mut map = neim![alloc; 2 => 24, 4 => 26, 6 => 23]?;
+    /// let removed = map.swap_remove_entry(&2); // Some((2, 24)), and map is {6: 23, 4: 26}
+    /// let none = map.swap_remove_entry(&8); // None: there is no such key
+    /// ```
+    pub fn swap_remove_entry(&mut self, k: &K) -> Option<(K, V)>
+        ensures entries { TakesFoundUnlessLast (get K.eq self.old k.now ≡ None) self.old.entries
+            self.new.entries result (λ p. (get_key K.eq self.old k.now ≡ Some p.0)
+            × (get K.eq self.old k.now ≡ Some p.1)
+            × (self.new.entries ≡ swap_remove_entry (K.eq k.now) self.old.entries)) }
+        ensures same { IfSome result (λ p. IsTrue (K.eq k.now p.0)) }
+        ensures updates { IfSome result (λ _. Updates K.eq self.old self.new k.now None) }
+        ensures len { index_map_len self.new + (if is_some result then 1 else 0)
+            ≡ index_map_len self.old }
+        ensures hasher { hasher_of self.new ≡ hasher_of self.old }
+        ensures unique { IsUnique K.eq self.new }
+        ensures nonempty { 0 < index_map_len self.new }
+    {
+        if self.inner.len() > 1 {
+            self.inner.swap_remove_entry(k)
+        } else {
+            None
+        }
+    }
+
+    /// Removes the key equal to `k` and returns it, as it was in the map, with its value. Returns
+    /// `None` if there is no such key, or if it is the only one, which then stays. The entries
+    /// after the removed one move one index down.
+    ///
+    /// ```
+    /// let mut map = neim![alloc; 2 => 24, 4 => 26]?;
+    /// let removed = map.shift_remove_entry(&2); // Some((2, 24)), and map is {4: 26}
+    /// let none = map.shift_remove_entry(&4); // None: the only entry stays
+    /// ```
+    pub fn shift_remove_entry(&mut self, k: &K) -> Option<(K, V)>
+        ensures entries { TakesFoundUnlessLast (get K.eq self.old k.now ≡ None) self.old.entries
+            self.new.entries result (λ p. (get_key K.eq self.old k.now ≡ Some p.0)
+            × (get K.eq self.old k.now ≡ Some p.1)
+            × (self.new.entries ≡ shift_remove_entry (K.eq k.now) self.old.entries)) }
+        ensures same { IfSome result (λ p. IsTrue (K.eq k.now p.0)) }
+        ensures updates { IfSome result (λ _. Updates K.eq self.old self.new k.now None) }
+        ensures len { index_map_len self.new + (if is_some result then 1 else 0)
+            ≡ index_map_len self.old }
+        ensures hasher { hasher_of self.new ≡ hasher_of self.old }
+        ensures unique { IsUnique K.eq self.new }
+        ensures nonempty { 0 < index_map_len self.new }
+    {
+        if self.inner.len() > 1 {
+            self.inner.shift_remove_entry(k)
+        } else {
+            None
+        }
+    }
+
+    /// Removes the last entry and returns it, or returns `None` if it is the only one, which then
+    /// stays.
+    ///
+    /// ```
+    /// let mut map = neim![alloc; 2 => 24, 4 => 26]?;
+    /// let popped = map.pop(); // Some((4, 26)), and map is {2: 24}
+    /// let none = map.pop(); // None: the only entry stays
+    /// ```
+    pub fn pop(&mut self) -> Option<(K, V)>
+        ensures entries { TakesUnlessLast self.old.entries self.new.entries result
+            (λ p. self.old.entries ≡ self.new.entries ++ p ∷ []) }
+        ensures last { IfSome result (λ p.
+            slice_get self.old.entries (index_map_len self.old - 1) ≡ Some p) }
+        ensures updates { IfSome result (λ p. Updates K.eq self.old self.new p.0 None) }
+        ensures len { index_map_len self.new + (if is_some result then 1 else 0)
+            ≡ index_map_len self.old }
+        ensures hasher { hasher_of self.new ≡ hasher_of self.old }
+        ensures unique { IsUnique K.eq self.new }
+        ensures nonempty { 0 < index_map_len self.new }
+    {
+        if self.inner.len() > 1 {
+            self.inner.pop()
+        } else {
+            None
+        }
+    }
+}

@@ -1,0 +1,154 @@
+//! Methods of index sets that the Rust crate lacks: those that remove items, but never the last.
+ghost use Rattle.std.specs.Prelude.{◌≡◌, ◌+◌, ◌-◌, ◌<◌, ◌++◌, [], ◌∷◌, Some, false, IfSome, IsTrue};
+ghost use Rattle.std.specs.Prelude.{if◌then◌else◌, is_some, slice_get};
+ghost use Rattle.std.specs.Bool.{OnTrue};
+ghost use Rattle.ne_vec.specs.Taken.{RemovesFoundUnlessLast, TakesFoundUnlessLast};
+ghost use Rattle.ne_vec.specs.Taken.{TakesUnlessLast};
+ghost use Rattle.indexmap.specs.IndexSet.{contains, get, hasher_of, index_set_len, remove_key};
+ghost use Rattle.indexmap.specs.IndexSet.{swap_remove_by, IsUnique, Updates};
+
+use super::NEIndexSet;
+use std::hash::{BuildHasher, Hash};
+
+impl<T: Eq + Hash, S: BuildHasher> NEIndexSet<T, S> {
+    /// Removes the item equal to `value`, and returns whether it was removed: `false` if there is
+    /// no such item, or if it is the only one, which then stays. The last item moves to the index
+    /// of the removed one.
+    ///
+    /// ```
+    /// let mut set = neis![alloc; 2, 4, 6]?;
+    /// let removed = set.swap_remove(&2); // true, and set is {6, 4}
+    /// let absent = set.swap_remove(&8); // false: there is no such item
+    /// ```
+    pub fn swap_remove(&mut self, value: &T) -> bool
+    where
+        T: Drop,
+        ensures keys { RemovesFoundUnlessLast (contains T.eq self.old value.now ≡ false)
+            self.old.keys self.new.keys result
+            (self.new.keys ≡ swap_remove_by (T.eq value.now) self.old.keys) }
+        ensures updates { OnTrue result (Updates T.eq self.old self.new value.now false) }
+        ensures len { index_set_len self.new + (if result then 1 else 0)
+            ≡ index_set_len self.old }
+        ensures hasher { hasher_of self.new ≡ hasher_of self.old }
+        ensures unique { IsUnique T.eq self.new }
+        ensures nonempty { 0 < index_set_len self.new }
+    {
+        if self.inner.len() > 1 {
+            self.inner.swap_remove(value)
+        } else {
+            false
+        }
+    }
+
+    /// Removes the item equal to `value`, and returns whether it was removed: `false` if there is
+    /// no such item, or if it is the only one, which then stays. The items after the removed one
+    /// move one index down.
+    ///
+    /// ```
+    /// let mut set = neis![alloc; 2, 4]?;
+    /// let removed = set.shift_remove(&2); // true, and set is {4}
+    /// let stays = set.shift_remove(&4); // false: the only item stays
+    /// ```
+    pub fn shift_remove(&mut self, value: &T) -> bool
+    where
+        T: Drop,
+        ensures keys { RemovesFoundUnlessLast (contains T.eq self.old value.now ≡ false)
+            self.old.keys self.new.keys result
+            (self.new.keys ≡ remove_key (T.eq value.now) self.old.keys) }
+        ensures updates { OnTrue result (Updates T.eq self.old self.new value.now false) }
+        ensures len { index_set_len self.new + (if result then 1 else 0)
+            ≡ index_set_len self.old }
+        ensures hasher { hasher_of self.new ≡ hasher_of self.old }
+        ensures unique { IsUnique T.eq self.new }
+        ensures nonempty { 0 < index_set_len self.new }
+    {
+        if self.inner.len() > 1 {
+            self.inner.shift_remove(value)
+        } else {
+            false
+        }
+    }
+
+    /// Removes the item equal to `value` and returns it, as it was in the set. Returns `None` if
+    /// there is no such item, or if it is the only one, which then stays. The last item moves to
+    /// the index of the removed one.
+    ///
+    /// ```
+    /// let mut set = neis![alloc; 2, 4, 6]?;
+    /// let taken = set.swap_take(&2); // Some(2), and set is {6, 4}
+    /// let none = set.swap_take(&8); // None: there is no such item
+    /// ```
+    pub fn swap_take(&mut self, value: &T) -> Option<T>
+        ensures keys { TakesFoundUnlessLast (contains T.eq self.old value.now ≡ false)
+            self.old.keys self.new.keys result (λ x. (get T.eq self.old value.now ≡ Some x)
+            × (self.new.keys ≡ swap_remove_by (T.eq value.now) self.old.keys)) }
+        ensures same { IfSome result (λ x. IsTrue (T.eq value.now x)) }
+        ensures updates { IfSome result (λ _. Updates T.eq self.old self.new value.now false) }
+        ensures len { index_set_len self.new + (if is_some result then 1 else 0)
+            ≡ index_set_len self.old }
+        ensures hasher { hasher_of self.new ≡ hasher_of self.old }
+        ensures unique { IsUnique T.eq self.new }
+        ensures nonempty { 0 < index_set_len self.new }
+    {
+        if self.inner.len() > 1 {
+            self.inner.swap_take(value)
+        } else {
+            None
+        }
+    }
+
+    /// Removes the item equal to `value` and returns it, as it was in the set. Returns `None` if
+    /// there is no such item, or if it is the only one, which then stays. The items after the
+    /// removed one move one index down.
+    ///
+    /// ```
+    /// let mut set = neis![alloc; 2, 4]?;
+    /// let taken = set.shift_take(&2); // Some(2), and set is {4}
+    /// let none = set.shift_take(&4); // None: the only item stays
+    /// ```
+    pub fn shift_take(&mut self, value: &T) -> Option<T>
+        ensures keys { TakesFoundUnlessLast (contains T.eq self.old value.now ≡ false)
+            self.old.keys self.new.keys result (λ x. (get T.eq self.old value.now ≡ Some x)
+            × (self.new.keys ≡ remove_key (T.eq value.now) self.old.keys)) }
+        ensures same { IfSome result (λ x. IsTrue (T.eq value.now x)) }
+        ensures updates { IfSome result (λ _. Updates T.eq self.old self.new value.now false) }
+        ensures len { index_set_len self.new + (if is_some result then 1 else 0)
+            ≡ index_set_len self.old }
+        ensures hasher { hasher_of self.new ≡ hasher_of self.old }
+        ensures unique { IsUnique T.eq self.new }
+        ensures nonempty { 0 < index_set_len self.new }
+    {
+        if self.inner.len() > 1 {
+            self.inner.shift_take(value)
+        } else {
+            None
+        }
+    }
+
+    /// Removes the last item and returns it, or returns `None` if it is the only one, which then
+    /// stays.
+    ///
+    /// ```
+    /// let mut set = neis![alloc; 2, 4]?;
+    /// let popped = set.pop(); // Some(4), and set is {2}
+    /// let none = set.pop(); // None: the only item stays
+    /// ```
+    pub fn pop(&mut self) -> Option<T>
+        ensures keys { TakesUnlessLast self.old.keys self.new.keys result
+            (λ x. self.old.keys ≡ self.new.keys ++ x ∷ []) }
+        ensures last { IfSome result (λ x.
+            slice_get self.old.keys (index_set_len self.old - 1) ≡ Some x) }
+        ensures updates { IfSome result (λ x. Updates T.eq self.old self.new x false) }
+        ensures len { index_set_len self.new + (if is_some result then 1 else 0)
+            ≡ index_set_len self.old }
+        ensures hasher { hasher_of self.new ≡ hasher_of self.old }
+        ensures unique { IsUnique T.eq self.new }
+        ensures nonempty { 0 < index_set_len self.new }
+    {
+        if self.inner.len() > 1 {
+            self.inner.pop()
+        } else {
+            None
+        }
+    }
+}
