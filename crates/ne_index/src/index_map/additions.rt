@@ -1,12 +1,15 @@
-//! Methods of index maps that the Rust crate lacks: those that remove entries, but never the last.
-ghost use Rattle.std.specs.Prelude.{◌≡◌, ◌+◌, ◌-◌, ◌<◌, ◌++◌, [], ◌∷◌, None, Some, IfSome, IsTrue};
-ghost use Rattle.std.specs.Prelude.{if◌then◌else◌, is_some, slice_get};
-ghost use Rattle.std.specs.Option.{option_map};
+//! Methods of index maps that the Rust crate lacks: those that remove entries, but never the last, and
+//! `retain`.
+ghost use Rattle.std.specs.Prelude.{◌≡◌, ◌+◌, ◌-◌, ◌<◌, ◌↔◌, ◌++◌, [], ◌∷◌, None, Some, Bool};
+ghost use Rattle.std.specs.Prelude.{if◌then◌else◌, is_some, slice_get, IfSome, IsErr, IsTrue};
+ghost use Rattle.std.specs.Map.Calls.{CallableOnEachPair, CalledAtPair, RetainsPairs, TakesPair};
 ghost use Rattle.ne_vec.specs.Taken.{TakesFoundUnlessLast, TakesUnlessLast};
 ghost use Rattle.indexmap.specs.IndexMap.{get, get_key, hasher_of, index_map_len, IsUnique};
 ghost use Rattle.indexmap.specs.IndexMap.{shift_remove_entry, swap_remove_entry, Updates};
+ghost use Rattle.ne_iter.specs.KeptEntries.{either_way, kept_entries, ActsAsAtEntry};
 
 use super::NEIndexMap;
+use indexmap::IndexMap;
 use std::hash::{BuildHasher, Hash};
 
 impl<K: Eq + Hash, V, S: BuildHasher> NEIndexMap<K, V, S> {
@@ -150,6 +153,42 @@ impl<K: Eq + Hash, V, S: BuildHasher> NEIndexMap<K, V, S> {
             self.inner.pop()
         } else {
             None
+        }
+    }
+
+    /// Keeps the entries for which `f` returns `true`, in order and with the changes that `f` made
+    /// to their values, or returns the empty map as an error if there is no such entry. Both have
+    /// the hasher of this map.
+    ///
+    /// `f` is called once for each entry, in order. It must be callable with the key of each entry
+    /// and any value that it may have by then. The clause `kept` covers an `f` whose result and
+    /// changes depend on the entry alone; `asked` covers any `f`.
+    ///
+    /// ```
+    /// let map = neim![alloc; 6 => 24, 4 => 25, 2 => 26]?;
+    /// let even = map.retain(|_k, v| *v % 2 == 0); // Ok({6: 24, 2: 26})
+    /// let none = neim![alloc; 4 => 25]?.retain(|_k, v| *v % 2 == 0); // Err({})
+    /// ```
+    pub fn retain<F: FnMut(&K, &mut V) -> bool>(self, f: F) -> Result<Self, IndexMap<K, V, S>>
+    where
+        K: Drop,
+        V: Drop,
+        requires { CallableOnEachPair (CalledAtPair F.FnMut) (TakesPair F.FnMut) f self.entries }
+        ensures none { IsErr result ↔ ((either_way result).entries ≡ []) }
+        ensures kept { (keeps : K → V → Bool) (writes : K → V → V)
+            → ActsAsAtEntry F.FnMut f keeps writes
+            → (either_way result).entries ≡ kept_entries keeps writes self.entries }
+        ensures asked { RetainsPairs (CalledAtPair F.FnMut) f self.entries
+            (either_way result).entries }
+        ensures hasher { hasher_of (either_way result) ≡ hasher_of self }
+        ensures unique { IsUnique K.eq (either_way result) }
+    {
+        let mut inner = self.inner;
+        inner.retain(f);
+        if inner.is_empty() {
+            Err(inner)
+        } else {
+            Ok(NEIndexMap { inner })
         }
     }
 }

@@ -1,13 +1,20 @@
-//! Methods of index sets that the Rust crate lacks: those that remove items, but never the last.
-ghost use Rattle.std.specs.Prelude.{◌≡◌, ◌+◌, ◌-◌, ◌<◌, ◌++◌, [], ◌∷◌, Some, false, IfSome, IsTrue};
-ghost use Rattle.std.specs.Prelude.{if◌then◌else◌, is_some, slice_get};
+//! Methods of index sets that the Rust crate lacks: those that remove items, but never the last, and
+//! `retain`.
+ghost use Rattle.std.specs.Prelude.{◌≡◌, ◌+◌, ◌-◌, ◌<◌, ◌↔◌, ◌++◌, [], ◌∷◌, Some, Bool, false};
+ghost use Rattle.std.specs.Prelude.{if◌then◌else◌, filter, is_some, slice_get, IfSome, IsErr};
+ghost use Rattle.std.specs.Prelude.{IsTrue};
 ghost use Rattle.std.specs.Bool.{OnTrue};
+ghost use Rattle.std.specs.Fn.{CalledAt};
+ghost use Rattle.std.specs.Iterator.{ActsAsAt};
+ghost use Rattle.std.specs.List.Retain.{IsFiltered};
 ghost use Rattle.ne_vec.specs.Taken.{RemovesFoundUnlessLast, TakesFoundUnlessLast};
 ghost use Rattle.ne_vec.specs.Taken.{TakesUnlessLast};
 ghost use Rattle.indexmap.specs.IndexSet.{contains, get, hasher_of, index_set_len, remove_key};
 ghost use Rattle.indexmap.specs.IndexSet.{swap_remove_by, IsUnique, Updates};
+ghost use Rattle.ne_iter.specs.KeptEntries.{either_way};
 
 use super::NEIndexSet;
+use indexmap::IndexSet;
 use std::hash::{BuildHasher, Hash};
 
 impl<T: Eq + Hash, S: BuildHasher> NEIndexSet<T, S> {
@@ -149,6 +156,37 @@ impl<T: Eq + Hash, S: BuildHasher> NEIndexSet<T, S> {
             self.inner.pop()
         } else {
             None
+        }
+    }
+
+    /// Keeps the items for which `f` returns `true`, in order, or returns the empty set as an error
+    /// if there is no such item. Both have the hasher of this set.
+    ///
+    /// `f` is called once for each item, in order. It must be callable with any value of the items'
+    /// type. The clause `kept` covers an `f` whose result depends on the item alone; `asked` covers
+    /// any `f`.
+    ///
+    /// ```
+    /// let even = neis![alloc; 6, 5, 4]?.retain(|x| *x % 2 == 0); // Ok({6, 4})
+    /// let none = neis![alloc; 1, 3]?.retain(|x| *x % 2 == 0); // Err({})
+    /// ```
+    pub fn retain<F: FnMut(&T) -> bool>(self, f: F) -> Result<Self, IndexSet<T, S>>
+    where
+        T: Drop,
+        requires { F.IsAlwaysCallable f }
+        ensures none { IsErr result ↔ ((either_way result).keys ≡ []) }
+        ensures kept { (keeps : T → Bool) → ActsAsAt F.FnMut f keeps
+            → (either_way result).keys ≡ filter keeps self.keys }
+        ensures asked { IsFiltered (CalledAt F.FnMut) f self.keys (either_way result).keys }
+        ensures hasher { hasher_of (either_way result) ≡ hasher_of self }
+        ensures unique { IsUnique T.eq (either_way result) }
+    {
+        let mut inner = self.inner;
+        inner.retain(f);
+        if inner.is_empty() {
+            Err(inner)
+        } else {
+            Ok(NEIndexSet { inner })
         }
     }
 }
