@@ -1,17 +1,22 @@
-//! The methods of an [`NEBTreeMap`] that the Rust crate lacks. They have the names of std's methods.
+//! The methods of an [`NEBTreeMap`] that the Rust crate lacks, with the names of std's methods.
 //! Those that remove an entry never remove the only one.
-ghost use Rattle.std.specs.Prelude.{◌≡◌, ◌+◌, ◌-◌, ◌<◌, ◌^◌, [], ◌∷◌, ◌++◌, false, length, None};
-ghost use Rattle.std.specs.Prelude.{Some, is_some, slice_get, if◌then◌else◌, IfSome};
-ghost use Rattle.std.specs.BTreeMap.{btree_map_len, get, get_key, is_at, values, IsLowerBound};
-ghost use Rattle.std.specs.BTreeMap.{IsOrdered, IsRun, IsUpperBound, Updates};
+ghost use Rattle.std.specs.Prelude.{◌≡◌, ◌+◌, ◌-◌, ◌<◌, ◌^◌, ◌↔◌, [], ◌∷◌, ◌++◌, Bool, false};
+ghost use Rattle.std.specs.Prelude.{length, None, Some, is_some, slice_get, if◌then◌else◌};
+ghost use Rattle.std.specs.Prelude.{IfSome, IsErr};
+ghost use Rattle.std.specs.BTreeMap.{btree_map_len, get, get_key, is_at, keys, values, IsEmpty};
+ghost use Rattle.std.specs.BTreeMap.{IsLowerBound, IsOrdered, IsRun, IsUpperBound, Updates};
 ghost use Rattle.std.specs.BTreeMap.Range.{entries_between, IsLeBy, IsLtBy, IsRangeOf};
 ghost use Rattle.std.specs.Map.{remove_entry};
+ghost use Rattle.std.specs.Map.Calls.{CallableOnEachPair, CalledAtPair, RetainsPairs, TakesPair};
 ghost use Rattle.std.specs.Map.Iter.{ShowsInOrder, ShowsInReverse, TakesFirst, TakesLast};
 ghost use Rattle.std.specs.Map.Iter.{deref_pair, ValuesAreAmong};
 ghost use Rattle.ne_vec.specs.Taken.{TakesFoundUnlessLast, TakesUnlessLast};
+ghost use Rattle.ne_iter.specs.KeptEntries.{either_way, kept_entries, ActsAsAtEntry};
+ghost use Rattle.ne_iter.specs.KeyIterators.{KnownByValue, ListsEntriesByValue};
 
-use super::NEBTreeMap;
-use std::collections::btree_map;
+use super::{IntoKeys, IntoValues, NEBTreeMap};
+use ne_iter::iter::NonEmptyIter;
+use std::collections::{BTreeMap, btree_map};
 use std::ops::RangeBounds;
 
 impl<K: Ord, V> NEBTreeMap<K, V> {
@@ -145,6 +150,73 @@ impl<K: Ord, V> NEBTreeMap<K, V> {
         }
     }
 
+    /// Keeps the entries for which `f` returns `true`, in order and with the values that `f` left,
+    /// or returns the empty map as an error if there is no such entry.
+    ///
+    /// `f` is called once for each entry, in ascending order of the keys. The clause `kept` covers
+    /// an `f` whose result and changes depend on the entry alone; `asked` covers any `f`.
+    ///
+    /// ```
+    /// let even = nebtm![alloc; 2 => 24, 4 => 27]?.retain(|_k, v| *v % 2 == 0); // Ok({2: 24})
+    /// let none = nebtm![alloc; 2 => 25, 4 => 27]?.retain(|_k, v| *v % 2 == 0); // Err({})
+    /// ```
+    pub fn retain<F: FnMut(&K, &mut V) -> bool>(self, f: F) -> Result<Self, BTreeMap<K, V>>
+    where
+        K: Drop,
+        V: Drop,
+        requires { CallableOnEachPair (CalledAtPair F.FnMut) (TakesPair F.FnMut) f self.entries }
+        ensures none { IsErr result ↔ IsEmpty (either_way result) }
+        ensures kept { (keeps : K → V → Bool) (writes : K → V → V)
+            → ActsAsAtEntry F.FnMut f keeps writes
+            → (either_way result).entries ≡ kept_entries keeps writes self.entries }
+        ensures asked { RetainsPairs (CalledAtPair F.FnMut) f self.entries
+            (either_way result).entries }
+        ensures ordered { IsOrdered K.cmp (either_way result) }
+    {
+        let mut inner = self.inner;
+        inner.retain(f);
+        if inner.is_empty() {
+            Err(inner)
+        } else {
+            Ok(NEBTreeMap { inner })
+        }
+    }
+
+    /// Returns a non-empty iterator over the keys by value, in ascending order. The values are
+    /// dropped.
+    ///
+    /// ```
+    /// let keys = nebtm![alloc; 0 => 3, 2 => 1]?.into_keys(); // 0 and 2
+    /// ```
+    pub fn into_keys(self) -> IntoKeys<K, V>
+    where
+        K: Drop,
+        V: Drop,
+        ensures keys { result ≡ keys self }
+        ensures lists { ListsEntriesByValue KnownByValue result (keys self) }
+        ensures ordered { IsOrdered K.cmp self }
+        ensures nonempty { 0 < btree_map_len self }
+    {
+        NonEmptyIter::new(self.inner.into_keys())
+    }
+
+    /// Returns a non-empty iterator over the values by value, in ascending order of their keys. The
+    /// keys are dropped.
+    ///
+    /// ```
+    /// let values = nebtm![alloc; 0 => 3, 2 => 1]?.into_values(); // 3 and 1
+    /// ```
+    pub fn into_values(self) -> IntoValues<K, V>
+    where
+        K: Drop,
+        V: Drop,
+        ensures values { result ≡ values self }
+        ensures lists { ListsEntriesByValue KnownByValue result (values self) }
+        ensures nonempty { 0 < btree_map_len self }
+    {
+        NonEmptyIter::new(self.inner.into_values())
+    }
+
     /// Returns `false`, as there is always a key.
     ///
     /// It exists for code that is written for `BTreeMap` too.
@@ -159,8 +231,8 @@ impl<K: Ord, V> NEBTreeMap<K, V> {
     /// Returns an iterator over the pairs whose keys are in `range`, in ascending order of the
     /// keys. There may be none, so this is std's iterator.
     ///
-    /// The end of `range` must not be below its start, and they must not be equal if both are
-    /// excluded; std panics otherwise.
+    /// The start of `range` must be at most its end, and less than its end if both are excluded;
+    /// Rust's `BTreeMap` panics otherwise.
     ///
     /// ```
     /// let map = nebtm![alloc; 2 => 24, 4 => 26, 6 => 23]?;

@@ -6,6 +6,7 @@ ghost use Rattle.std.specs.BTreeMap.IterMut.{iter_mut_rest, IterMutCanStep};
 ghost use Rattle.std.specs.Map.Iter.{deref, deref_pair};
 ghost use Rattle.ne_vec.specs.Lists.{view_by};
 ghost use Rattle.ne_iter.specs.KeyIterators.{IteratesEntries, IteratesKnown, KnownByReference};
+ghost use Rattle.ne_iter.specs.KeyIterators.{KnownByValue};
 ghost use Rattle.ne_iter.specs.KeyIteratorLaws.{HasFirst-entries};
 ghost use Rattle.ne_tree.specs.InOrder.{EntriesInOrder};
 
@@ -192,4 +193,28 @@ impl<'a, K, V> HeldIterator<btree_map::Values<'a, K, V>> for Held {
     ghost known = { KnownByReference 63 (deref {X = V}) };
 
     ghost has_first = { HasFirst-entries deref };
+}
+
+/// A non-empty iterator over the keys of an [`NEBTreeMap`] by value, in ascending order. In
+/// contracts it is the list of the keys.
+pub type IntoKeys<K, V> = NonEmptyIter<btree_map::IntoKeys<K, V>, Held>;
+
+impl<K: Drop, V: Drop> HeldIterator<btree_map::IntoKeys<K, V>> for Held {
+    ghost items_left = { length };
+
+    ghost known = { KnownByValue };
+
+    ghost has_first = { HasFirst-entries (λ x. x) };
+}
+
+/// A non-empty iterator over the values of an [`NEBTreeMap`] by value, in ascending order of their
+/// keys. In contracts it is the list of the values.
+pub type IntoValues<K, V> = NonEmptyIter<btree_map::IntoValues<K, V>, Held>;
+
+impl<K: Drop, V: Drop> HeldIterator<btree_map::IntoValues<K, V>> for Held {
+    ghost items_left = { length };
+
+    ghost known = { KnownByValue };
+
+    ghost has_first = { HasFirst-entries (λ x. x) };
 }

@@ -1,19 +1,26 @@
-//! The methods of an [`NEBTreeSet`] that the Rust crate lacks. They have the names of std's methods.
+//! The methods of an [`NEBTreeSet`] that the Rust crate lacks, with the names of std's methods.
 //! Those that remove an item never remove the only one.
-ghost use Rattle.std.specs.Prelude.{◌≡◌, ◌+◌, ◌-◌, ◌<◌, ◌^◌, [], ◌∷◌, ◌++◌, false, length, Some};
-ghost use Rattle.std.specs.Prelude.{is_some, slice_get, if◌then◌else◌, IfSome, IsTrue};
+ghost use Rattle.std.specs.Prelude.{◌≡◌, ◌+◌, ◌-◌, ◌<◌, ◌^◌, ◌↔◌, [], ◌∷◌, ◌++◌, Bool, false};
+ghost use Rattle.std.specs.Prelude.{length, Some, is_some, slice_get, if◌then◌else◌, IfSome};
+ghost use Rattle.std.specs.Prelude.{IsErr, IsTrue};
 ghost use Rattle.std.specs.Bool.{OnTrue};
 ghost use Rattle.std.specs.BTreeMap.{is_at};
 ghost use Rattle.std.specs.BTreeMap.Range.{IsLeBy, IsLtBy};
-ghost use Rattle.std.specs.BTreeSet.{btree_set_len, contains, get, keys_between, IsKeyRangeOf};
-ghost use Rattle.std.specs.BTreeSet.{IsLowerBound, IsOrdered, IsRun, IsUpperBound, Updates};
+ghost use Rattle.std.specs.BTreeSet.{btree_set_len, contains, get, keys_between, IsEmpty};
+ghost use Rattle.std.specs.BTreeSet.{IsKeyRangeOf, IsLowerBound, IsOrdered, IsRun, IsUpperBound};
+ghost use Rattle.std.specs.BTreeSet.{Updates};
+ghost use Rattle.std.specs.Fn.{CalledAt};
+ghost use Rattle.std.specs.Iterator.{ActsAsAt};
+ghost use Rattle.std.specs.List.{filter};
+ghost use Rattle.std.specs.List.Retain.{IsFiltered};
 ghost use Rattle.std.specs.Map.Iter.{ShowsInOrder, ShowsInReverse, deref};
 ghost use Rattle.std.specs.Set.{remove_key};
 ghost use Rattle.ne_vec.specs.Taken.{RemovesFoundUnlessLast, TakesFoundUnlessLast};
 ghost use Rattle.ne_vec.specs.Taken.{TakesUnlessLast};
+ghost use Rattle.ne_iter.specs.KeptEntries.{either_way};
 
 use super::NEBTreeSet;
-use std::collections::btree_set;
+use std::collections::{BTreeSet, btree_set};
 use std::ops::RangeBounds;
 
 impl<T: Ord> NEBTreeSet<T> {
@@ -145,6 +152,36 @@ impl<T: Ord> NEBTreeSet<T> {
         }
     }
 
+    /// Keeps the items for which `f` returns `true`, in order, or returns the empty set as an error
+    /// if there is no such item.
+    ///
+    /// `f` is called once for each item, in ascending order. It must be callable with any value of
+    /// the items' type. The clause `kept` covers an `f` whose result depends on the item alone;
+    /// `asked` covers any `f`.
+    ///
+    /// ```
+    /// let even = nebts![alloc; 4, 5, 6, 7]?.retain(|x| *x % 2 == 0); // Ok({4, 6})
+    /// let none = nebts![alloc; 1, 3]?.retain(|x| *x % 2 == 0); // Err({})
+    /// ```
+    pub fn retain<F: FnMut(&T) -> bool>(self, f: F) -> Result<Self, BTreeSet<T>>
+    where
+        T: Drop,
+        requires { F.IsAlwaysCallable f }
+        ensures none { IsErr result ↔ IsEmpty (either_way result) }
+        ensures kept { (keeps : T → Bool) → ActsAsAt F.FnMut f keeps
+            → (either_way result).keys ≡ filter keeps self.keys }
+        ensures asked { IsFiltered (CalledAt F.FnMut) f self.keys (either_way result).keys }
+        ensures ordered { IsOrdered T.cmp (either_way result) }
+    {
+        let mut inner = self.inner;
+        inner.retain(f);
+        if inner.is_empty() {
+            Err(inner)
+        } else {
+            Ok(NEBTreeSet { inner })
+        }
+    }
+
     /// Returns `false`, as there is always an item.
     ///
     /// It exists for code that is written for `BTreeSet` too.
@@ -159,8 +196,8 @@ impl<T: Ord> NEBTreeSet<T> {
     /// Returns an iterator over the items that are in `range`, in ascending order. There may be
     /// none, so this is std's iterator.
     ///
-    /// The end of `range` must not be below its start, and they must not be equal if both are
-    /// excluded; std panics otherwise.
+    /// The start of `range` must be at most its end, and less than its end if both are excluded;
+    /// Rust's `BTreeSet` panics otherwise.
     ///
     /// ```
     /// let set = nebts![alloc; 2, 4, 6]?;
