@@ -2,8 +2,9 @@
 //!
 //! The methods are in the Rust crate's order. This module has those that read and edit, `search`
 //! those that search, `sort` those that sort, `random` those that draw from a random number
-//! generator, `dedup` those that drop repeated neighbours, and `additions` those that the Rust crate
-//! lacks. `iter` has the non-empty iterators, and `traits` the other trait implementations.
+//! generator, `dedup` those that drop repeated neighbours, and `additions` further ones of `Vec`'s
+//! that the Rust crate lacks. `iter` has the non-empty iterators, and `traits` the other trait
+//! implementations.
 //!
 //! If an allocation fails, the Rust crate's methods abort the process. Here a method that allocates
 //! returns `AllocError`, and its comment says what holds after that. Constructors take an

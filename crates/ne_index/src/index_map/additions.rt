@@ -1,5 +1,5 @@
-//! Methods of index maps that the Rust crate lacks: those that remove entries, but never the last, and
-//! `retain`.
+//! The methods of an [`NEIndexMap`] that the Rust crate lacks, with the names that `indexmap` has.
+//! Those that remove an entry never remove the only one.
 ghost use Rattle.std.specs.Prelude.{◌≡◌, ◌+◌, ◌-◌, ◌<◌, ◌↔◌, ◌++◌, [], ◌∷◌, None, Some, Bool};
 ghost use Rattle.std.specs.Prelude.{if◌then◌else◌, is_some, slice_get, IfSome, IsErr, IsTrue};
 ghost use Rattle.std.specs.Map.Calls.{CallableOnEachPair, CalledAtPair, RetainsPairs, TakesPair};

@@ -1,5 +1,5 @@
-//! Methods of index sets that the Rust crate lacks: those that remove items, but never the last, and
-//! `retain`.
+//! The methods of an [`NEIndexSet`] that the Rust crate lacks, with the names that `indexmap` has.
+//! Those that remove an item never remove the only one.
 ghost use Rattle.std.specs.Prelude.{◌≡◌, ◌+◌, ◌-◌, ◌<◌, ◌↔◌, ◌++◌, [], ◌∷◌, Some, Bool, false};
 ghost use Rattle.std.specs.Prelude.{if◌then◌else◌, filter, is_some, slice_get, IfSome, IsErr};
 ghost use Rattle.std.specs.Prelude.{IsTrue};
