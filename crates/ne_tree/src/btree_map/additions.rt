@@ -10,6 +10,7 @@ ghost use Rattle.std.specs.Map.{remove_entry};
 ghost use Rattle.std.specs.Map.Calls.{CallableOnEachPair, CalledAtPair, RetainsPairs, TakesPair};
 ghost use Rattle.std.specs.Map.Iter.{ShowsInOrder, ShowsInReverse, TakesFirst, TakesLast};
 ghost use Rattle.std.specs.Map.Iter.{deref_pair, ValuesAreAmong};
+ghost use Rattle.std.specs.declared.cmp.Ordering.TheVariants.{Equal};
 ghost use Rattle.ne_vec.specs.Taken.{TakesFoundUnlessLast, TakesUnlessLast};
 ghost use Rattle.ne_iter.specs.KeptEntries.{either_way, kept_entries, ActsAsAtEntry};
 ghost use Rattle.ne_iter.specs.KeyIterators.{KnownByValue, ListsEntriesByValue};
@@ -61,6 +62,7 @@ impl<K: Ord, V> NEBTreeMap<K, V> {
             × (get K.cmp self.old k.now ≡ Some p.1)
             × (self.new.entries ≡ remove_entry (is_at (K.cmp k.now)) self.old.entries)) }
         ensures updates { IfSome result (λ _. Updates K.cmp self.old self.new k.now None) }
+        ensures same { IfSome result (λ p. K.cmp k.now p.0 ≡ Equal) }
         ensures len { btree_map_len self.new + (if is_some result then 1 else 0)
             ≡ btree_map_len self.old }
         ensures ordered { IsOrdered K.cmp self.new }

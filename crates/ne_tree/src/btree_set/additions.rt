@@ -14,6 +14,7 @@ ghost use Rattle.std.specs.Iterator.{ActsAsAt};
 ghost use Rattle.std.specs.List.{filter};
 ghost use Rattle.std.specs.List.Retain.{IsFiltered};
 ghost use Rattle.std.specs.Map.Iter.{ShowsInOrder, ShowsInReverse, deref};
+ghost use Rattle.std.specs.declared.cmp.Ordering.TheVariants.{Equal};
 ghost use Rattle.std.specs.Set.{remove_key};
 ghost use Rattle.ne_vec.specs.Taken.{RemovesFoundUnlessLast, TakesFoundUnlessLast};
 ghost use Rattle.ne_vec.specs.Taken.{TakesUnlessLast};
@@ -64,6 +65,7 @@ impl<T: Ord> NEBTreeSet<T> {
             self.old.keys self.new.keys result (λ x. (get T.cmp self.old value.now ≡ Some x)
             × (self.new.keys ≡ remove_key (is_at (T.cmp value.now)) self.old.keys)) }
         ensures updates { IfSome result (λ _. Updates T.cmp self.old self.new value.now false) }
+        ensures same { IfSome result (λ x. T.cmp value.now x ≡ Equal) }
         ensures len { btree_set_len self.new + (if is_some result then 1 else 0)
             ≡ btree_set_len self.old }
         ensures ordered { IsOrdered T.cmp self.new }
