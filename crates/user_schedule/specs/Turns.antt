@@ -1,7 +1,7 @@
 -- Which job comes next, and what is left after its turn. A schedule is seen as the list of its jobs
 -- with their names, in the order in which they were added.
 use Rattle.std.specs.Prelude.{ℕ, ◌+◌, ltb, List, nat_eq, if◌then◌else◌}
-use Rattle.std.specs.Map.{set_value}
+use Rattle.std.specs.Map.{remove_entry, set_value}
 use Rattle.nonempty_collections.specs.Consumers.{IsFirstLeast}
 use Rattle.user_schedule.specs.declared.schedule.Job.{Job}
 
@@ -23,3 +23,7 @@ due_again job = job.due + job.period
 abbrev pub after_turn : List (ℕ × Job) → ℕ × Job → List (ℕ × Job)
 after_turn jobs next = set_value (nat_eq next.0) jobs
     (record { period = next.1.period; due = due_again next.1 })
+
+-- The jobs but for the one of this name, in the same order.
+abbrev pub without : ℕ → List (ℕ × Job) → List (ℕ × Job)
+without name jobs = remove_entry (nat_eq name) jobs

@@ -1,10 +1,11 @@
-//! The number of turns and the jobs that a text writes.
+//! The number of turns, the jobs and the names of finished jobs that a text writes.
 use crate::schedule::{Job, Schedule};
 use anyhow::{Context, Result, ensure};
 use std::alloc::Global;
 
-/// Returns the number of turns and the jobs of a text, or an error that says what is wrong with it.
-pub fn read(alloc: Global, text: &str) -> Result<(u32, Schedule)> {
+/// Returns the number of turns, the jobs and the names of those that are finished, in order, or an
+/// error that says what is wrong with the text.
+pub fn read(alloc: Global, text: &str) -> Result<(u32, Schedule, Vec<u32>)> {
     let mut lines = text.lines();
     let turns = lines.next().context("there is no line")?;
     let turns = turns.parse().context("line 1 is not the number of turns")?;
@@ -13,7 +14,15 @@ pub fn read(alloc: Global, text: &str) -> Result<(u32, Schedule)> {
         .and_then(|line| named_job(line))
         .context("line 2 is no job")?;
     let mut schedule = Schedule::new(alloc, name, job)?;
+    let mut finished = Vec::new(alloc);
     for (place, line) in lines.enumerate() {
+        if let Some(name) = line.strip_prefix("finish ") {
+            let name = name
+                .parse()
+                .context(format_args!("line {} names no job", place + 3))?;
+            finished.push(name)?;
+            continue;
+        }
         let (name, job) = named_job(line).context(format_args!("line {} is no job", place + 3))?;
         ensure!(
             schedule.add(name, job)?,
@@ -21,7 +30,7 @@ pub fn read(alloc: Global, text: &str) -> Result<(u32, Schedule)> {
             place + 3
         );
     }
-    Ok((turns, schedule))
+    Ok((turns, schedule, finished))
 }
 
 // Returns the job that a line writes, with its name: two numbers, of which the period is not 0. It

@@ -2,18 +2,34 @@
 //! line a job, `NAME PERIOD`: two numbers, the period above 0. A job is first due after its period,
 //! and then once in each period. Of jobs that are due at once, the one that was named first comes
 //! first. Each turn is printed as a line: the time and the name of the job.
+//!
+//! A line `finish NAME`, below the second, finishes a job after these turns, and as many turns of
+//! the others follow. The last job cannot be finished.
 #![tactic(auto)]
 
 mod jobs;
 mod schedule;
 
 use anyhow::{Context, Result};
+use schedule::Schedule;
 use std::io;
 
 fn main(rt: HostRuntime) -> Result<()> {
     let alloc = rt.alloc();
     let text = io::read_to_string(alloc, rt.reader())?;
-    let (turns, mut schedule) = jobs::read(alloc, text.as_str())?;
+    let (turns, mut schedule, finished) = jobs::read(alloc, text.as_str())?;
+    run(&rt, &mut schedule, turns)?;
+    for name in finished {
+        schedule
+            .finish(name)
+            .context(format_args!("there is no job {name}, or it is the last"))?;
+        run(&rt, &mut schedule, turns)?;
+    }
+    Ok(())
+}
+
+// Prints the next turns.
+fn run(rt: &HostRuntime, schedule: &mut Schedule, turns: u32) -> Result<()> {
     for _ in 0..turns {
         let (name, job) = schedule.run_next().context("the time is up")?;
         println!(rt; "{} {name}", job.due)?;

@@ -3,7 +3,8 @@ ghost use Rattle.std.specs.Prelude.{◌≡◌, ◌≤◌, ◌^◌, ◌++◌, ◌
 ghost use Rattle.std.specs.Prelude.{MatchOption, OnErr, None, Some, true, is_some, nat_eq};
 ghost use Rattle.std.specs.List.{reduce};
 ghost use Rattle.std.specs.Map.{lookup, set_value};
-ghost use Rattle.user_schedule.specs.Turns.{ComesNext, after_turn, due_again, earlier};
+ghost use Rattle.nonempty_collections.specs.Taken.{TakesFoundUnlessLast};
+ghost use Rattle.user_schedule.specs.Turns.{ComesNext, after_turn, due_again, earlier, without};
 
 use nonempty_collections::{NEIndexMap, NonEmptyIterator};
 use std::alloc::{AllocError, Global};
@@ -89,6 +90,16 @@ impl Schedule {
         let due = job.due.checked_add(u64::from(job.period))?;
         put(&mut self.jobs, name, Job { due, ..job });
         Some((name, job))
+    }
+
+    /// Removes the job of this name and returns it. The others keep their order. Returns `None` if
+    /// there is no such job, or if it is the only one, which then stays.
+    pub fn finish(&mut self, name: u32) -> Option<Job>
+        ensures { TakesFoundUnlessLast (lookup (nat_eq name) self.old ≡ None) self.old self.new
+            result (λ job. (lookup (nat_eq name) self.old ≡ Some job)
+            × (self.new ≡ without name self.old)) }
+    {
+        self.jobs.shift_remove(&name)
     }
 }
 
