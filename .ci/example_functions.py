@@ -42,11 +42,13 @@ TABLES = {
     "ne_index": ("NEIndexMap<u32, u32>", "NEIndexSet<u32>"),
     "nonempty_collections": ("NEIndexMap<u32, u32>", "NEIndexSet<u32>"),
 }
+# What stands in front of a hashed table's name in std.
+INNER = {"ne_hash": "Hash"}
 DIGITS = "zero one two three four five six seven eight nine ten".split()
 # The names of what counts, or is a place.
 COUNTS = ("len", "count", "index")
 # Calls that return an iterator of std.
-OF_STD = re.compile(r"\.(?:iter|difference|intersection)\(")
+OF_STD = re.compile(r"\.(?:iter|difference|intersection|range)\(")
 
 
 class Value(NamedTuple):
@@ -76,6 +78,9 @@ def type_of(example, name, wanted):
         return f"({', '.join(type_of(example, name, it) for it in split(wanted[1:-1]))})"
     if wanted[0] == "{":
         return TABLES[example.crate][":" not in wanted]
+    if wanted.startswith(("Ok({", "Err({")):
+        table = TABLES[example.crate]["set" in example.label]
+        return f"Result<{table}, {INNER.get(example.crate, '')}{table.removeprefix('NE')}>"
     if wanted.startswith("Some("):
         return f"Option<{type_of(example, name, wanted[5:-1])}>"
     return stop(f"{example.label}: write its function by hand, since {wanted} has no rule")
@@ -137,17 +142,19 @@ def bound_value(example, name, wanted):
     annotated = re.search(rf"let (?:mut )?{name}: ([^=]+) =", "\n".join(example.lines))
     its_type = annotated[1] if annotated else type_of(example, name, wanted)
     its_type = "Vec<u32>" if wanted.startswith("&[") else its_type
-    given, some = without_references(name, wanted), re.fullmatch(r"Some\((\{.*)\)", wanted)
-    if wanted[0] == "{" or some:
-        table = some[1] if some else wanted
+    given, within = without_references(name, wanted), re.fullmatch(r"(Some|Ok)\((\{.*)\)", wanted)
+    if wanted[0] == "{" or within:
+        table = within[2] if within else wanted
         bound, said = "m" if ":" in table else "s", of_table(example.crate, table)
-        if some:
+        if within:
             inner = [(it, clause.replace("@", bound)) for it, clause in said]
-            said = [(it, f"IsSomeAnd @ (λ {bound}. {clause})") for it, clause in inner]
+            said = [(it, f"Is{within[1]}And @ (λ {bound}. {clause})") for it, clause in inner]
         return Value(name, its_type, given, bound, said)
     seen = "@.items" if its_type.startswith("Vec<") else "@.now" if wanted[0] == '"' else "@"
     clause = f"{seen} ≡ {word(wanted)}"
-    if its_type == "String":
+    if wanted == "Err({})":
+        clause = "IsErr @"
+    elif its_type == "String":
         clause = f"string_bytes @ ≡ {word(wanted)}"
     elif example.crate == "ne_hash" and wanted[0] == "[":
         clause = f"IsSetOf nat_eq ({word(wanted)}) {seen}"

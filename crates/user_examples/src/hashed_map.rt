@@ -207,3 +207,29 @@ pub fn clone(alloc: Global) -> Result<bool, AllocError>
     let same = map.clone()? == map;
     Ok(same)
 }
+
+/// The example of `remove`.
+pub fn remove(alloc: Global) -> Result<(Option<u32>, Option<u32>, NEMap<u32, u32>), AllocError>
+    ensures removed { IfOk result (λ r. r.0 ≡ Some 24) }
+    ensures none { IfOk result (λ r. r.1 ≡ None) }
+    ensures map { IfOk result (λ r. r.2.entries ≡ (4, 26) ∷ []) }
+{
+    let mut map = nem![alloc; 2 => 24, 4 => 26]?;
+    let removed = map.remove(&2);
+    let none = map.remove(&4);
+    Ok((removed, none, map))
+}
+
+/// The example of `remove_entry`.
+pub fn remove_entry(
+    alloc: Global,
+) -> Result<(Option<(u32, u32)>, Option<(u32, u32)>, NEMap<u32, u32>), AllocError>
+    ensures removed { IfOk result (λ r. r.0 ≡ Some (4, 26)) }
+    ensures none { IfOk result (λ r. r.1 ≡ None) }
+    ensures map { IfOk result (λ r. r.2.entries ≡ (2, 24) ∷ []) }
+{
+    let mut map = nem![alloc; 2 => 24, 4 => 26]?;
+    let removed = map.remove_entry(&4);
+    let none = map.remove_entry(&2);
+    Ok((removed, none, map))
+}

@@ -215,3 +215,27 @@ pub fn clone(alloc: Global) -> Result<bool, AllocError>
     let same = set.clone()? == set;
     Ok(same)
 }
+
+/// The example of `remove`.
+pub fn remove(alloc: Global) -> Result<(bool, bool, NESet<u32>), AllocError>
+    ensures removed { IfOk result (λ r. r.0 ≡ true) }
+    ensures stays { IfOk result (λ r. r.1 ≡ false) }
+    ensures set { IfOk result (λ r. r.2.keys ≡ 4 ∷ []) }
+{
+    let mut set = nes![alloc; 2, 4]?;
+    let removed = set.remove(&2);
+    let stays = set.remove(&4);
+    Ok((removed, stays, set))
+}
+
+/// The example of `take`.
+pub fn take(alloc: Global) -> Result<(Option<u32>, Option<u32>, NESet<u32>), AllocError>
+    ensures taken { IfOk result (λ r. r.0 ≡ Some 4) }
+    ensures none { IfOk result (λ r. r.1 ≡ None) }
+    ensures set { IfOk result (λ r. r.2.keys ≡ 2 ∷ []) }
+{
+    let mut set = nes![alloc; 2, 4]?;
+    let taken = set.take(&4);
+    let none = set.take(&2);
+    Ok((taken, none, set))
+}

@@ -1,6 +1,6 @@
 //! The examples of index maps, written by `.ci/examples --write`.
 ghost use Rattle.std.specs.Prelude.{◌≡◌, ◌+◌, ◌≤◌, [], ◌∷◌, true, false, IfOk};
-ghost use Rattle.std.specs.Prelude.{None, Some};
+ghost use Rattle.std.specs.Prelude.{None, Some, IsErr, IsOkAnd};
 ghost use Rattle.std.specs.Option.{IsSomeAnd};
 ghost use Rattle.indexmap.specs.IndexMap.{index_map_len, spare};
 
@@ -192,6 +192,95 @@ pub fn clone(alloc: Global) -> Result<NEIndexMap<u32, u32>, AllocError>
     let map = neim![alloc; 4 => 26, 2 => 24, 6 => 23, 8 => 25]?;
     let copy = map.clone()?;
     Ok(copy)
+}
+
+/// The example of `swap_remove`.
+pub fn swap_remove(
+    alloc: Global,
+) -> Result<(Option<u32>, Option<u32>, NEIndexMap<u32, u32>), AllocError>
+    ensures removed { IfOk result (λ r. r.0 ≡ Some 24) }
+    ensures none { IfOk result (λ r. r.1 ≡ None) }
+    ensures map { IfOk result (λ r. r.2.entries ≡ (6, 23) ∷ (4, 26) ∷ []) }
+{
+    let mut map = neim![alloc; 2 => 24, 4 => 26, 6 => 23]?;
+    let removed = map.swap_remove(&2);
+    let none = map.swap_remove(&8);
+    Ok((removed, none, map))
+}
+
+/// The example of `shift_remove`.
+pub fn shift_remove(
+    alloc: Global,
+) -> Result<(Option<u32>, Option<u32>, NEIndexMap<u32, u32>), AllocError>
+    ensures removed { IfOk result (λ r. r.0 ≡ Some 24) }
+    ensures none { IfOk result (λ r. r.1 ≡ None) }
+    ensures map { IfOk result (λ r. r.2.entries ≡ (4, 26) ∷ []) }
+{
+    let mut map = neim![alloc; 2 => 24, 4 => 26]?;
+    let removed = map.shift_remove(&2);
+    let none = map.shift_remove(&4);
+    Ok((removed, none, map))
+}
+
+/// The example of `swap_remove_entry`.
+pub fn swap_remove_entry(
+    alloc: Global,
+) -> Result<(Option<(u32, u32)>, Option<(u32, u32)>, NEIndexMap<u32, u32>), AllocError>
+    ensures removed { IfOk result (λ r. r.0 ≡ Some (2, 24)) }
+    ensures none { IfOk result (λ r. r.1 ≡ None) }
+    ensures map { IfOk result (λ r. r.2.entries ≡ (6, 23) ∷ (4, 26) ∷ []) }
+{
+    let mut map = neim![alloc; 2 => 24, 4 => 26, 6 => 23]?;
+    let removed = map.swap_remove_entry(&2);
+    let none = map.swap_remove_entry(&8);
+    Ok((removed, none, map))
+}
+
+/// The example of `shift_remove_entry`.
+pub fn shift_remove_entry(
+    alloc: Global,
+) -> Result<(Option<(u32, u32)>, Option<(u32, u32)>, NEIndexMap<u32, u32>), AllocError>
+    ensures removed { IfOk result (λ r. r.0 ≡ Some (2, 24)) }
+    ensures none { IfOk result (λ r. r.1 ≡ None) }
+    ensures map { IfOk result (λ r. r.2.entries ≡ (4, 26) ∷ []) }
+{
+    let mut map = neim![alloc; 2 => 24, 4 => 26]?;
+    let removed = map.shift_remove_entry(&2);
+    let none = map.shift_remove_entry(&4);
+    Ok((removed, none, map))
+}
+
+/// The example of `pop`.
+pub fn pop(
+    alloc: Global,
+) -> Result<(Option<(u32, u32)>, Option<(u32, u32)>, NEIndexMap<u32, u32>), AllocError>
+    ensures popped { IfOk result (λ r. r.0 ≡ Some (4, 26)) }
+    ensures none { IfOk result (λ r. r.1 ≡ None) }
+    ensures map { IfOk result (λ r. r.2.entries ≡ (2, 24) ∷ []) }
+{
+    let mut map = neim![alloc; 2 => 24, 4 => 26]?;
+    let popped = map.pop();
+    let none = map.pop();
+    Ok((popped, none, map))
+}
+
+/// The example of `retain`.
+pub fn retain(
+    alloc: Global,
+) -> Result<
+    (
+        Result<NEIndexMap<u32, u32>, IndexMap<u32, u32>>,
+        Result<NEIndexMap<u32, u32>, IndexMap<u32, u32>>,
+    ),
+    AllocError,
+>
+    ensures { IfOk result (λ r.
+        (IsOkAnd r.0 (λ m. m.entries ≡ (6, 24) ∷ (2, 26) ∷ [])) × (IsErr r.1)) }
+{
+    let map = neim![alloc; 6 => 24, 4 => 25, 2 => 26]?;
+    let even = map.retain(|_k, v| *v % 2 == 0);
+    let none = neim![alloc; 4 => 25]?.retain(|_k, v| *v % 2 == 0);
+    Ok((even, none))
 }
 
 /// The example of `index`.

@@ -1,5 +1,6 @@
 //! The examples of index sets, written by `.ci/examples --write`.
-ghost use Rattle.std.specs.Prelude.{◌≡◌, ◌+◌, ◌≤◌, [], ◌∷◌, true, false, IfOk, None, Some};
+ghost use Rattle.std.specs.Prelude.{◌≡◌, ◌+◌, ◌≤◌, [], ◌∷◌, true, false, IfOk};
+ghost use Rattle.std.specs.Prelude.{None, Some, IsErr, IsOkAnd};
 ghost use Rattle.std.specs.Option.{IsSomeAnd};
 ghost use Rattle.indexmap.specs.IndexSet.{index_set_len, spare};
 
@@ -191,4 +192,81 @@ pub fn clone(alloc: Global) -> Result<bool, AllocError>
     let set = neis![alloc; 2, 4, 6]?;
     let same = set.clone()? == set;
     Ok(same)
+}
+
+/// The example of `swap_remove`.
+pub fn swap_remove(alloc: Global) -> Result<(bool, bool, NEIndexSet<u32>), AllocError>
+    ensures removed { IfOk result (λ r. r.0 ≡ true) }
+    ensures absent { IfOk result (λ r. r.1 ≡ false) }
+    ensures set { IfOk result (λ r. r.2.keys ≡ 6 ∷ 4 ∷ []) }
+{
+    let mut set = neis![alloc; 2, 4, 6]?;
+    let removed = set.swap_remove(&2);
+    let absent = set.swap_remove(&8);
+    Ok((removed, absent, set))
+}
+
+/// The example of `shift_remove`.
+pub fn shift_remove(alloc: Global) -> Result<(bool, bool, NEIndexSet<u32>), AllocError>
+    ensures removed { IfOk result (λ r. r.0 ≡ true) }
+    ensures stays { IfOk result (λ r. r.1 ≡ false) }
+    ensures set { IfOk result (λ r. r.2.keys ≡ 4 ∷ []) }
+{
+    let mut set = neis![alloc; 2, 4]?;
+    let removed = set.shift_remove(&2);
+    let stays = set.shift_remove(&4);
+    Ok((removed, stays, set))
+}
+
+/// The example of `swap_take`.
+pub fn swap_take(alloc: Global) -> Result<(Option<u32>, Option<u32>, NEIndexSet<u32>), AllocError>
+    ensures taken { IfOk result (λ r. r.0 ≡ Some 2) }
+    ensures none { IfOk result (λ r. r.1 ≡ None) }
+    ensures set { IfOk result (λ r. r.2.keys ≡ 6 ∷ 4 ∷ []) }
+{
+    let mut set = neis![alloc; 2, 4, 6]?;
+    let taken = set.swap_take(&2);
+    let none = set.swap_take(&8);
+    Ok((taken, none, set))
+}
+
+/// The example of `shift_take`.
+pub fn shift_take(alloc: Global) -> Result<(Option<u32>, Option<u32>, NEIndexSet<u32>), AllocError>
+    ensures taken { IfOk result (λ r. r.0 ≡ Some 2) }
+    ensures none { IfOk result (λ r. r.1 ≡ None) }
+    ensures set { IfOk result (λ r. r.2.keys ≡ 4 ∷ []) }
+{
+    let mut set = neis![alloc; 2, 4]?;
+    let taken = set.shift_take(&2);
+    let none = set.shift_take(&4);
+    Ok((taken, none, set))
+}
+
+/// The example of `pop`.
+pub fn pop(alloc: Global) -> Result<(Option<u32>, Option<u32>, NEIndexSet<u32>), AllocError>
+    ensures popped { IfOk result (λ r. r.0 ≡ Some 4) }
+    ensures none { IfOk result (λ r. r.1 ≡ None) }
+    ensures set { IfOk result (λ r. r.2.keys ≡ 2 ∷ []) }
+{
+    let mut set = neis![alloc; 2, 4]?;
+    let popped = set.pop();
+    let none = set.pop();
+    Ok((popped, none, set))
+}
+
+/// The example of `retain`.
+pub fn retain(
+    alloc: Global,
+) -> Result<
+    (
+        Result<NEIndexSet<u32>, IndexSet<u32>>,
+        Result<NEIndexSet<u32>, IndexSet<u32>>,
+    ),
+    AllocError,
+>
+    ensures { IfOk result (λ r. (IsOkAnd r.0 (λ s. s.keys ≡ 6 ∷ 4 ∷ [])) × (IsErr r.1)) }
+{
+    let even = neis![alloc; 6, 5, 4]?.retain(|x| *x % 2 == 0);
+    let none = neis![alloc; 1, 3]?.retain(|x| *x % 2 == 0);
+    Ok((even, none))
 }

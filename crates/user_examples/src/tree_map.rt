@@ -1,5 +1,5 @@
 //! The examples of tree maps, written by `.ci/examples --write`.
-ghost use Rattle.std.specs.Prelude.{◌≡◌, [], ◌∷◌, true, false, IfOk, None, Some};
+ghost use Rattle.std.specs.Prelude.{◌≡◌, [], ◌∷◌, true, false, IfOk, None, Some, IsErr, IsOkAnd};
 ghost use Rattle.std.specs.BTreeMap.{keys};
 ghost use Rattle.std.specs.Option.{IsSomeAnd};
 
@@ -157,4 +157,118 @@ pub fn clone(alloc: Global) -> Result<bool, AllocError>
     let map = nebtm![alloc; 2 => 24, 4 => 26, 6 => 23, 8 => 25]?;
     let same = map.clone()? == map;
     Ok(same)
+}
+
+/// The example of `remove`.
+pub fn remove(alloc: Global) -> Result<(Option<u32>, Option<u32>, NEBTreeMap<u32, u32>), AllocError>
+    ensures removed { IfOk result (λ r. r.0 ≡ Some 24) }
+    ensures none { IfOk result (λ r. r.1 ≡ None) }
+    ensures map { IfOk result (λ r. r.2.entries ≡ (4, 26) ∷ []) }
+{
+    let mut map = nebtm![alloc; 2 => 24, 4 => 26]?;
+    let removed = map.remove(&2);
+    let none = map.remove(&4);
+    Ok((removed, none, map))
+}
+
+/// The example of `remove_entry`.
+pub fn remove_entry(
+    alloc: Global,
+) -> Result<(Option<(u32, u32)>, Option<(u32, u32)>, NEBTreeMap<u32, u32>), AllocError>
+    ensures removed { IfOk result (λ r. r.0 ≡ Some (4, 26)) }
+    ensures none { IfOk result (λ r. r.1 ≡ None) }
+    ensures map { IfOk result (λ r. r.2.entries ≡ (2, 24) ∷ []) }
+{
+    let mut map = nebtm![alloc; 2 => 24, 4 => 26]?;
+    let removed = map.remove_entry(&4);
+    let none = map.remove_entry(&2);
+    Ok((removed, none, map))
+}
+
+/// The example of `first_key_value`.
+pub fn first_key_value(alloc: Global) -> Result<(u32, u32), AllocError>
+    ensures { IfOk result (λ pair. pair ≡ (2, 3)) }
+{
+    let map = nebtm![alloc; 4 => 1, 2 => 3]?;
+    let pair = map.first_key_value();
+    Ok((*pair.0, *pair.1))
+}
+
+/// The example of `last_key_value`.
+pub fn last_key_value(alloc: Global) -> Result<(u32, u32), AllocError>
+    ensures { IfOk result (λ pair. pair ≡ (4, 1)) }
+{
+    let map = nebtm![alloc; 4 => 1, 2 => 3]?;
+    let pair = map.last_key_value();
+    Ok((*pair.0, *pair.1))
+}
+
+/// The example of `pop_first`.
+pub fn pop_first(
+    alloc: Global,
+) -> Result<(Option<(u32, u32)>, Option<(u32, u32)>, NEBTreeMap<u32, u32>), AllocError>
+    ensures popped { IfOk result (λ r. r.0 ≡ Some (2, 24)) }
+    ensures none { IfOk result (λ r. r.1 ≡ None) }
+    ensures map { IfOk result (λ r. r.2.entries ≡ (4, 26) ∷ []) }
+{
+    let mut map = nebtm![alloc; 2 => 24, 4 => 26]?;
+    let popped = map.pop_first();
+    let none = map.pop_first();
+    Ok((popped, none, map))
+}
+
+/// The example of `pop_last`.
+pub fn pop_last(
+    alloc: Global,
+) -> Result<(Option<(u32, u32)>, Option<(u32, u32)>, NEBTreeMap<u32, u32>), AllocError>
+    ensures popped { IfOk result (λ r. r.0 ≡ Some (4, 26)) }
+    ensures none { IfOk result (λ r. r.1 ≡ None) }
+    ensures map { IfOk result (λ r. r.2.entries ≡ (2, 24) ∷ []) }
+{
+    let mut map = nebtm![alloc; 2 => 24, 4 => 26]?;
+    let popped = map.pop_last();
+    let none = map.pop_last();
+    Ok((popped, none, map))
+}
+
+/// The example of `retain`.
+pub fn retain(
+    alloc: Global,
+) -> Result<
+    (
+        Result<NEBTreeMap<u32, u32>, BTreeMap<u32, u32>>,
+        Result<NEBTreeMap<u32, u32>, BTreeMap<u32, u32>>,
+    ),
+    AllocError,
+>
+    ensures { IfOk result (λ r. (IsOkAnd r.0 (λ m. m.entries ≡ (2, 24) ∷ [])) × (IsErr r.1)) }
+{
+    let even = nebtm![alloc; 2 => 24, 4 => 27]?.retain(|_k, v| *v % 2 == 0);
+    let none = nebtm![alloc; 2 => 25, 4 => 27]?.retain(|_k, v| *v % 2 == 0);
+    Ok((even, none))
+}
+
+/// The example of `into_keys`.
+pub fn into_keys(alloc: Global) -> Result<NEVec<u32>, AllocError>
+    ensures { IfOk result (λ keys. keys ≡ 0 ∷ 2 ∷ []) }
+{
+    let keys = nebtm![alloc; 0 => 3, 2 => 1]?.into_keys();
+    keys.collect(alloc)
+}
+
+/// The example of `into_values`.
+pub fn into_values(alloc: Global) -> Result<NEVec<u32>, AllocError>
+    ensures { IfOk result (λ values. values ≡ 3 ∷ 1 ∷ []) }
+{
+    let values = nebtm![alloc; 0 => 3, 2 => 1]?.into_values();
+    values.collect(alloc)
+}
+
+/// The example of `range`.
+pub fn range(alloc: Global) -> Result<Vec<(u32, u32)>, AllocError>
+    ensures { IfOk result (λ v. v.items ≡ (4, 26) ∷ (6, 23) ∷ []) }
+{
+    let map = nebtm![alloc; 2 => 24, 4 => 26, 6 => 23]?;
+    let pairs = map.range(3..7);
+    pairs.map(|(k, v)| (*k, *v)).collect(alloc)
 }

@@ -1,5 +1,5 @@
 //! The examples of tree sets, written by `.ci/examples --write`.
-ghost use Rattle.std.specs.Prelude.{◌≡◌, [], ◌∷◌, true, false, IfOk, None, Some};
+ghost use Rattle.std.specs.Prelude.{◌≡◌, [], ◌∷◌, true, false, IfOk, None, Some, IsErr, IsOkAnd};
 ghost use Rattle.std.specs.Option.{IsSomeAnd};
 
 use nonempty_collections::{NEBTreeSet, NEVec, NonEmptyIterator, nebts};
@@ -167,4 +167,96 @@ pub fn clone(alloc: Global) -> Result<bool, AllocError>
     let set = nebts![alloc; 2, 4, 6]?;
     let same = set.clone()? == set;
     Ok(same)
+}
+
+/// The example of `remove`.
+pub fn remove(alloc: Global) -> Result<(bool, bool, NEBTreeSet<u32>), AllocError>
+    ensures removed { IfOk result (λ r. r.0 ≡ true) }
+    ensures kept { IfOk result (λ r. r.1 ≡ false) }
+    ensures set { IfOk result (λ r. r.2.keys ≡ 4 ∷ []) }
+{
+    let mut set = nebts![alloc; 2, 4]?;
+    let removed = set.remove(&2);
+    let kept = set.remove(&4);
+    Ok((removed, kept, set))
+}
+
+/// The example of `take`.
+pub fn take(alloc: Global) -> Result<(Option<u32>, Option<u32>, NEBTreeSet<u32>), AllocError>
+    ensures taken { IfOk result (λ r. r.0 ≡ Some 4) }
+    ensures none { IfOk result (λ r. r.1 ≡ None) }
+    ensures set { IfOk result (λ r. r.2.keys ≡ 2 ∷ []) }
+{
+    let mut set = nebts![alloc; 2, 4]?;
+    let taken = set.take(&4);
+    let none = set.take(&2);
+    Ok((taken, none, set))
+}
+
+/// The example of `first`.
+pub fn first(alloc: Global) -> Result<u32, AllocError>
+    ensures { IfOk result (λ first. first ≡ 2) }
+{
+    let set = nebts![alloc; 4, 2, 6]?;
+    let first = set.first();
+    Ok(*first)
+}
+
+/// The example of `last`.
+pub fn last(alloc: Global) -> Result<u32, AllocError>
+    ensures { IfOk result (λ last. last ≡ 6) }
+{
+    let set = nebts![alloc; 4, 2, 6]?;
+    let last = set.last();
+    Ok(*last)
+}
+
+/// The example of `pop_first`.
+pub fn pop_first(alloc: Global) -> Result<(Option<u32>, Option<u32>, NEBTreeSet<u32>), AllocError>
+    ensures popped { IfOk result (λ r. r.0 ≡ Some 2) }
+    ensures none { IfOk result (λ r. r.1 ≡ None) }
+    ensures set { IfOk result (λ r. r.2.keys ≡ 4 ∷ []) }
+{
+    let mut set = nebts![alloc; 2, 4]?;
+    let popped = set.pop_first();
+    let none = set.pop_first();
+    Ok((popped, none, set))
+}
+
+/// The example of `pop_last`.
+pub fn pop_last(alloc: Global) -> Result<(Option<u32>, Option<u32>, NEBTreeSet<u32>), AllocError>
+    ensures popped { IfOk result (λ r. r.0 ≡ Some 4) }
+    ensures none { IfOk result (λ r. r.1 ≡ None) }
+    ensures set { IfOk result (λ r. r.2.keys ≡ 2 ∷ []) }
+{
+    let mut set = nebts![alloc; 2, 4]?;
+    let popped = set.pop_last();
+    let none = set.pop_last();
+    Ok((popped, none, set))
+}
+
+/// The example of `retain`.
+pub fn retain(
+    alloc: Global,
+) -> Result<
+    (
+        Result<NEBTreeSet<u32>, BTreeSet<u32>>,
+        Result<NEBTreeSet<u32>, BTreeSet<u32>>,
+    ),
+    AllocError,
+>
+    ensures { IfOk result (λ r. (IsOkAnd r.0 (λ s. s.keys ≡ 4 ∷ 6 ∷ [])) × (IsErr r.1)) }
+{
+    let even = nebts![alloc; 4, 5, 6, 7]?.retain(|x| *x % 2 == 0);
+    let none = nebts![alloc; 1, 3]?.retain(|x| *x % 2 == 0);
+    Ok((even, none))
+}
+
+/// The example of `range`.
+pub fn range(alloc: Global) -> Result<Vec<u32>, AllocError>
+    ensures { IfOk result (λ v. v.items ≡ 4 ∷ 6 ∷ []) }
+{
+    let set = nebts![alloc; 2, 4, 6]?;
+    let items = set.range(3..7);
+    items.copied().collect(alloc)
 }
