@@ -1,3 +1,4 @@
+pub mod FoundValues
 pub mod HashInserts
 pub mod Same
 pub mod Single

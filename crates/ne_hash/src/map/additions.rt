@@ -1,12 +1,19 @@
 //! The methods of an [`NEMap`] that the Rust crate lacks. Removals never take the last key.
-ghost use Rattle.std.specs.Prelude.{◌≡◌, ◌+◌, ◌<◌, None, Some, IfSome, IsTrue};
-ghost use Rattle.std.specs.Prelude.{if◌then◌else◌, is_some};
-ghost use Rattle.std.specs.HashMap.{get, get_key, hash_map_len, hasher_of, IsUnique, Updates};
+ghost use Rattle.std.specs.Prelude.{◌≡◌, ◌+◌, ◌<◌, ◌↔◌, Bool, None, Some, IfSome, IsErr, IsTrue};
+ghost use Rattle.std.specs.Prelude.{if◌then◌else◌, is_some, length, Contains};
+ghost use Rattle.std.specs.HashMap.{get, get_key, hash_map_len, hasher_of, keys, values};
+ghost use Rattle.std.specs.HashMap.{IsEmpty, IsUnique, Updates};
 ghost use Rattle.std.specs.List.Sorted.{IsPermutation};
 ghost use Rattle.std.specs.Map.{remove_entry};
+ghost use Rattle.std.specs.Map.Calls.{CallableOnEachPair, CalledAtPair, RetainsPairs, TakesPair};
+ghost use Rattle.std.specs.Set.{is_member};
 ghost use Rattle.ne_vec.specs.Taken.{TakesFoundUnlessLast};
+ghost use Rattle.ne_iter.specs.KeptEntries.{ActsAsAtEntry, either_way, kept_entries};
+ghost use Rattle.ne_iter.specs.KeyIterators.{KnownByValue, ListsEntriesByValue};
 
-use super::NEMap;
+use super::{IntoKeys, IntoValues, NEMap};
+use ne_iter::iter::NonEmptyIter;
+use std::collections::HashMap;
 use std::hash::{BuildHasher, Hash};
 
 impl<K: Eq + Hash, V, S: BuildHasher> NEMap<K, V, S> {
@@ -65,5 +72,81 @@ impl<K: Eq + Hash, V, S: BuildHasher> NEMap<K, V, S> {
         } else {
             None
         }
+    }
+
+    /// Keeps the keys for whose pairs `f` returns `true`, in order, with the values that `f` leaves,
+    /// or returns the empty map as an error if there is no such key.
+    ///
+    /// `f` is called once for each pair, in the order of iteration. It must be callable with each of
+    /// them. The clause `kept` covers an `f` whose result and changes depend on the pair alone;
+    /// `asked` covers any `f`.
+    ///
+    /// ```
+    /// let map = nem![alloc; 2 => 24, 3 => 9, 4 => 26]?;
+    /// let even = map.retain(|k, _v| *k % 2 == 0); // Ok({2: 24, 4: 26})
+    /// let none = nem![alloc; 1 => 10, 3 => 30]?.retain(|k, _v| *k % 2 == 0); // Err({})
+    /// ```
+    pub fn retain<F: FnMut(&K, &mut V) -> bool>(self, f: F) -> Result<Self, HashMap<K, V, S>>
+    where
+        K: Drop,
+        V: Drop,
+        requires { CallableOnEachPair (CalledAtPair F.FnMut) (TakesPair F.FnMut) f self.entries }
+        ensures none { IsErr result ↔ IsEmpty (either_way result) }
+        ensures kept { (keeps : K → V → Bool) (writes : K → V → V)
+            → ActsAsAtEntry F.FnMut f keeps writes
+            → (either_way result).entries ≡ kept_entries keeps writes self.entries }
+        ensures asked { RetainsPairs (CalledAtPair F.FnMut) f self.entries
+            (either_way result).entries }
+        ensures hasher { hasher_of (either_way result) ≡ hasher_of self }
+        ensures unique { IsUnique K.eq (either_way result) }
+    {
+        let mut inner = self.inner;
+        inner.retain(f);
+        if inner.is_empty() {
+            Err(inner)
+        } else {
+            Ok(NEMap { inner })
+        }
+    }
+
+    /// Returns a non-empty iterator over the keys by value, and drops the values. The order is
+    /// unspecified, but it is that of the pairs.
+    ///
+    /// ```
+    /// let keys = nem![alloc; 0 => 3, 2 => 1]?.into_keys(); // 0 and 2, in some order
+    /// ```
+    pub fn into_keys(self) -> IntoKeys<K, V>
+    where
+        K: Drop,
+        V: Drop,
+        S: Drop,
+        ensures keys { result ≡ keys self }
+        ensures lists { ListsEntriesByValue KnownByValue result (keys self) }
+        ensures found { (q : K) → is_some (get K.eq self q) ≡ is_member K.eq result q }
+        ensures len { length result ≡ hash_map_len self }
+        ensures unique { IsUnique K.eq self }
+        ensures nonempty { 0 < hash_map_len self }
+    {
+        NonEmptyIter::new(self.inner.into_keys())
+    }
+
+    /// Returns a non-empty iterator over the values by value, and drops the keys. The order is
+    /// unspecified, but it is that of the pairs.
+    ///
+    /// ```
+    /// let values = nem![alloc; 0 => 3, 2 => 1]?.into_values(); // 3 and 1, in some order
+    /// ```
+    pub fn into_values(self) -> IntoValues<K, V>
+    where
+        K: Drop,
+        V: Drop,
+        S: Drop,
+        ensures values { result ≡ values self }
+        ensures lists { ListsEntriesByValue KnownByValue result (values self) }
+        ensures found { (k : K) (v : V) → get K.eq self k ≡ Some v → Contains result v }
+        ensures len { length result ≡ hash_map_len self }
+        ensures nonempty { 0 < hash_map_len self }
+    {
+        NonEmptyIter::new(self.inner.into_values())
     }
 }

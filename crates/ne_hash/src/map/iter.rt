@@ -192,3 +192,27 @@ impl<'a, K, V> HeldIterator<hash_map::Values<'a, K, V>> for Held {
 
     ghost has_first = { HasFirst-entries deref };
 }
+
+/// A non-empty iterator over the keys of an [`NEMap`] by value. In contracts it is the list of the
+/// keys, in an unspecified order.
+pub type IntoKeys<K, V> = NonEmptyIter<hash_map::IntoKeys<K, V>, Held>;
+
+impl<K: Drop, V: Drop> HeldIterator<hash_map::IntoKeys<K, V>> for Held {
+    ghost items_left = { length };
+
+    ghost known = { KnownByValue };
+
+    ghost has_first = { HasFirst-entries (λ x. x) };
+}
+
+/// A non-empty iterator over the values of an [`NEMap`] by value. In contracts it is the list of the
+/// values, in the order of their keys.
+pub type IntoValues<K, V> = NonEmptyIter<hash_map::IntoValues<K, V>, Held>;
+
+impl<K: Drop, V: Drop> HeldIterator<hash_map::IntoValues<K, V>> for Held {
+    ghost items_left = { length };
+
+    ghost known = { KnownByValue };
+
+    ghost has_first = { HasFirst-entries (λ x. x) };
+}

@@ -1,13 +1,20 @@
 //! The methods of an [`NESet`] that the Rust crate lacks. Removals never take the last item.
-ghost use Rattle.std.specs.Prelude.{◌≡◌, ◌+◌, ◌<◌, false, Some, IfSome, IsTrue};
+ghost use Rattle.std.specs.Prelude.{◌≡◌, ◌+◌, ◌<◌, ◌↔◌, Bool, false, Some, IfSome, IsErr, IsTrue};
 ghost use Rattle.std.specs.Prelude.{if◌then◌else◌, is_some};
 ghost use Rattle.std.specs.Bool.{OnTrue};
-ghost use Rattle.std.specs.HashSet.{contains, get, hash_set_len, hasher_of, IsUnique, Updates};
+ghost use Rattle.std.specs.Fn.{CalledAt};
+ghost use Rattle.std.specs.HashSet.{contains, get, hash_set_len, hasher_of, IsEmpty, IsUnique};
+ghost use Rattle.std.specs.HashSet.{Updates};
+ghost use Rattle.std.specs.Iterator.{ActsAsAt};
+ghost use Rattle.std.specs.List.{filter};
+ghost use Rattle.std.specs.List.Retain.{IsFiltered};
 ghost use Rattle.std.specs.List.Sorted.{IsPermutation};
 ghost use Rattle.std.specs.Set.{remove_key};
 ghost use Rattle.ne_vec.specs.Taken.{RemovesFoundUnlessLast, TakesFoundUnlessLast};
+ghost use Rattle.ne_iter.specs.KeptEntries.{either_way};
 
 use super::NESet;
+use std::collections::HashSet;
 use std::hash::{BuildHasher, Hash};
 
 impl<T: Eq + Hash, S: BuildHasher> NESet<T, S> {
@@ -63,6 +70,37 @@ impl<T: Eq + Hash, S: BuildHasher> NESet<T, S> {
             self.inner.take(value)
         } else {
             None
+        }
+    }
+
+    /// Keeps the items for which `f` returns `true`, in order, or returns the empty set as an error
+    /// if there is no such item.
+    ///
+    /// `f` is called once for each item, in the order of iteration. It must be callable with any
+    /// value of the items' type. The clause `kept` covers an `f` whose result depends on the item
+    /// alone; `asked` covers any `f`.
+    ///
+    /// ```
+    /// let even = nes![alloc; 4, 5, 6, 7]?.retain(|x| *x % 2 == 0); // Ok({4, 6})
+    /// let none = nes![alloc; 1, 3]?.retain(|x| *x % 2 == 0); // Err({})
+    /// ```
+    pub fn retain<F: FnMut(&T) -> bool>(self, f: F) -> Result<Self, HashSet<T, S>>
+    where
+        T: Drop,
+        requires { F.IsAlwaysCallable f }
+        ensures none { IsErr result ↔ IsEmpty (either_way result) }
+        ensures kept { (keeps : T → Bool) → ActsAsAt F.FnMut f keeps
+            → (either_way result).keys ≡ filter keeps self.keys }
+        ensures asked { IsFiltered (CalledAt F.FnMut) f self.keys (either_way result).keys }
+        ensures hasher { hasher_of (either_way result) ≡ hasher_of self }
+        ensures unique { IsUnique T.eq (either_way result) }
+    {
+        let mut inner = self.inner;
+        inner.retain(f);
+        if inner.is_empty() {
+            Err(inner)
+        } else {
+            Ok(NESet { inner })
         }
     }
 }

@@ -1,0 +1,10 @@
+use Rattle.ne_hash.proofs.map.NEMap.retain.Goals as goal
+use Rattle.ne_iter.specs.KeptEntryLaws.{retains_kept}
+
+pub returns-then-is_empty-clause-kept : goal.returns-then-is_empty-clause-kept
+returns-then-is_empty-clause-kept g c keeps writes acts =
+    rw (← c.self.view_is) (retains_kept _ keeps writes c.args.f acts _ _ c.retain.ensures.filtered)
+
+pub returns-else-is_empty-clause-kept : goal.returns-else-is_empty-clause-kept
+returns-else-is_empty-clause-kept g c keeps writes acts =
+    rw (← c.self.view_is) (retains_kept _ keeps writes c.args.f acts _ _ c.retain.ensures.filtered)
