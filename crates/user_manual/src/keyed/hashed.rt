@@ -1,7 +1,7 @@
 //! Hashed maps and sets.
 ghost use Rattle.std.specs.Prelude.{◌≡◌, ◌+◌, ◌++◌, ◌↔◌, [], ◌∷◌, map, nat_eq, IfOk, IsTrue};
-ghost use Rattle.std.specs.Prelude.{OnOk, Some};
-ghost use Rattle.std.specs.HashMap.{get};
+ghost use Rattle.std.specs.Prelude.{IfSome, None, OnOk, Some};
+ghost use Rattle.std.specs.HashMap.{get, IsUnchanged};
 ghost use Rattle.std.specs.HashSet.{IsSameSet, IsUnion};
 ghost use Rattle.nonempty_collections.specs.Collected.{IsMapOf, IsSetOf};
 ghost use Rattle.nonempty_collections.specs.SameMap.{IsSameMap};
@@ -88,4 +88,13 @@ pub fn set_there_and_back(set: NESet<u32>) -> Option<NESet<u32>>
     ensures { result ≡ Some set }
 {
     NESet::try_from_set(HashSet::from(set))
+}
+
+/// Removes a key, and returns its value.
+pub fn removed_value(map: &mut NEMap<u32, u32>, k: u32) -> Option<u32>
+    ensures old { IfSome result (λ v. get nat_eq map.old k ≡ Some v) }
+    ensures new { IfSome result (λ _. get nat_eq map.new k ≡ None) }
+    ensures none { result ≡ None → IsUnchanged map.old map.new }
+{
+    map.remove(&k)
 }

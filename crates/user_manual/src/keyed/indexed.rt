@@ -1,6 +1,6 @@
 //! Index maps and sets.
 ghost use Rattle.std.specs.Prelude.{◌≡◌, ◌≤◌, ◌+◌, ◌/◌, ◌++◌, ◌↔◌, [], ◌∷◌, map, nat_eq, IfOk};
-ghost use Rattle.std.specs.Prelude.{All, IsTrue, OnOk, Some, true};
+ghost use Rattle.std.specs.Prelude.{All, IfSome, IsTrue, None, OnOk, Some, true};
 ghost use Rattle.indexmap.specs.IndexMap.{get, hasher_of};
 ghost use Rattle.indexmap.specs.IndexSet.{union, IsSameSet};
 ghost use Rattle.nonempty_collections.specs.KeyList.{key_list, IsKeyListMapOf};
@@ -171,4 +171,13 @@ pub fn is_written_out_subset(alloc: Global) -> Result<bool, AllocError>
     let a: NEIndexSet<u32> = neis![alloc; 1, 2]?;
     let b: NEIndexSet<u32> = neis![alloc; 2, 1, 3]?;
     Ok(a.is_subset(&b))
+}
+
+/// Removes a key, and returns its value. The others keep their order.
+pub fn removed_value(map: &mut NEIndexMap<u32, u32>, k: u32) -> Option<u32>
+    ensures old { IfSome result (λ v. get nat_eq map.old k ≡ Some v) }
+    ensures new { IfSome result (λ _. get nat_eq map.new k ≡ None) }
+    ensures none { result ≡ None → map.new.entries ≡ map.old.entries }
+{
+    map.shift_remove(&k)
 }

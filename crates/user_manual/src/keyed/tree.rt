@@ -1,7 +1,7 @@
 //! Tree maps and sets.
-ghost use Rattle.std.specs.Prelude.{◌≡◌, ◌+◌, ◌≤◌, ◌≢◌, ◌/◌, ◌++◌, ◌↔◌, [], ◌∷◌, map, nat_eq};
-ghost use Rattle.std.specs.Prelude.{All, Contains, IfOk, IsTrue, OnOk, Some};
-ghost use Rattle.std.specs.BTreeMap.{get, values};
+ghost use Rattle.std.specs.Prelude.{◌≡◌, ◌+◌, ◌≤◌, ◌≢◌, ◌/◌, ◌++◌, ◌↔◌, [], ◌∷◌, ℕ, map, nat_eq};
+ghost use Rattle.std.specs.Prelude.{All, Contains, IfOk, IfSome, IsSome, IsTrue, None, OnOk, Some};
+ghost use Rattle.std.specs.BTreeMap.{get, values, IsUnchanged};
 ghost use Rattle.std.specs.BTreeSet.{union, IsSameSet};
 ghost use Rattle.std.specs.Ordering.{nat_cmp};
 ghost use Rattle.nonempty_collections.specs.Collected.{IsMapOf, IsSetOf};
@@ -149,4 +149,32 @@ pub fn set_there_and_back(set: NEBTreeSet<u32>) -> Option<NEBTreeSet<u32>>
     ensures { result ≡ Some set }
 {
     NEBTreeSet::try_from_set(BTreeSet::from(set))
+}
+
+/// Removes a key, and returns its value.
+pub fn removed_value(map: &mut NEBTreeMap<u32, u32>, k: u32) -> Option<u32>
+    ensures old { IfSome result (λ v. get nat_cmp map.old k ≡ Some v) }
+    ensures new { IfSome result (λ _. get nat_cmp map.new k ≡ None) }
+    ensures none { result ≡ None → IsUnchanged map.old map.new }
+{
+    map.remove(&k)
+}
+
+/// Returns whether a popped key is less than the one that is then first.
+pub fn popped_is_least(map: &mut NEBTreeMap<u32, u32>) -> bool
+    ensures { IsTrue result }
+{
+    match map.pop_first() {
+        None => true,
+        Some((k, _)) => k < *map.first_key_value().0,
+    }
+}
+
+/// Returns the greatest key that is at most `k`, by a range.
+pub fn last_up_to(map: &NEBTreeMap<u32, u32>, k: u32) -> Option<u32>
+    ensures bound { IfSome result (λ q. q ≤ k) }
+    ensures found { IfSome result (λ q. IsSome (get nat_cmp map.now q)) }
+    ensures none { result ≡ None → (q : ℕ) → q ≤ k → get nat_cmp map.now q ≡ None }
+{
+    map.range(..=k).next_back().map(|(q, _)| *q)
 }
