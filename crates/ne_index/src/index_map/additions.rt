@@ -1,12 +1,20 @@
+<<<<<<< HEAD
 //! The methods of an [`NEIndexMap`] that the Rust crate lacks, with the names that `indexmap` has.
 //! Those that remove an entry never remove the only one.
+=======
+//! Methods of index maps that the Rust crate lacks: those that remove entries, but never the last,
+//! `retain`, and mutable references to the ends.
+>>>>>>> 180f887 (Lend the values at the ends of index maps, and say what pops leave)
 ghost use Rattle.std.specs.Prelude.{◌≡◌, ◌+◌, ◌-◌, ◌<◌, ◌↔◌, ◌++◌, [], ◌∷◌, None, Some, Bool};
-ghost use Rattle.std.specs.Prelude.{if◌then◌else◌, is_some, slice_get, IfSome, IsErr, IsTrue};
+ghost use Rattle.std.specs.Prelude.{if◌then◌else◌, is_some, slice_get, take, IfSome};
+ghost use Rattle.std.specs.Prelude.{IsErr, IsTrue};
+ghost use Rattle.std.specs.Borrow.{sem};
 ghost use Rattle.std.specs.Map.Calls.{CallableOnEachPair, CalledAtPair, RetainsPairs, TakesPair};
 ghost use Rattle.ne_vec.specs.Taken.{TakesFoundUnlessLast, TakesUnlessLast};
 ghost use Rattle.indexmap.specs.IndexMap.{get, get_key, hasher_of, index_map_len, IsUnique};
-ghost use Rattle.indexmap.specs.IndexMap.{shift_remove_entry, swap_remove_entry, Updates};
+ghost use Rattle.indexmap.specs.IndexMap.{shift_remove_entry, swap_remove_entry, values, Updates};
 ghost use Rattle.ne_iter.specs.KeptEntries.{either_way, kept_entries, ActsAsAtEntry};
+ghost use Rattle.ne_index.specs.IndexLends.{LendsValueAt};
 
 use super::NEIndexMap;
 use indexmap::IndexMap;
@@ -129,6 +137,44 @@ impl<K: Eq + Hash, V, S: BuildHasher> NEIndexMap<K, V, S> {
         }
     }
 
+    /// Returns a mutable reference to the value of the first entry. The keys, their indices and the
+    /// other values do not change.
+    ///
+    /// ```
+    /// let mut map = neim![alloc; 2 => 24, 4 => 26]?;
+    /// *map.first_mut() = 27; // {2: 27, 4: 26}
+    /// ```
+    pub fn first_mut(&mut self) -> &mut V
+        ensures* writes_back { sem 𝓛 (LendsValueAt K.row V.row S.row S.Hasher.row K.Hash
+            S.BuildHasher S.Hasher.Hasher self.entry 0 result) }
+        ensures value { slice_get (values self.old) 0 ≡ Some result.now }
+        ensures unique { IsUnique K.eq self.old }
+        ensures nonempty { 0 < index_map_len self.old }
+    {
+        // The contract of `len` says that no two keys are equal.
+        let _len = self.inner.len();
+        &mut self.inner[0]
+    }
+
+    /// Returns a mutable reference to the value of the last entry. The keys, their indices and the
+    /// other values do not change.
+    ///
+    /// ```
+    /// let mut map = neim![alloc; 2 => 24, 4 => 26]?;
+    /// *map.last_mut() = 27; // {2: 24, 4: 27}
+    /// ```
+    pub fn last_mut(&mut self) -> &mut V
+        ensures* writes_back { sem 𝓛 (LendsValueAt K.row V.row S.row S.Hasher.row K.Hash
+            S.BuildHasher S.Hasher.Hasher self.entry (index_map_len self.old - 1) result) }
+        ensures value { slice_get (values self.old) (index_map_len self.old - 1)
+            ≡ Some result.now }
+        ensures unique { IsUnique K.eq self.old }
+        ensures nonempty { 0 < index_map_len self.old }
+    {
+        let last = self.inner.len() - 1;
+        &mut self.inner[last]
+    }
+
     /// Removes the last entry and returns it, or returns `None` if it is the only one, which then
     /// stays.
     ///
@@ -142,6 +188,8 @@ impl<K: Eq + Hash, V, S: BuildHasher> NEIndexMap<K, V, S> {
             (λ p. self.old.entries ≡ self.new.entries ++ p ∷ []) }
         ensures last { IfSome result (λ p.
             slice_get self.old.entries (index_map_len self.old - 1) ≡ Some p) }
+        ensures rest { IfSome result (λ _.
+            self.new.entries ≡ take (index_map_len self.old - 1) self.old.entries) }
         ensures updates { IfSome result (λ p. Updates K.eq self.old self.new p.0 None) }
         ensures len { index_map_len self.new + (if is_some result then 1 else 0)
             ≡ index_map_len self.old }

@@ -1,8 +1,8 @@
 //! The methods of an [`NEIndexSet`] that the Rust crate lacks, with the names that `indexmap` has.
 //! Those that remove an item never remove the only one.
 ghost use Rattle.std.specs.Prelude.{◌≡◌, ◌+◌, ◌-◌, ◌<◌, ◌↔◌, ◌++◌, [], ◌∷◌, Some, Bool, false};
-ghost use Rattle.std.specs.Prelude.{if◌then◌else◌, filter, is_some, slice_get, IfSome, IsErr};
-ghost use Rattle.std.specs.Prelude.{IsTrue};
+ghost use Rattle.std.specs.Prelude.{if◌then◌else◌, filter, is_some, slice_get, take, IfSome};
+ghost use Rattle.std.specs.Prelude.{IsErr, IsTrue};
 ghost use Rattle.std.specs.Bool.{OnTrue};
 ghost use Rattle.std.specs.Fn.{CalledAt};
 ghost use Rattle.std.specs.Iterator.{ActsAsAt};
@@ -145,6 +145,8 @@ impl<T: Eq + Hash, S: BuildHasher> NEIndexSet<T, S> {
             (λ x. self.old.keys ≡ self.new.keys ++ x ∷ []) }
         ensures last { IfSome result (λ x.
             slice_get self.old.keys (index_set_len self.old - 1) ≡ Some x) }
+        ensures rest { IfSome result (λ _.
+            self.new.keys ≡ take (index_set_len self.old - 1) self.old.keys) }
         ensures updates { IfSome result (λ x. Updates T.eq self.old self.new x false) }
         ensures len { index_set_len self.new + (if is_some result then 1 else 0)
             ≡ index_set_len self.old }
