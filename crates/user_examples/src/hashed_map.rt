@@ -1,6 +1,6 @@
 //! The examples of hashed maps, written by `.ci/examples --write`.
 ghost use Rattle.std.specs.Prelude.{◌≡◌, ◌+◌, ◌≤◌, [], ◌∷◌, true, false, length, nat_eq};
-ghost use Rattle.std.specs.Prelude.{Contains, IfOk, None, Some};
+ghost use Rattle.std.specs.Prelude.{Contains, IfOk, IsErr, IsOkAnd, None, Some};
 ghost use Rattle.std.specs.HashMap.{get, hash_map_len, spare};
 ghost use Rattle.std.specs.Map.{lookup};
 ghost use Rattle.std.specs.Option.{IsSomeAnd};
@@ -232,4 +232,45 @@ pub fn remove_entry(
     let removed = map.remove_entry(&4);
     let none = map.remove_entry(&2);
     Ok((removed, none, map))
+}
+
+/// The example of `retain`.
+pub fn retain(
+    alloc: Global,
+) -> Result<
+    (
+        Result<NEMap<u32, u32>, HashMap<u32, u32>>,
+        Result<NEMap<u32, u32>, HashMap<u32, u32>>,
+    ),
+    AllocError,
+>
+    ensures two { IfOk result (λ r. IsOkAnd r.0 (λ m. get nat_eq m 2 ≡ Some 24)) }
+    ensures four { IfOk result (λ r. IsOkAnd r.0 (λ m. get nat_eq m 4 ≡ Some 26)) }
+    ensures len { IfOk result (λ r. IsOkAnd r.0 (λ m. hash_map_len m ≡ 2)) }
+    ensures none { IfOk result (λ r. IsErr r.1) }
+{
+    let map = nem![alloc; 2 => 24, 3 => 9, 4 => 26]?;
+    let even = map.retain(|k, _v| *k % 2 == 0);
+    let none = nem![alloc; 1 => 10, 3 => 30]?.retain(|k, _v| *k % 2 == 0);
+    Ok((even, none))
+}
+
+/// By hand. Iterates over the keys by value.
+pub fn into_keys(alloc: Global) -> Result<NEVec<u32>, AllocError>
+    ensures zero { IfOk result (λ v. is_member nat_eq v 0 ≡ true) }
+    ensures two { IfOk result (λ v. is_member nat_eq v 2 ≡ true) }
+    ensures len { IfOk result (λ v. length v ≡ 2) }
+{
+    let keys = nem![alloc; 0 => 3, 2 => 1]?.into_keys();
+    keys.collect(alloc)
+}
+
+/// By hand. Iterates over the values by value.
+pub fn into_values(alloc: Global) -> Result<NEVec<u32>, AllocError>
+    ensures three { IfOk result (λ v. Contains v 3) }
+    ensures one { IfOk result (λ v. Contains v 1) }
+    ensures len { IfOk result (λ v. length v ≡ 2) }
+{
+    let values = nem![alloc; 0 => 3, 2 => 1]?.into_values();
+    values.collect(alloc)
 }

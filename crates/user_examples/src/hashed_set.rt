@@ -1,6 +1,6 @@
 //! The examples of hashed sets, written by `.ci/examples --write`.
 ghost use Rattle.std.specs.Prelude.{◌≡◌, ◌+◌, ◌≤◌, [], ◌∷◌, true, false, length, nat_eq};
-ghost use Rattle.std.specs.Prelude.{IfOk, None, Some};
+ghost use Rattle.std.specs.Prelude.{IfOk, IsErr, IsOkAnd, None, Some};
 ghost use Rattle.std.specs.HashSet.{contains, hash_set_len, spare};
 ghost use Rattle.std.specs.Option.{IsSomeAnd};
 ghost use Rattle.std.specs.Set.{is_member};
@@ -238,4 +238,24 @@ pub fn take(alloc: Global) -> Result<(Option<u32>, Option<u32>, NESet<u32>), All
     let taken = set.take(&4);
     let none = set.take(&2);
     Ok((taken, none, set))
+}
+
+/// The example of `retain`.
+pub fn retain(
+    alloc: Global,
+) -> Result<
+    (
+        Result<NESet<u32>, HashSet<u32>>,
+        Result<NESet<u32>, HashSet<u32>>,
+    ),
+    AllocError,
+>
+    ensures four { IfOk result (λ r. IsOkAnd r.0 (λ s. contains nat_eq s 4 ≡ true)) }
+    ensures six { IfOk result (λ r. IsOkAnd r.0 (λ s. contains nat_eq s 6 ≡ true)) }
+    ensures len { IfOk result (λ r. IsOkAnd r.0 (λ s. hash_set_len s ≡ 2)) }
+    ensures none { IfOk result (λ r. IsErr r.1) }
+{
+    let even = nes![alloc; 4, 5, 6, 7]?.retain(|x| *x % 2 == 0);
+    let none = nes![alloc; 1, 3]?.retain(|x| *x % 2 == 0);
+    Ok((even, none))
 }

@@ -250,6 +250,24 @@ pub fn shift_remove_entry(
     Ok((removed, none, map))
 }
 
+/// The example of `first_mut`.
+pub fn first_mut(alloc: Global) -> Result<NEIndexMap<u32, u32>, AllocError>
+    ensures { IfOk result (λ m. m.entries ≡ (2, 27) ∷ (4, 26) ∷ []) }
+{
+    let mut map = neim![alloc; 2 => 24, 4 => 26]?;
+    *map.first_mut() = 27;
+    Ok(map)
+}
+
+/// The example of `last_mut`.
+pub fn last_mut(alloc: Global) -> Result<NEIndexMap<u32, u32>, AllocError>
+    ensures { IfOk result (λ m. m.entries ≡ (2, 24) ∷ (4, 27) ∷ []) }
+{
+    let mut map = neim![alloc; 2 => 24, 4 => 26]?;
+    *map.last_mut() = 27;
+    Ok(map)
+}
+
 /// The example of `pop`.
 pub fn pop(
     alloc: Global,

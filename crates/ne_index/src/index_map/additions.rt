@@ -1,10 +1,5 @@
-<<<<<<< HEAD
 //! The methods of an [`NEIndexMap`] that the Rust crate lacks, with the names that `indexmap` has.
 //! Those that remove an entry never remove the only one.
-=======
-//! Methods of index maps that the Rust crate lacks: those that remove entries, but never the last,
-//! `retain`, and mutable references to the ends.
->>>>>>> 180f887 (Lend the values at the ends of index maps, and say what pops leave)
 ghost use Rattle.std.specs.Prelude.{◌≡◌, ◌+◌, ◌-◌, ◌<◌, ◌↔◌, ◌++◌, [], ◌∷◌, None, Some, Bool};
 ghost use Rattle.std.specs.Prelude.{if◌then◌else◌, is_some, slice_get, take, IfSome};
 ghost use Rattle.std.specs.Prelude.{IsErr, IsTrue};
