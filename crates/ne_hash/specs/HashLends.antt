@@ -4,15 +4,21 @@ use Rattle.std.specs.declared.hash.Hasher as hasher
 use Rattle.std.specs.Prelude.{◌≡◌, Option}
 use Rattle.std.specs.Borrow.{Array, Fml, MutBor, RattleType, LendsSo, follows}
 use Rattle.std.specs.HashMap.{HashMap, WritesThrough}
-use Rattle.std.specs.HashMap.IterMut.{iter_mut_name}
+use Rattle.std.specs.HashMap.IterMut.{iter_mut_name, values_mut_name}
 use Rattle.std.specs.HashMap.Lent.{HashMembers, with_values}
 use Rattle.std_collections.specs.declared.hash_map.iter.lent.IterMut.{IterMut as StdIterMut}
+use Rattle.std_collections.specs.declared.hash_map.iter.lent.ValuesMut.{ValuesMut as StdValuesMut}
 use Rattle.ne_hash.specs.declared.map.iter.IterMut.{IterMut}
+use Rattle.ne_hash.specs.declared.map.iter.ValuesMut.{ValuesMut}
 use Rattle.ne_hash.specs.contracts.map.NEMap.{the_row}
 
 -- The iterator that a non-empty iterator over mutable references holds and is turned into.
 abbrev pub std_iterator : {K V : Type 0} → IterMut K V → StdIterMut K V
 std_iterator w = w.inner
+
+-- The same of an iterator over the values alone.
+abbrev pub std_values : {K V : Type 0} → ValuesMut K V → StdValuesMut K V
+std_values w = w.inner
 
 module _ (K V S H : RattleType) (key : HashMembers K.Denot)
     (build : builder.Ghosts S.Denot H.Denot) (hash : hasher.Ghosts H.Denot) where
@@ -25,6 +31,12 @@ module _ (K V S H : RattleType) (key : HashMembers K.Denot)
   abbrev pub LendsValues : MutBor (HashMap K.Denot V.Denot S.Denot) → StdIterMut K.Denot V.Denot
       → Fml
   LendsValues m it = follows map_row (Array V 0) m.ghost_name (iter_mut_name it)
+      (with_values m.now)
+
+  -- The same of an iterator over the values alone.
+  abbrev pub LendsValuesAlone : MutBor (HashMap K.Denot V.Denot S.Denot)
+      → StdValuesMut K.Denot V.Denot → Fml
+  LendsValuesAlone m it = follows map_row (Array V 0) m.ghost_name (values_mut_name it)
       (with_values m.now)
 
   -- The key k has the value that was last written through r. If r is `None`, the map is unchanged.

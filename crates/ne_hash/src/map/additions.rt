@@ -1,8 +1,12 @@
 //! The methods of an [`NEMap`] that the Rust crate lacks. Removals never take the last key.
-ghost use Rattle.std.specs.Prelude.{◌≡◌, ◌+◌, ◌<◌, ◌↔◌, Bool, None, Some, IfSome, IsErr, IsTrue};
-ghost use Rattle.std.specs.Prelude.{if◌then◌else◌, is_some, length, Contains};
+ghost use Rattle.std.specs.Prelude.{◌≡◌, ◌+◌, ◌<◌, ◌^◌, ◌↔◌, Bool, None, Some, IfSome};
+ghost use Rattle.std.specs.Prelude.{if◌then◌else◌, is_some, length, Contains, IsErr, IsTrue};
 ghost use Rattle.std.specs.HashMap.{get, get_key, hash_map_len, hasher_of, keys, values};
 ghost use Rattle.std.specs.HashMap.{IsEmpty, IsUnique, Updates};
+ghost use Rattle.std.specs.HashMap.IterMut.{values_mut_rest, values_mut_steps};
+ghost use Rattle.std.specs.HashMap.Lent.{KeepsKeys};
+ghost use Rattle.std.specs.Borrow.{sem};
+ghost use Rattle.std.specs.Iterator.Runs.{YieldsMutRefsInOrder};
 ghost use Rattle.std.specs.List.Sorted.{IsPermutation};
 ghost use Rattle.std.specs.Map.{remove_entry};
 ghost use Rattle.std.specs.Map.Calls.{CallableOnEachPair, CalledAtPair, RetainsPairs, TakesPair};
@@ -10,8 +14,9 @@ ghost use Rattle.std.specs.Set.{is_member};
 ghost use Rattle.ne_vec.specs.Taken.{TakesFoundUnlessLast};
 ghost use Rattle.ne_iter.specs.KeptEntries.{ActsAsAtEntry, either_way, kept_entries};
 ghost use Rattle.ne_iter.specs.KeyIterators.{KnownByValue, ListsEntriesByValue};
+ghost use Rattle.ne_hash.specs.HashLends.{LendsValuesAlone, std_values};
 
-use super::{IntoKeys, IntoValues, NEMap};
+use super::{IntoKeys, IntoValues, NEMap, ValuesMut};
 use ne_iter::iter::NonEmptyIter;
 use std::collections::HashMap;
 use std::hash::{BuildHasher, Hash};
@@ -82,9 +87,8 @@ impl<K: Eq + Hash, V, S: BuildHasher> NEMap<K, V, S> {
     /// `asked` covers any `f`.
     ///
     /// ```
-    /// let map = nem![alloc; 2 => 24, 3 => 9, 4 => 26]?;
-    /// let even = map.retain(|k, _v| *k % 2 == 0); // Ok({2: 24, 4: 26})
-    /// let none = nem![alloc; 1 => 10, 3 => 30]?.retain(|k, _v| *k % 2 == 0); // Err({})
+    /// let even = NEMap::new(alloc, 2, 24)?.retain(|k, _v| *k % 2 == 0); // Ok({2: 24})
+    /// let none = NEMap::new(alloc, 3, 9)?.retain(|k, _v| *k % 2 == 0); // Err({})
     /// ```
     pub fn retain<F: FnMut(&K, &mut V) -> bool>(self, f: F) -> Result<Self, HashMap<K, V, S>>
     where
@@ -106,6 +110,30 @@ impl<K: Eq + Hash, V, S: BuildHasher> NEMap<K, V, S> {
             Err(inner)
         } else {
             Ok(NEMap { inner })
+        }
+    }
+
+    /// Returns a non-empty iterator over mutable references to the values. The order is unspecified,
+    /// but it is that of the pairs. The keys and their number do not change.
+    ///
+    /// ```
+    /// let mut map = nem![alloc; 2 => 1u32, 4 => 32]?;
+    /// for value in map.values_mut() {
+    ///     *value = value.wrapping_mul(31).wrapping_add(2);
+    /// } // {2: 33, 4: 994}
+    /// ```
+    pub fn values_mut(&mut self) -> ValuesMut<'_, K, V>
+        ensures* writes_back { sem 𝓛 (LendsValuesAlone K.row V.row S.row S.Hasher.row K.Hash
+            S.BuildHasher S.Hasher.Hasher self.entry (std_values result)) }
+        ensures keeps { KeepsKeys self.old }
+        ensures rest { values_mut_rest (std_values result) ≡ values self.old }
+        ensures unique { IsUnique K.eq self.old }
+        ensures fits { hash_map_len self.old < 2 ^ 63 }
+        ensures runs { YieldsMutRefsInOrder (values_mut_steps {K = K} {X = V}) values_mut_rest }
+        ensures nonempty { 0 < hash_map_len self.old }
+    {
+        ValuesMut {
+            inner: self.inner.values_mut(),
         }
     }
 

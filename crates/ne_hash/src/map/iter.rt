@@ -2,7 +2,7 @@
 //! std's iterators.
 ghost use Rattle.std.specs.Prelude.{◌≡◌, ◌<◌, ◌^◌, length};
 ghost use Rattle.std.specs.HashMap.{IsUnique, hash_map_len};
-ghost use Rattle.std.specs.HashMap.IterMut.{iter_mut_rest, IterMutCanStep};
+ghost use Rattle.std.specs.HashMap.IterMut.{iter_mut_rest, IterMutCanStep, values_mut_rest};
 ghost use Rattle.std.specs.Map.Iter.{deref, deref_pair};
 ghost use Rattle.ne_vec.specs.Lists.{view_by};
 ghost use Rattle.ne_iter.specs.KeyIterators.{IteratesEntries, IteratesEntriesByValue};
@@ -149,6 +149,34 @@ impl<'a, K, V> IntoIterator for IterMut<'a, K, V> {
     ghost into_iter_gives = { λ w it. (0 < length (iter_mut_rest it)) × (it ≡ std_iterator w) };
 
     fn into_iter(self) -> hash_map::IterMut<'a, K, V> {
+        self.inner
+    }
+}
+
+/// A non-empty iterator over mutable references to the values of an [`NEMap`]. In contracts,
+/// `std_values` is the std iterator that it holds.
+#[derive(Drop)]
+pub struct ValuesMut<'a, K, V> {
+    pub(super) inner: hash_map::ValuesMut<'a, K, V>,
+    ghost nonempty: { 0 < length (values_mut_rest inner) },
+}
+
+impl<'a, K, V> NonEmptyIterator for ValuesMut<'a, K, V> {
+    ghost use Rattle.ne_iter.specs.FirstItemLaws.{HasFirst-iter_mut};
+
+    ghost not_empty = { λ w it made t ended. HasFirst-iter_mut it.inner made.0 t.inner ended };
+}
+
+impl<'a, K, V> IntoIterator for ValuesMut<'a, K, V> {
+    ghost use Rattle.ne_hash.specs.HashLends.{std_values};
+
+    type Item = &'a mut V;
+
+    type IntoIter = hash_map::ValuesMut<'a, K, V>;
+
+    ghost into_iter_gives = { λ w it. (0 < length (values_mut_rest it)) × (it ≡ std_values w) };
+
+    fn into_iter(self) -> hash_map::ValuesMut<'a, K, V> {
         self.inner
     }
 }

@@ -81,8 +81,8 @@ impl<T: Eq + Hash, S: BuildHasher> NESet<T, S> {
     /// alone; `asked` covers any `f`.
     ///
     /// ```
-    /// let even = nes![alloc; 4, 5, 6, 7]?.retain(|x| *x % 2 == 0); // Ok({4, 6})
-    /// let none = nes![alloc; 1, 3]?.retain(|x| *x % 2 == 0); // Err({})
+    /// let even = NESet::new(alloc, 4)?.retain(|x| *x % 2 == 0); // Ok({4})
+    /// let none = NESet::new(alloc, 3)?.retain(|x| *x % 2 == 0); // Err({})
     /// ```
     pub fn retain<F: FnMut(&T) -> bool>(self, f: F) -> Result<Self, HashSet<T, S>>
     where
