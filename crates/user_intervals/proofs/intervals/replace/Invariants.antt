@@ -1,0 +1,20 @@
+use Rattle.user_intervals.proofs.intervals.replace.Given as goal
+use Rattle.std.proofs.Common.{◌≡◌, ◌<◌, ℕ}
+use Rattle.std.specs.BTreeMap.{btree_map_len, IsOrdered}
+use Rattle.std.specs.Ordering.{nat_cmp}
+use Rattle.std.specs.Prelude.{Some}
+use Rattle.user_intervals.specs.Points.{end_of}
+
+-- the interval that was put is there, and what starts before or after it is as before
+abbrev pub invariant-loop-start : goal.invariant-loop-start
+invariant-loop-start l = record {
+  at : end_of l.map.entries l.low ≡ Some l.high;
+  below : (start : ℕ) → start < l.low
+      → end_of l.map.entries start ≡ end_of l.fn.map.entries start;
+  above : (start : ℕ) → l.high < start
+      → end_of l.map.entries start ≡ end_of l.fn.map.entries start;
+  ordered : IsOrdered nat_cmp l.map;
+}
+
+abbrev pub decreases-loop-start : goal.decreases-loop-start
+decreases-loop-start l = btree_map_len l.map
