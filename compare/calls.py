@@ -11,6 +11,8 @@ from collections import namedtuple
 from program import HERE
 
 NAME = "vectors"
+# The reference implementation.
+TWIN = "replay"
 GREATEST = 2**32 - 1
 EDGES = sorted(
     {

@@ -21,6 +21,7 @@ from calls import (
 )
 
 NAME = "keyed"
+TWIN = "replay"
 MAPS = ["tree_map", "hashed_map", "indexed_map"]
 SETS = ["tree_set", "hashed_set", "indexed_set"]
 SUBJECTS = MAPS + SETS

@@ -3,6 +3,8 @@
 #![allow(deprecated)]
 #[path = "replay_keyed.rs"]
 mod keyed;
+#[path = "replay_script.rs"]
+mod script;
 #[path = "replay_vector.rs"]
 mod vector;
 
@@ -10,12 +12,9 @@ use keyed::{HashedMap, HashedSet, IndexedMap, IndexedSet, TreeMap, TreeSet};
 use nonempty_collections::{
     Error, FromNonEmptyIterator, IntoNonEmptyIterator, NEVec, NonEmptyIterator,
 };
-use std::cell::Cell;
-use std::cmp::Ordering;
-use std::fmt::{self, Debug};
-use std::hash::{Hash, Hasher};
+use script::{write, Call, Key, Transcript};
+use std::fmt::Debug;
 use std::io::{self, Read, Write as _};
-use std::num::NonZeroUsize;
 
 fn main() -> io::Result<()> {
     let mut script = String::new();
@@ -96,207 +95,22 @@ impl Subject {
     }
 }
 
-// A named closure on numbers. It counts its calls and adds up the numbers that it was passed. What
-// some closures return depends on this state.
-struct Closure {
-    rule: Rule,
-    calls: Cell<u32>,
-    total: Cell<u32>,
+// What a call's numbers make with the Rust crate.
+trait NonEmptyNumbers {
+    fn vector(&self) -> NEVec<u32>;
+
+    fn some_items(&self) -> NEVec<Key>;
+
+    fn some_pairs(&self) -> NEVec<(Key, u32)>;
 }
 
-#[derive(Clone, Copy)]
-enum Rule {
-    Same,
-    Zero,
-    Half,
-    Tens,
-    Digit,
-    Falling,
-    Calls,
-    Pairs,
-    Total,
-}
-
-impl Default for Closure {
-    fn default() -> Closure {
-        Closure::new(Rule::Same)
-    }
-}
-
-impl Closure {
-    // Returns the closure of this name, before its first call, or `None` if there is none.
-    fn named(name: &str) -> Option<Closure> {
-        let rule = match name {
-            "same" => Rule::Same,
-            "zero" => Rule::Zero,
-            "half" => Rule::Half,
-            "tens" => Rule::Tens,
-            "digit" => Rule::Digit,
-            "falling" => Rule::Falling,
-            "calls" => Rule::Calls,
-            "pairs" => Rule::Pairs,
-            "total" => Rule::Total,
-            _ => return None,
-        };
-        Some(Closure::new(rule))
-    }
-
-    fn new(rule: Rule) -> Closure {
-        Closure { rule, calls: Cell::new(0), total: Cell::new(0) }
-    }
-
-    fn anew(&self) -> Closure {
-        Closure::new(self.rule)
-    }
-
-    fn calls(&self) -> u32 {
-        self.calls.get()
-    }
-    fn of(&self, x: u32) -> u32 {
-        let calls = self.calls.get();
-        self.calls.set(calls.wrapping_add(1));
-        self.total.set(self.total.get().wrapping_add(x));
-        match self.rule {
-            Rule::Same => x,
-            Rule::Zero => 0,
-            Rule::Half => x / 2,
-            Rule::Tens => x / 10,
-            Rule::Digit => x % 10,
-            Rule::Falling => u32::MAX - x,
-            Rule::Calls => calls,
-            Rule::Pairs => calls / 2,
-            Rule::Total => self.total.get(),
-        }
-    }
-
-    // Returns whether its result for `x` is even.
-    fn holds(&self, x: u32) -> bool {
-        self.of(x) % 2 == 0
-    }
-    fn order(&self, x: u32, y: u32) -> Ordering {
-        let first = self.of(x);
-        first.cmp(&self.of(y))
-    }
-}
-
-// A number that equals another if their halves are the same. It is ordered and hashed by its half.
-#[derive(Clone, Copy)]
-struct Key {
-    half: u32,
-    number: u32,
-}
-
-impl Key {
-    fn new(number: u32) -> Key {
-        Key { half: number / 2, number }
-    }
-}
-
-impl PartialEq for Key {
-    fn eq(&self, other: &Key) -> bool {
-        self.half == other.half
-    }
-}
-
-impl Eq for Key {}
-
-impl PartialOrd for Key {
-    fn partial_cmp(&self, other: &Key) -> Option<Ordering> {
-        Some(self.cmp(other))
-    }
-}
-
-impl Ord for Key {
-    fn cmp(&self, other: &Key) -> Ordering {
-        self.half.cmp(&other.half)
-    }
-}
-
-impl Hash for Key {
-    fn hash<H: Hasher>(&self, state: &mut H) {
-        state.write_u32(self.half);
-    }
-}
-
-impl Debug for Key {
-    fn fmt(&self, f: &mut fmt::Formatter) -> fmt::Result {
-        write!(f, "{}", self.number)
-    }
-}
-
-// A call, as a line of a script writes it: a name, perhaps a closure's name, and numbers. A word
-// `COUNT*STEP` means COUNT numbers, the multiples of STEP modulo COUNT. If a line has no number,
-// the number is 0.
-
-struct Call<'t> {
-    name: &'t str,
-    // The closure that it takes. If none is named, it is the one that returns what it is passed.
-    closure: Closure,
-    numbers: Vec<u32>,
-    first: u32,
-    last: u32,
-    place: usize,
-    // The first of the numbers as a size, which is at least 1.
-    size: NonZeroUsize,
-    // The last of the numbers as a size, which is at least 1.
-    room: NonZeroUsize,
-}
-
-fn put_multiples(numbers: &mut Vec<u32>, count: &str, step: &str) {
-    let (count, step): (u32, u32) = (count.parse().unwrap_or(0), step.parse().unwrap_or(0));
-    numbers.extend((0..count).map(|place| place.wrapping_mul(step) % count));
-}
-
-fn sized(number: u32) -> NonZeroUsize {
-    NonZeroUsize::new(number as usize).unwrap_or(NonZeroUsize::MIN)
-}
-
-impl<'t> Call<'t> {
-    fn parsed(line: &'t str) -> Call<'t> {
-        let mut words = line.split(' ');
-        let name = words.next().unwrap_or("");
-        let mut closure = Closure::default();
-        let mut numbers = Vec::new();
-        for word in words {
-            if let Some((count, step)) = word.split_once('*') {
-                put_multiples(&mut numbers, count, step);
-            } else if let Ok(number) = word.parse::<u32>() {
-                numbers.push(number);
-            } else if let Some(named) = Closure::named(word) {
-                closure = named;
-            }
-        }
-        let first = numbers.first().copied().unwrap_or(0);
-        let last = numbers.last().copied().unwrap_or(0);
-        let (place, size, room) = (first as usize, sized(first), sized(last));
-        Call { name, closure, numbers, first, last, place, size, room }
-    }
-
+impl NonEmptyNumbers for Call<'_> {
     fn vector(&self) -> NEVec<u32> {
         NEVec::from((self.first, self.numbers.get(1..).unwrap_or(&[]).to_vec()))
     }
 
-    fn number(&self, place: usize) -> u32 {
-        self.numbers.get(place).copied().unwrap_or(0)
-    }
-
-    fn key(&self, place: usize) -> Key {
-        Key::new(self.number(place))
-    }
-
-    fn items(&self) -> Vec<Key> {
-        self.numbers.iter().map(|number| Key::new(*number)).collect()
-    }
-
     fn some_items(&self) -> NEVec<Key> {
         NEVec::try_from_vec(self.items()).unwrap_or_else(|| NEVec::new(self.key(0)))
-    }
-
-    fn pairs(&self) -> Vec<(Key, u32)> {
-        self.numbers
-            .chunks(2)
-            .map(|pair| (Key::new(pair[0]), pair.get(1).copied().unwrap_or(0)))
-            .collect()
     }
 
     fn some_pairs(&self) -> NEVec<(Key, u32)> {
@@ -304,62 +118,15 @@ impl<'t> Call<'t> {
     }
 }
 
-// How results are written.
-
-#[derive(Default)]
-struct Transcript {
-    text: String,
-    is_sorted: bool,
-    is_brief: bool,
+// Writes the vector into which a source is collected.
+trait Collected {
+    fn collected<T: Debug, S: NonEmptyIterator<Item = T>>(&mut self, source: S);
 }
 
-impl Transcript {
-    fn told<T: Debug>(&mut self, answer: T) {
-        let text = format!("{answer:?}");
-        if text.len() <= LONGEST {
-            self.said(&text)
-        } else {
-            self.said(&format!("{} bytes, {}", text.len(), checksum(&text)))
-        }
-    }
-
-    fn said(&mut self, words: &str) {
-        self.text.push_str(words);
-    }
-
+impl Collected for Transcript {
     fn collected<T: Debug, S: NonEmptyIterator<Item = T>>(&mut self, source: S) {
         self.told(source.collect::<NEVec<T>>())
     }
-
-    fn yielded<T: Ord + Debug, I: IntoIterator<Item = T>>(&mut self, iter: I) {
-        let mut list: Vec<T> = iter.into_iter().collect();
-        if self.is_brief && list.len() > MOST {
-            return self.told(list.len());
-        }
-        if self.is_sorted {
-            list.sort();
-        }
-        if list.len() <= MOST {
-            return self.told(list);
-        }
-        let text = format!("{list:?}");
-        self.told((list.len(), list.first(), list.last(), checksum(&text)))
-    }
-
-    fn printed<T: Debug>(&mut self, value: &T) {
-        let short = format!("{value:?}");
-        if short.len() <= MOST && !(self.is_sorted && short.contains(',')) {
-            self.said(&format!("{short} "));
-        }
-        self.yielded(format!("{:#?}", [value]).lines())
-    }
-}
-
-const LONGEST: usize = 1000;
-const MOST: usize = 100;
-
-fn checksum(text: &str) -> u32 {
-    text.bytes().fold(0, |sum: u32, byte| sum.wrapping_mul(31).wrapping_add(byte.into()))
 }
 
 fn put_some<C>(there: &mut C, out: &mut Transcript, made: Option<C>) {
@@ -373,13 +140,6 @@ fn put_ok<C>(there: &mut C, out: &mut Transcript, made: Result<C, Error>) {
     match made {
         Ok(made) => *there = made,
         Err(error) => out.said(&format!("{error}, {error:?}")),
-    }
-}
-
-fn write(place: Option<&mut u32>, number: u32, out: &mut Transcript) {
-    match place {
-        Some(place) => *place = number,
-        None => out.said("None"),
     }
 }
 

@@ -1,5 +1,5 @@
 // The calls on maps and sets.
-use crate::{collected, put_ok, put_some, write, Call, Key, Transcript};
+use crate::{collected, put_ok, put_some, write, Call, Key, NonEmptyNumbers, Transcript};
 use indexmap::{IndexMap, IndexSet};
 use nonempty_collections::{
     nebtm, nebts, neim, neis, nem, nes, IntoNonEmptyIterator, NEBTreeMap, NEBTreeSet, NEIndexMap,

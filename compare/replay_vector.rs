@@ -1,5 +1,5 @@
 // The calls on vectors, slices and chains.
-use crate::{put_ok, put_some, write, Call, Transcript};
+use crate::{put_ok, put_some, write, Call, Collected, NonEmptyNumbers, Transcript};
 use nonempty_collections::iter::once;
 use nonempty_collections::vector::IntoIter;
 use nonempty_collections::{

@@ -1,0 +1,446 @@
+"""The calls that `compare/replay` makes and that the Rust crate lacks, a few others to be made
+between them, and their scripts, in the form of `calls.py`. Their reference implementation is
+`replay_added.rs`. A script begins with the kind of the collection and its numbers."""
+
+import itertools
+from collections import namedtuple
+
+import calls
+import keyed_calls
+from calls import ANY, CHANGES, EDGES, NONE, PURE, READS, Kind, an_item, counted, lists, parsed
+from keyed_calls import MAPS, SETS, WALK
+
+NAME = "added"
+TWIN = "replay_added"
+VECTOR = ["vector"]
+TREES = ["tree_map", "tree_set"]
+SUBJECTS = VECTOR + MAPS + SETS
+
+
+def a_span(chance, keys):
+    """Returns two numbers, mostly in order, that are often near keys."""
+    ends = [an_item(chance, keys) for _ in range(2)]
+    return tuple(sorted(ends) if chance.random() < 0.9 else ends)
+
+
+# What the numbers of a call may be.
+KINDS = keyed_calls.KINDS | calls.KINDS
+KINDS["span"] = Kind(lists(2, 2, range(4)), [(0, 2)], [(2, 9), (7, 3)], a_span)
+
+# Names of calls, the kinds of collections that have them, the closures that they take, the kinds of
+# their numbers, and what they do.
+ROWS = [
+    ("swap", VECTOR, NONE, "place place", CHANGES),
+    ("extend_from_slice", VECTOR, NONE, "items", CHANGES),
+    ("split_off", VECTOR, NONE, "size", CHANGES),
+    ("sort_unstable", VECTOR, NONE, "", CHANGES),
+    ("sort_unstable_by sort_unstable_by_key", VECTOR, PURE, "", CHANGES),
+    ("remove remove_entry", MAPS[:2], NONE, "key", CHANGES),
+    ("remove take", SETS[:2], NONE, "key", CHANGES),
+    ("swap_remove shift_remove", [MAPS[2], SETS[2]], NONE, "key", CHANGES),
+    ("swap_remove_entry shift_remove_entry", MAPS[2:], NONE, "key", CHANGES),
+    ("swap_take shift_take", SETS[2:], NONE, "key", CHANGES),
+    ("pop_first pop_last", TREES, NONE, "", CHANGES),
+    ("pop", [MAPS[2], SETS[2]], NONE, "", CHANGES),
+    ("retain", [MAPS[0], MAPS[2], SETS[0], SETS[2]], ANY, "", CHANGES),
+    ("retain", [MAPS[1], SETS[1]], PURE, "", CHANGES),
+    ("or_insert", MAPS, NONE, "key value", CHANGES),
+    ("first_mut last_mut", [MAPS[0], MAPS[2]], NONE, "value", CHANGES),
+    ("values_mut", MAPS[:2], NONE, "value", CHANGES),
+    ("into_keys into_values", MAPS[:2], NONE, "", READS),
+    ("first_key_value last_key_value", MAPS[:1], NONE, "", READS),
+    ("first last", SETS[:1], NONE, "", READS),
+    ("range", TREES, NONE, "span", READS),
+    ("is_empty", TREES, NONE, "", READS),
+]
+# Other calls, which follow these in scripts.
+OTHERS = [
+    ("push", VECTOR, NONE, "item", CHANGES),
+    ("pop", VECTOR, NONE, "", CHANGES),
+    ("insert", MAPS, NONE, "key value", CHANGES),
+    ("insert", SETS, NONE, "key", CHANGES),
+    ("extend", MAPS, NONE, "pairs", CHANGES),
+    ("extend", SETS, NONE, "keys", CHANGES),
+    ("get_key_value", MAPS[:2], NONE, "key", READS),
+    ("get_mut", MAPS[:2], NONE, "key value", CHANGES),
+    ("get_index_of", MAPS[2:], NONE, "key", READS),
+    ("get", SETS, NONE, "key", READS),
+    ("iter", SUBJECTS, NONE, "", READS),
+]
+Row = namedtuple("Row", "closures kinds does is_added")
+CALLS = {
+    (subject, name): Row(closures, kinds.split(), does, is_added)
+    for rows, is_added in ((ROWS, True), (OTHERS, False))
+    for names, subjects, closures, kinds, does in rows
+    for subject in subjects
+    for name in names.split()
+}
+# Everything that is left out on purpose, and why.
+EXCUSED = [
+    (
+        "sort_unstable_by, sort_unstable_by_key: closures with state, and ties",
+        "Rust's sorts may panic, and leave the order open, where a closure makes no total order; "
+        "numbers that a closure makes equal are compared themselves",
+    ),
+    (
+        "retain of hashed maps and sets: closures with state",
+        "in which order the closure is called is open in both",
+    ),
+    (
+        "swap, split_off: places out of range; range: ends out of order",
+        "Rust panics; in the port that they are in range and in order is a condition of the call. "
+        "Both programs say so and make no call",
+    ),
+]
+
+
+def setting(subject, keys):
+    return (subject, "", tuple(keys)) if subject == "vector" else keyed_calls.setting(subject, keys)
+
+
+def is_allowed(script):
+    """Returns whether a script begins with its collection, and makes only calls that it has."""
+    begins = script[0][0] in SUBJECTS and script[0][2]
+    return bool(begins) and all(call in CALLS for call in counted(script))
+
+
+def names_of(subject, does=None):
+    return [
+        name for (it, name), row in CALLS.items() if it == subject and does in (None, row.does)
+    ]
+
+
+def each_call(subject, name, values):
+    """Yields every call of this name, with these values of each kind of number."""
+    row = CALLS[subject, name]
+    kinds = (values(KINDS[it]) for it in row.kinds)
+    for closure, *numbers in itertools.product(row.closures, *kinds):
+        yield name, closure, tuple(itertools.chain(*numbers))
+
+
+def a_call(chance, subject, name, keys):
+    row = CALLS[subject, name]
+    numbers = itertools.chain(*(KINDS[it].random(chance, keys) for it in row.kinds))
+    return name, chance.choice(row.closures), tuple(numbers)
+
+
+def small_scripts():
+    """Yields each call on each collection of one to three small keys, and each pair of calls that
+    change it on each collection of one or two."""
+    for subject in SUBJECTS:
+        single_calls = [
+            call
+            for name in names_of(subject)
+            for call in each_call(subject, name, lambda kind: kind.small)
+        ]
+        for keys, call in itertools.product(lists(1, 3, range(4)), single_calls):
+            yield [setting(subject, keys), call]
+        changes = [
+            call
+            for name in names_of(subject, CHANGES)
+            for call in each_call(subject, name, lambda kind: kind.few)
+        ]
+        for keys, *pair in itertools.product(lists(1, 2, range(3)), changes, changes):
+            yield [setting(subject, keys), *pair]
+
+
+def random_scripts(chance, count):
+    """Yields scripts with so many random calls on each kind of collection."""
+    for subject in SUBJECTS:
+        left, names = count, names_of(subject)
+        while left > 0:
+            size = min(left, chance.randint(1, 12))
+            pool = chance.choice([range(10), range(10), range(100), EDGES])
+            keys = tuple(chance.choices(pool, k=chance.randint(1, 40)))
+            drawn = (a_call(chance, subject, chance.choice(names), keys) for _ in range(size))
+            yield [setting(subject, keys), *drawn]
+            left -= size
+
+
+def long_scripts(chance):
+    """Yields each call on collections of 1, 2, 10 and 10,000 keys in scrambled order."""
+    for length, subject in itertools.product((1, 2, 10, 10_000), SUBJECTS):
+        rising = [2 * place + chance.randrange(2) for place in range(length)]
+        for name in names_of(subject):
+            keys = tuple(chance.sample(rising, length))
+            yield [setting(subject, keys), a_call(chance, subject, name, keys), WALK]
+
+
+def scripts(chance, count):
+    return {
+        "small": small_scripts(),
+        "random": random_scripts(chance, count),
+        "long": long_scripts(chance),
+    }
+
+
+# Example cases, at the front of the sample, each after the collection that it begins with. Keys are
+# even, except those that equal another key by its half.
+VECTOR_ROWS = """
+vector 4 6 8
+swap 0 2
+swap 1 1
+swap 0 3
+extend_from_slice 8 9
+extend_from_slice
+split_off 1
+split_off 1
+split_off 2
+vector 4 6 8 9
+split_off 4
+split_off 3
+vector 3 1 4 1 5 9 2 6
+sort_unstable
+sort_unstable_by falling
+sort_unstable_by_key digit
+"""
+TREE_MAP_ROWS = """
+tree_map 2 24
+is_empty
+remove 2
+remove_entry 3
+pop_first
+pop_last
+or_insert 4 26
+or_insert 5 7
+remove 6
+remove 3
+or_insert 8 23
+or_insert 0 22
+remove_entry 9
+first_key_value
+last_key_value
+first_mut 5
+last_mut 7
+values_mut 2
+into_keys
+into_values
+tree_map 2 24 4 26 6 23 8 22
+range 4 8
+range 5 6
+range 4 4
+range 8 4
+pop_first
+pop_last
+retain
+tree_map 2 24 5 26 6 23
+retain
+retain zero
+retain calls
+tree_map 7 24
+retain
+iter
+"""
+HASHED_MAP_ROWS = """
+hashed_map 2 24
+remove 2
+remove_entry 3
+or_insert 4 26
+or_insert 5 7
+remove 6
+remove 3
+or_insert 8 23
+remove_entry 9
+values_mut 2
+into_keys
+into_values
+hashed_map 2 24 5 26 6 23
+retain
+retain zero
+hashed_map 7 24
+retain
+iter
+"""
+INDEXED_MAP_ROWS = """
+indexed_map 2 24
+swap_remove 2
+shift_remove 3
+swap_remove_entry 2
+shift_remove_entry 3
+pop
+or_insert 4 26
+or_insert 5 7
+or_insert 8 23
+swap_remove 6
+swap_remove 2
+indexed_map 2 24 4 26 6 23 8 22
+shift_remove 3
+first_mut 5
+last_mut 7
+swap_remove_entry 5
+indexed_map 2 24 4 26 6 23 8 22
+shift_remove_entry 3
+get_index_of 6
+pop
+get_index_of 9
+insert 9 25
+indexed_map 6 24 2 26 5 23
+retain
+retain zero
+retain calls
+indexed_map 7 24
+retain
+iter
+"""
+TREE_SET_ROWS = """
+tree_set 2
+is_empty
+remove 2
+take 3
+pop_first
+pop_last
+insert 4
+remove 6
+remove 3
+tree_set 2 4 6 8
+take 5
+first
+last
+range 2 6
+range 3 3
+range 6 2
+range 4 4
+pop_first
+pop_last
+tree_set 2 5 6
+retain
+retain zero
+retain calls
+tree_set 7
+retain
+iter
+"""
+HASHED_SET_ROWS = """
+hashed_set 2
+remove 2
+take 3
+insert 4
+remove 6
+remove 3
+hashed_set 2 4 6 8
+take 5
+hashed_set 2 5 6
+retain
+retain zero
+hashed_set 7
+retain
+iter
+"""
+INDEXED_SET_ROWS = """
+indexed_set 2
+swap_remove 2
+shift_remove 3
+swap_take 2
+shift_take 3
+pop
+indexed_set 2 4 6 8
+swap_remove 3
+swap_remove 3
+indexed_set 2 4 6 8
+shift_remove 3
+swap_take 5
+get 8
+indexed_set 2 4 6 8
+shift_take 3
+pop
+insert 9
+indexed_set 6 2 5
+retain
+retain zero
+retain calls
+indexed_set 7
+retain
+iter
+"""
+# Calls over a hundred thousand items or keys. `.ci/calls` fails if one is left out that may report
+# a failed allocation.
+LARGE_ROWS = """
+vector 100000*7919
+extend_from_slice 100000*1
+split_off 100000
+sort_unstable
+iter
+tree_map 200000*7919
+or_insert 200001 7
+remove 100000
+retain tens
+iter
+hashed_map 200000*7919
+or_insert 200001 7
+remove 100000
+retain tens
+iter
+indexed_map 200000*7919
+or_insert 200001 7
+swap_remove 100000
+shift_remove 100002
+retain tens
+iter
+tree_set 200000*7919
+remove 100000
+retain half
+iter
+hashed_set 200000*7919
+remove 100000
+retain half
+iter
+indexed_set 200000*7919
+swap_remove 100000
+shift_remove 100002
+retain half
+iter
+"""
+EXAMPLES = [
+    VECTOR_ROWS,
+    *(TREE_MAP_ROWS, HASHED_MAP_ROWS, INDEXED_MAP_ROWS),
+    *(TREE_SET_ROWS, HASHED_SET_ROWS, INDEXED_SET_ROWS),
+]
+
+
+def each(begin, numbers):
+    """Returns a script with each call that the Rust crate lacks on the collection that this line
+    makes. There are two values of each kind of number, and a call that has some is made with both,
+    or, if it changes the collection, made twice."""
+    reads, changes = [begin], []
+    for (subject, name), row in CALLS.items():
+        if subject != begin[0] or not row.is_added:
+            continue
+        made = []
+        for turn in range(1 if row.does == READS and not row.kinds else 2):
+            closure = "" if row.closures == NONE else ["half", "falling"][turn]
+            chosen = (
+                numbers[kind][(turn + row.kinds[:place].count(kind)) % 2]
+                for place, kind in enumerate(row.kinds)
+            )
+            made.append((name, closure, tuple(itertools.chain(*chosen))))
+        if row.does == READS:
+            reads += made
+        else:
+            changes += [begin, *made]
+    return reads[len(reads) == 1 :] + changes
+
+
+def numbers_for(count):
+    """Returns two values of each kind of number for a call on so many keys: of keys one that is
+    there, and another."""
+    return {
+        "key": [(count,), (2 * count,)],
+        "value": [(7,), (8,)],
+        "place": [(0,), (count - 1,)],
+        "size": [(count,), (1,)],
+        "items": [(5, 9), ()],
+        "span": [(1, 2 * count), (count, count)],
+    }
+
+
+def sample():
+    """Returns the example cases; each call on a few keys, and on 1, 2 and 10 keys in scrambled
+    order; and the large calls."""
+    script = [call for rows in EXAMPLES for call in parsed(rows)]
+    for subject in SUBJECTS:
+        telling = {name: kind.telling for name, kind in KINDS.items()}
+        script += each(setting(subject, (6, 3, 8, 1, 7, 12, 9)), telling)
+        for count in 1, 2, 10:
+            size = count if subject == "vector" else 2 * count
+            script += each((subject, "", (f"{size}*7919",)), numbers_for(count))
+    return script + parsed(LARGE_ROWS)

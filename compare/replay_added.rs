@@ -1,0 +1,367 @@
+// The calls of `crates/test_replay` that the Rust crate lacks, with a few others between them. They
+// are made on std's collections, and for index maps and sets on lists that are searched by `==`.
+// The last entry is never removed: a removal returns `None` or `false` if there is no other. This
+// program reads and prints what `replay.rs` does, and needs no crate.
+#[allow(dead_code)] // The other program uses all of it.
+#[path = "replay_script.rs"]
+mod script;
+
+use script::{write, Call, Key, Transcript};
+use std::collections::{BTreeMap, BTreeSet, HashMap, HashSet};
+use std::fmt::Debug;
+use std::io::{self, Read, Write as _};
+
+type TreeMap = BTreeMap<Key, u32>;
+type HashedMap = HashMap<Key, u32>;
+// Pairs with different keys, in the order of insertion.
+type IndexedMap = Vec<(Key, u32)>;
+type TreeSet = BTreeSet<Key>;
+type HashedSet = HashSet<Key>;
+// Different items, in the order of insertion.
+type IndexedSet = Vec<Key>;
+
+fn main() -> io::Result<()> {
+    let mut script = String::new();
+    io::stdin().read_to_string(&mut script)?;
+    io::stdout().write_all(replayed(&script).as_bytes())
+}
+
+fn replayed(script: &str) -> String {
+    let mut out = Transcript::default();
+    let mut subject = Subject::Vector(vec![0]);
+    for line in script.lines() {
+        let call = Call::parsed(line);
+        answered(&mut subject, &call, &mut out);
+        out.said(" | ");
+        out.is_sorted = matches!(subject, Subject::HashedMap(_) | Subject::HashedSet(_));
+        out.is_brief = true;
+        subject.write(&call, &mut out);
+        out.is_brief = false;
+        out.said("\n");
+    }
+    out.text
+}
+
+// The items, or the one item if there are none.
+fn or_one<T>(items: Vec<T>, one: T) -> Vec<T> {
+    if items.is_empty() {
+        vec![one]
+    } else {
+        items
+    }
+}
+
+fn answered(subject: &mut Subject, call: &Call, out: &mut Transcript) {
+    let pairs = || each_key(or_one(call.pairs(), (call.key(0), 0)));
+    let items = || each_once(or_one(call.items(), call.key(0)));
+    match call.name {
+        "vector" => *subject = Subject::Vector(or_one(call.numbers.clone(), 0)),
+        "tree_map" => *subject = Subject::TreeMap(pairs().into_iter().collect()),
+        "hashed_map" => *subject = Subject::HashedMap(pairs().into_iter().collect()),
+        "indexed_map" => *subject = Subject::IndexedMap(pairs()),
+        "tree_set" => *subject = Subject::TreeSet(items().into_iter().collect()),
+        "hashed_set" => *subject = Subject::HashedSet(items().into_iter().collect()),
+        "indexed_set" => *subject = Subject::IndexedSet(items()),
+        _ => subject.answered(call, out),
+    }
+}
+
+enum Subject {
+    Vector(Vec<u32>),
+    TreeMap(TreeMap),
+    HashedMap(HashedMap),
+    IndexedMap(IndexedMap),
+    TreeSet(TreeSet),
+    HashedSet(HashedSet),
+    IndexedSet(IndexedSet),
+}
+
+impl Subject {
+    fn answered(&mut self, call: &Call, out: &mut Transcript) {
+        match self {
+            Subject::Vector(items) => vector(items, call, out),
+            Subject::TreeMap(map) => tree_map(map, call, out),
+            Subject::HashedMap(map) => hashed_map(map, call, out),
+            Subject::IndexedMap(map) => indexed_map(map, call, out),
+            Subject::TreeSet(set) => tree_set(set, call, out),
+            Subject::HashedSet(set) => hashed_set(set, call, out),
+            Subject::IndexedSet(set) => indexed_set(set, call, out),
+        }
+    }
+
+    fn write(&self, call: &Call, out: &mut Transcript) {
+        match self {
+            Subject::Vector(items) => {
+                out.yielded(items);
+                out.said(&format!(" | {}", call.closure.calls()))
+            }
+            Subject::TreeMap(map) => out.yielded(map),
+            Subject::HashedMap(map) => out.yielded(map),
+            Subject::IndexedMap(pairs) => {
+                out.yielded(pairs.iter().map(|(key, value)| (key, value)))
+            }
+            Subject::TreeSet(set) => out.yielded(set),
+            Subject::HashedSet(set) => out.yielded(set),
+            Subject::IndexedSet(items) => out.yielded(items),
+        }
+    }
+}
+
+// Removes nothing if there is one entry.
+fn unless_last<T: Default>(len: usize, removal: impl FnOnce() -> T) -> T {
+    if len > 1 {
+        removal()
+    } else {
+        T::default()
+    }
+}
+
+// Puts what `retain` kept in place of the current collection, and writes how often the closure was
+// called. If nothing was kept, writes that, and the current collection stays.
+fn put_kept<C: Debug>(there: &mut C, kept: C, len: usize, call: &Call, out: &mut Transcript) {
+    out.said(&format!("{} ", call.closure.calls()));
+    if len == 0 {
+        out.told(kept)
+    } else {
+        *there = kept
+    }
+}
+
+// Whether a pair is kept. Its value is changed.
+fn keeps(call: &Call, key: &Key, value: &mut u32) -> bool {
+    *value = call.closure.of(value.wrapping_add(key.number()));
+    *value % 2 == 0
+}
+
+// Changes each value to one that depends on the old one and on the number.
+fn rewrite<'a>(values: impl IntoIterator<Item = &'a mut u32>, number: u32) {
+    for value in values {
+        *value = value.wrapping_mul(31).wrapping_add(number);
+    }
+}
+
+// Writes the value, and changes it.
+fn exchange(value: &mut u32, number: u32, out: &mut Transcript) {
+    out.told(*value);
+    rewrite([value], number)
+}
+
+fn vector(items: &mut Vec<u32>, call: &Call, out: &mut Transcript) {
+    let (len, a, b) = (items.len(), call.place, call.last as usize);
+    let closure = call.closure.anew();
+    match call.name {
+        "swap" if a < len && b < len => items.swap(a, b),
+        "swap" => out.said("out of range"),
+        "extend_from_slice" => items.extend_from_slice(&call.numbers),
+        "split_off" if call.size.get() <= len => out.told(items.split_off(call.size.get())),
+        "split_off" => out.said("out of range"),
+        "sort_unstable" => items.sort_unstable(),
+        // Equal numbers are the same, and closures make no ties.
+        "sort_unstable_by" => items.sort_unstable_by(|x, y| closure.order(*x, *y).then(x.cmp(y))),
+        "sort_unstable_by_key" => items.sort_unstable_by_key(|x| (closure.of(*x), *x)),
+        "push" => items.push(call.first),
+        "pop" => out.told(unless_last(len, || items.pop())),
+        "iter" => out.yielded(items),
+        _ => out.said("no such call"),
+    }
+}
+
+// Calls that std's maps have.
+macro_rules! std_map {
+    ($map:expr, $call:expr, $out:expr) => {{
+        let (map, call, out) = ($map, $call, $out);
+        let (key, value) = (call.key(0), call.number(1));
+        match call.name {
+            "remove" => out.told(unless_last(map.len(), || map.remove(&key))),
+            "remove_entry" => out.told(unless_last(map.len(), || map.remove_entry(&key))),
+            "retain" => {
+                let mut kept = map.clone();
+                kept.retain(|key, value| keeps(call, key, value));
+                let len = kept.len();
+                put_kept(map, kept, len, call, out)
+            }
+            "or_insert" => exchange(map.entry(key).or_insert(value), value, out),
+            "values_mut" => rewrite(map.values_mut(), call.first),
+            "into_keys" => out.yielded(map.clone().into_keys()),
+            "into_values" => out.yielded(map.clone().into_values()),
+            "insert" => out.told(map.insert(key, value)),
+            "extend" => map.extend(call.pairs()),
+            "get_key_value" => out.told(map.get_key_value(&key)),
+            "get_mut" => write(map.get_mut(&key), value, out),
+            "iter" => out.yielded(map.iter()),
+            _ => out.said("no such call"),
+        }
+    }};
+}
+
+fn tree_map(map: &mut TreeMap, call: &Call, out: &mut Transcript) {
+    let (key, other) = (call.key(0), call.key(1));
+    match call.name {
+        "pop_first" => out.told(unless_last(map.len(), || map.pop_first())),
+        "pop_last" => out.told(unless_last(map.len(), || map.pop_last())),
+        "first_key_value" => out.told(map.iter().next().unwrap()),
+        "last_key_value" => out.told(map.iter().next_back().unwrap()),
+        "first_mut" => *map.iter_mut().next().unwrap().1 = call.first,
+        "last_mut" => *map.iter_mut().next_back().unwrap().1 = call.first,
+        "is_empty" => out.told(map.is_empty()),
+        "range" if key <= other => out.yielded(map.range(key..other)),
+        "range" => out.said("out of order"),
+        _ => std_map!(map, call, out),
+    }
+}
+
+fn hashed_map(map: &mut HashedMap, call: &Call, out: &mut Transcript) {
+    std_map!(map, call, out)
+}
+
+// The place of a key.
+fn place_of(pairs: &[(Key, u32)], key: Key) -> Option<usize> {
+    pairs.iter().position(|(other, _)| *other == key)
+}
+
+// Puts a pair in. A key that is there gets the value, and the old value is returned.
+fn put(pairs: &mut IndexedMap, (key, value): (Key, u32)) -> Option<u32> {
+    match place_of(pairs, key) {
+        Some(place) => Some(std::mem::replace(&mut pairs[place].1, value)),
+        None => {
+            pairs.push((key, value));
+            None
+        }
+    }
+}
+
+// Each key once, as it came first, with the last of its values.
+fn each_key(pairs: Vec<(Key, u32)>) -> IndexedMap {
+    let (mut places, mut made) = (HashMap::new(), IndexedMap::new());
+    for (key, value) in pairs {
+        let place = *places.entry(key).or_insert(made.len());
+        if place < made.len() {
+            made[place] = (made[place].0, value);
+        } else {
+            made.push((key, value));
+        }
+    }
+    made
+}
+
+fn indexed_map(map: &mut IndexedMap, call: &Call, out: &mut Transcript) {
+    let (key, value, len) = (call.key(0), call.number(1), map.len());
+    // the place of a key that may be removed
+    let place = place_of(map, key).filter(|_| len > 1);
+    match call.name {
+        "swap_remove" => out.told(place.map(|place| map.swap_remove(place).1)),
+        "shift_remove" => out.told(place.map(|place| map.remove(place).1)),
+        "swap_remove_entry" => out.told(place.map(|place| map.swap_remove(place))),
+        "shift_remove_entry" => out.told(place.map(|place| map.remove(place))),
+        "pop" => out.told(unless_last(len, || map.pop())),
+        "first_mut" => map[0].1 = call.first,
+        "last_mut" => map[len - 1].1 = call.first,
+        "retain" => {
+            let mut kept = map.clone();
+            kept.retain_mut(|(key, value)| keeps(call, key, value));
+            indexed_kept(map, kept, call, out)
+        }
+        "or_insert" => {
+            let place = place_of(map, key).unwrap_or(len);
+            if place == len {
+                map.push((key, value));
+            }
+            exchange(&mut map[place].1, value, out)
+        }
+        "insert" => out.told(put(map, (key, value))),
+        "extend" => {
+            for pair in call.pairs() {
+                put(map, pair);
+            }
+        }
+        "get_index_of" => out.told(place_of(map, key)),
+        "iter" => out.yielded(map.iter().map(|(key, value)| (key, value))),
+        _ => out.said("no such call"),
+    }
+}
+
+// As `put_kept` does. An empty list is written as an empty map or set.
+fn indexed_kept<T>(there: &mut Vec<T>, kept: Vec<T>, call: &Call, out: &mut Transcript) {
+    out.said(&format!("{} ", call.closure.calls()));
+    if kept.is_empty() {
+        out.said("{}")
+    } else {
+        *there = kept
+    }
+}
+
+// Each item once: of equal ones the first, at its place.
+fn each_once(items: Vec<Key>) -> IndexedSet {
+    let mut found = HashSet::new();
+    items.into_iter().filter(|item| found.insert(*item)).collect()
+}
+
+// Calls that std's sets have.
+macro_rules! std_set {
+    ($set:expr, $call:expr, $out:expr) => {{
+        let (set, call, out) = ($set, $call, $out);
+        let item = call.key(0);
+        match call.name {
+            "remove" => out.told(unless_last(set.len(), || set.remove(&item))),
+            "take" => out.told(unless_last(set.len(), || set.take(&item))),
+            "retain" => {
+                let mut kept = set.clone();
+                kept.retain(|item| call.closure.holds(item.number()));
+                let len = kept.len();
+                put_kept(set, kept, len, call, out)
+            }
+            "insert" => out.told(set.insert(item)),
+            "extend" => set.extend(call.items()),
+            "get" => out.told(set.get(&item)),
+            "iter" => out.yielded(set.iter()),
+            _ => out.said("no such call"),
+        }
+    }};
+}
+
+fn tree_set(set: &mut TreeSet, call: &Call, out: &mut Transcript) {
+    let (item, other) = (call.key(0), call.key(1));
+    match call.name {
+        "pop_first" => out.told(unless_last(set.len(), || set.pop_first())),
+        "pop_last" => out.told(unless_last(set.len(), || set.pop_last())),
+        "first" => out.told(set.iter().next().unwrap()),
+        "last" => out.told(set.iter().next_back().unwrap()),
+        "is_empty" => out.told(set.is_empty()),
+        "range" if item <= other => out.yielded(set.range(item..=other)),
+        "range" => out.said("out of order"),
+        _ => std_set!(set, call, out),
+    }
+}
+
+fn hashed_set(set: &mut HashedSet, call: &Call, out: &mut Transcript) {
+    std_set!(set, call, out)
+}
+
+fn indexed_set(set: &mut IndexedSet, call: &Call, out: &mut Transcript) {
+    let (item, len) = (call.key(0), set.len());
+    let found = set.iter().position(|other| *other == item);
+    // the place of an item that may be removed
+    let place = found.filter(|_| len > 1);
+    match call.name {
+        "swap_remove" => out.told(place.map(|place| set.swap_remove(place)).is_some()),
+        "shift_remove" => out.told(place.map(|place| set.remove(place)).is_some()),
+        "swap_take" => out.told(place.map(|place| set.swap_remove(place))),
+        "shift_take" => out.told(place.map(|place| set.remove(place))),
+        "pop" => out.told(unless_last(len, || set.pop())),
+        "retain" => {
+            let mut kept = set.clone();
+            kept.retain(|item| call.closure.holds(item.number()));
+            indexed_kept(set, kept, call, out)
+        }
+        "insert" => {
+            if found.is_none() {
+                set.push(item);
+            }
+            out.told(found.is_none())
+        }
+        "extend" => *set = each_once(set.iter().copied().chain(call.items()).collect()),
+        "get" => out.told(found.map(|place| &set[place])),
+        "iter" => out.yielded(set),
+        _ => out.said("no such call"),
+    }
+}
