@@ -27,6 +27,11 @@ impl Key {
             number,
         }
     }
+
+    /// Its number.
+    pub fn number(&self) -> u32 {
+        self.number
+    }
 }
 
 impl PartialEq for Key {

@@ -1,7 +1,12 @@
 //! Calls on maps and sets. What the kinds have in common is written once, as macros, by groups of
-//! calls; the last arm of a group tries the calls of the next function.
+//! calls; the last arm of a group tries the calls of the next function. Those that the Rust crate
+//! lacks are in `added`.
 ghost use Rattle.std.specs.Iterator.{IsFiniteIterable};
 
+use crate::added::{
+    hashed_map_added, hashed_set_added, indexed_map_added, indexed_set_added, tree_map_added,
+    tree_set_added,
+};
 use crate::call::Call;
 use crate::key::Key;
 use crate::transcript::{Answered, Transcript, put, put_ok, put_some, write};
@@ -249,7 +254,7 @@ fn tree_map_changed(map: &mut TreeMap, call: &Call, out: &mut Transcript) -> Ans
 }
 
 fn tree_map_more(map: &mut TreeMap, call: &Call, out: &mut Transcript) -> Answered {
-    changed_std_map!(map, call, out, tree_map_iterated, TreeMap, BTreeMap)
+    changed_std_map!(map, call, out, tree_map_added, TreeMap, BTreeMap)
 }
 
 /// Writes what an iterator over a tree map yields.
@@ -261,7 +266,8 @@ fn tree_map_into_iter(iter: btree_map::IntoIter<Key, u32>, out: &mut Transcript)
     out.yielded(iter)
 }
 
-fn tree_map_iterated(map: &TreeMap, call: &Call, out: &mut Transcript) -> Answered {
+/// Calls that read a whole tree map, and those that follow.
+pub fn tree_map_iterated(map: &TreeMap, call: &Call, out: &mut Transcript) -> Answered {
     iterated!(
         map,
         call,
@@ -299,7 +305,7 @@ fn hashed_map_changed(map: &mut HashedMap, call: &Call, out: &mut Transcript) ->
 }
 
 fn hashed_map_more(map: &mut HashedMap, call: &Call, out: &mut Transcript) -> Answered {
-    changed_std_map!(map, call, out, hashed_map_iterated, HashedMap, HashMap)
+    changed_std_map!(map, call, out, hashed_map_added, HashedMap, HashMap)
 }
 
 /// Writes what an iterator over a hashed map yields.
@@ -311,7 +317,8 @@ fn hashed_map_into_iter(iter: hash_map::IntoIter<Key, u32>, out: &mut Transcript
     out.yielded(iter)
 }
 
-fn hashed_map_iterated(map: &HashedMap, call: &Call, out: &mut Transcript) -> Answered {
+/// Calls that read a whole hashed map, and those that follow.
+pub fn hashed_map_iterated(map: &HashedMap, call: &Call, out: &mut Transcript) -> Answered {
     iterated!(
         map,
         call,
@@ -360,7 +367,7 @@ fn indexed_map_placed(map: &mut IndexedMap, call: &Call, out: &mut Transcript) -
         "nonempty_iter_clone" => out.yielded(map.nonempty_iter().clone()?),
         "keys_clone" => out.yielded(map.keys().clone()?),
         "values_clone" => out.yielded(map.values().clone()?),
-        _ => indexed_map_iterated(map, call, out),
+        _ => indexed_map_added(map, call, out),
     }
 }
 
@@ -373,7 +380,8 @@ fn indexed_map_into_iter(iter: index_map::IntoIter<Key, u32>, out: &mut Transcri
     out.yielded(iter)
 }
 
-fn indexed_map_iterated(map: &IndexedMap, call: &Call, out: &mut Transcript) -> Answered {
+/// Calls that read a whole index map, and those that follow.
+pub fn indexed_map_iterated(map: &IndexedMap, call: &Call, out: &mut Transcript) -> Answered {
     iterated!(
         map,
         call,
@@ -395,7 +403,7 @@ pub fn tree_set(set: &mut TreeSet, call: &Call, out: &mut Transcript) -> Answere
 }
 
 fn tree_set_changed(set: &mut TreeSet, call: &Call, out: &mut Transcript) -> Answered {
-    changed_set!(set, call, out, tree_set_iterated)
+    changed_set!(set, call, out, tree_set_added)
 }
 
 /// Writes what an iterator over a tree set yields.
@@ -407,7 +415,8 @@ fn tree_set_into_iter(iter: btree_set::IntoIter<Key>, out: &mut Transcript) -> A
     out.yielded(iter)
 }
 
-fn tree_set_iterated(set: &TreeSet, call: &Call, out: &mut Transcript) -> Answered {
+/// Calls that read a whole tree set, and those that follow.
+pub fn tree_set_iterated(set: &TreeSet, call: &Call, out: &mut Transcript) -> Answered {
     iterated!(
         set,
         call,
@@ -440,7 +449,7 @@ fn hashed_set_reserved(set: &mut HashedSet, call: &Call, out: &mut Transcript) -
 }
 
 fn hashed_set_changed(set: &mut HashedSet, call: &Call, out: &mut Transcript) -> Answered {
-    changed_set!(set, call, out, hashed_set_iterated)
+    changed_set!(set, call, out, hashed_set_added)
 }
 
 /// Writes what an iterator over a hashed set yields.
@@ -452,7 +461,8 @@ fn hashed_set_into_iter(iter: hash_set::IntoIter<Key>, out: &mut Transcript) -> 
     out.yielded(iter)
 }
 
-fn hashed_set_iterated(set: &HashedSet, call: &Call, out: &mut Transcript) -> Answered {
+/// Calls that read a whole hashed set, and those that follow.
+pub fn hashed_set_iterated(set: &HashedSet, call: &Call, out: &mut Transcript) -> Answered {
     iterated!(
         set,
         call,
@@ -492,7 +502,7 @@ fn indexed_set_reserved(set: &mut IndexedSet, call: &Call, out: &mut Transcript)
 }
 
 fn indexed_set_changed(set: &mut IndexedSet, call: &Call, out: &mut Transcript) -> Answered {
-    changed_set!(set, call, out, indexed_set_iterated)
+    changed_set!(set, call, out, indexed_set_added)
 }
 
 /// Writes what an iterator over an index set yields.
@@ -504,7 +514,8 @@ fn indexed_set_into_iter(iter: index_set::IntoIter<Key>, out: &mut Transcript) -
     out.yielded(iter)
 }
 
-fn indexed_set_iterated(set: &IndexedSet, call: &Call, out: &mut Transcript) -> Answered {
+/// Calls that read a whole index set, and those that follow.
+pub fn indexed_set_iterated(set: &IndexedSet, call: &Call, out: &mut Transcript) -> Answered {
     iterated!(
         set,
         call,

@@ -4,11 +4,12 @@
 //! A line that names a kind of collection makes one of its numbers, on which the following lines
 //! call. A script begins with a vector. The line that is printed has the result, and then the
 //! collection as it is after the call, or its length if it is long; on a vector also how often the
-//! call's closure was called. A reference implementation does the same with the Rust crate: see
-//! `compare/replay`.
+//! call's closure was called. A reference implementation does the same with the Rust crate, and
+//! another one makes the calls that the Rust crate lacks: see `compare/replay`.
 #![tactic(auto)]
 
 mod adapters;
+mod added;
 mod call;
 mod closure;
 mod collected;

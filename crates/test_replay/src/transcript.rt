@@ -183,6 +183,18 @@ pub fn put_ok<C: Drop>(there: &mut C, out: &mut Transcript, made: Result<C, Erro
     }
 }
 
+/// Puts what a call kept. If it kept nothing, writes that, and the current collection stays.
+pub fn put_kept<C: Drop, E: Debug + Drop>(
+    there: &mut C,
+    out: &mut Transcript,
+    kept: Result<C, E>,
+) -> Answered {
+    match kept {
+        Ok(kept) => put(there, Ok(kept)),
+        Err(nothing) => out.told(nothing),
+    }
+}
+
 /// Writes a number through a reference, if there is one.
 pub fn write(place: Option<&mut u32>, number: u32, out: &mut Transcript) -> Answered {
     match place {

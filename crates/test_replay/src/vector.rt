@@ -3,7 +3,7 @@ ghost use Rattle.std.specs.Iterator.{IsFiniteIterable};
 
 use crate::call::Call;
 use crate::slice;
-use crate::transcript::{Answered, Transcript, put, put_ok, put_some, write};
+use crate::transcript::{Answered, Transcript, put, put_kept, put_ok, put_some, write};
 use ne_laws::vector_calls::run_vec;
 use nonempty_collections::{IntoNonEmptyIterator, NEVec, NonEmptyIterator, Singleton, nev};
 use std::alloc::AllocError;
@@ -95,18 +95,6 @@ fn append(items: &mut NEVec<u32>, call: &Call, out: &mut Transcript) -> Answered
     out.told(other)
 }
 
-// Puts what a call kept. If it kept nothing, the current vector stays.
-fn put_kept(
-    items: &mut NEVec<u32>,
-    out: &mut Transcript,
-    kept: Result<NEVec<u32>, Vec<u32>>,
-) -> Answered {
-    match kept {
-        Ok(kept) => put(items, Ok(kept)),
-        Err(nothing) => out.told(nothing),
-    }
-}
-
 // Calls that keep some of the items.
 fn kept(items: &mut NEVec<u32>, call: &Call, out: &mut Transcript) -> Answered {
     let closure = &call.closure;
@@ -126,17 +114,35 @@ fn kept(items: &mut NEVec<u32>, call: &Call, out: &mut Transcript) -> Answered {
         "dedup" => Ok(items.dedup()),
         "dedup_by" => Ok(items.dedup_by(|x, y| closure.of(*x) == closure.of(*y))),
         "dedup_by_key" => Ok(items.dedup_by_key(|x| closure.of(*x))),
+        _ => added(items, call, out),
+    }
+}
+
+// Calls that the Rust crate lacks, except for sorts.
+fn added(items: &mut NEVec<u32>, call: &Call, out: &mut Transcript) -> Answered {
+    let (a, b, len) = (call.place, call.last as usize, items.len().get());
+    match call.name {
+        "swap" if a < len && b < len => Ok(items.swap(a, b)),
+        "extend_from_slice" => items.extend_from_slice(call.numbers.as_slice()),
+        "split_off" if call.size.get() <= len => out.made(items.split_off(call.size)),
+        "swap" | "split_off" => out.said("out of range"),
         _ => sorted(items, call, out),
     }
 }
 
-// Calls that sort. How often a closure is called is up to std.
+// Calls that sort. How often a closure is called is up to std. In the unstable ones no two different
+// numbers tie.
 fn sorted(items: &mut NEVec<u32>, call: &Call, out: &mut Transcript) -> Answered {
     let closure = call.closure.anew();
     match call.name {
         "sort" => items.sort(),
         "sort_by" => items.sort_by(|x, y| closure.order(*x, *y)),
         "sort_by_key" => items.sort_by_key(|x| closure.of(*x)),
+        "sort_unstable" => Ok(items.sort_unstable()),
+        "sort_unstable_by" => {
+            Ok(items.sort_unstable_by(|x, y| closure.order(*x, *y).then(x.cmp(y))))
+        }
+        "sort_unstable_by_key" => Ok(items.sort_unstable_by_key(|x| (closure.of(*x), *x))),
         _ => read(items, call, out),
     }
 }

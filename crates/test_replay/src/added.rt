@@ -1,0 +1,180 @@
+//! Calls on maps and sets that the Rust crate lacks. What std's kinds have in common is written
+//! once, as macros; the last arm of a function tries the calls of the next one.
+ghost use Rattle.std.specs.Iterator.{IsFiniteIterable};
+
+use crate::call::Call;
+use crate::key::Key;
+use crate::keyed::{
+    HashedMap, HashedSet, IndexedMap, IndexedSet, TreeMap, TreeSet, hashed_map_iterated,
+    hashed_set_iterated, indexed_map_iterated, indexed_set_iterated, tree_map_iterated,
+    tree_set_iterated,
+};
+use crate::transcript::{Answered, Transcript, put_kept};
+use std::alloc::AllocError;
+use std::fmt::Debug;
+
+// Calls that tree maps and hashed maps have.
+macro_rules! std_map {
+    ($map:expr, $call:expr, $out:expr, $next:ident) => {{
+        let (key, value) = ($call.key(0), $call.number(1));
+        match $call.name {
+            "remove" => $out.told($map.remove(&key)),
+            "remove_entry" => $out.told($map.remove_entry(&key)),
+            "retain" => {
+                let all = $map.clone()?;
+                let kept = all.retain(|key, value| keeps($call, key, value));
+                put_counted($map, $call, $out, kept)
+            }
+            "or_insert" => exchange($map.or_insert(key, value), value, $out),
+            "values_mut" => Ok(rewrite($map.values_mut(), $call.first)),
+            "into_keys" => $out.yielded($map.clone()?.into_keys()),
+            "into_values" => $out.yielded($map.clone()?.into_values()),
+            _ => $next($map, $call, $out),
+        }
+    }};
+}
+
+// Whether a pair is kept. Its value is changed.
+fn keeps(call: &Call, key: &Key, value: &mut u32) -> bool {
+    *value = call.closure.of(value.wrapping_add(key.number()));
+    *value % 2 == 0
+}
+
+// Writes how often the closure was called, and puts what a call kept.
+fn put_counted<C: Drop, E: Debug + Drop>(
+    there: &mut C,
+    call: &Call,
+    out: &mut Transcript,
+    kept: Result<C, E>,
+) -> Answered {
+    write!(out.text, "{} ", call.closure.calls())?;
+    put_kept(there, out, kept)
+}
+
+// Writes the value that is there, and changes it.
+fn exchange(place: Result<&mut u32, AllocError>, number: u32, out: &mut Transcript) -> Answered {
+    let place = place?;
+    let found = *place;
+    *place = changed(found, number);
+    out.told(found)
+}
+
+// Changes each value.
+fn rewrite<'a, I: IntoIterator<Item = &'a mut u32>>(values: I, number: u32)
+    requires { IsFiniteIterable I.into_iter_gives I.IntoIter.can_next I.IntoIter.remaining values }
+{
+    for value in values {
+        *value = changed(*value, number);
+    }
+}
+
+// A value that depends on this one and on the number.
+fn changed(value: u32, number: u32) -> u32 {
+    value.wrapping_mul(31).wrapping_add(number)
+}
+
+/// Calls on a tree map.
+pub fn tree_map_added(map: &mut TreeMap, call: &Call, out: &mut Transcript) -> Answered {
+    std_map!(map, call, out, tree_map_ends)
+}
+
+fn tree_map_ends(map: &mut TreeMap, call: &Call, out: &mut Transcript) -> Answered {
+    let (key, other) = (call.key(0), call.key(1));
+    match call.name {
+        "pop_first" => out.told(map.pop_first()),
+        "pop_last" => out.told(map.pop_last()),
+        "first_key_value" => out.told(map.first_key_value()),
+        "last_key_value" => out.told(map.last_key_value()),
+        "first_mut" => Ok(*map.first_mut() = call.first),
+        "last_mut" => Ok(*map.last_mut() = call.first),
+        "range" if key <= other => out.yielded(map.range(key..other)),
+        "range" => out.said("out of order"),
+        "is_empty" => out.told(map.is_empty()),
+        _ => tree_map_iterated(map, call, out),
+    }
+}
+
+/// Calls on a hashed map.
+pub fn hashed_map_added(map: &mut HashedMap, call: &Call, out: &mut Transcript) -> Answered {
+    std_map!(map, call, out, hashed_map_iterated)
+}
+
+/// Calls on an index map.
+pub fn indexed_map_added(map: &mut IndexedMap, call: &Call, out: &mut Transcript) -> Answered {
+    let (key, value) = (call.key(0), call.number(1));
+    match call.name {
+        "swap_remove" => out.told(map.swap_remove(&key)),
+        "shift_remove" => out.told(map.shift_remove(&key)),
+        "swap_remove_entry" => out.told(map.swap_remove_entry(&key)),
+        "shift_remove_entry" => out.told(map.shift_remove_entry(&key)),
+        "pop" => out.told(map.pop()),
+        "retain" => {
+            let all = map.clone()?;
+            let kept = all.retain(|key, value| keeps(call, key, value));
+            put_counted(map, call, out, kept)
+        }
+        "or_insert" => exchange(map.or_insert(key, value), value, out),
+        "first_mut" => Ok(*map.first_mut() = call.first),
+        "last_mut" => Ok(*map.last_mut() = call.first),
+        _ => indexed_map_iterated(map, call, out),
+    }
+}
+
+// Calls that tree sets and hashed sets have.
+macro_rules! std_set {
+    ($set:expr, $call:expr, $out:expr, $next:ident) => {{
+        let item = $call.key(0);
+        match $call.name {
+            "remove" => $out.told($set.remove(&item)),
+            "take" => $out.told($set.take(&item)),
+            "retain" => {
+                let all = $set.clone()?;
+                let kept = all.retain(|item| $call.closure.holds(item.number()));
+                put_counted($set, $call, $out, kept)
+            }
+            _ => $next($set, $call, $out),
+        }
+    }};
+}
+
+/// Calls on a tree set.
+pub fn tree_set_added(set: &mut TreeSet, call: &Call, out: &mut Transcript) -> Answered {
+    std_set!(set, call, out, tree_set_ends)
+}
+
+fn tree_set_ends(set: &mut TreeSet, call: &Call, out: &mut Transcript) -> Answered {
+    let (item, other) = (call.key(0), call.key(1));
+    match call.name {
+        "pop_first" => out.told(set.pop_first()),
+        "pop_last" => out.told(set.pop_last()),
+        "first" => out.told(set.first()),
+        "last" => out.told(set.last()),
+        "range" if item <= other => out.yielded(set.range(item..=other)),
+        "range" => out.said("out of order"),
+        "is_empty" => out.told(set.is_empty()),
+        _ => tree_set_iterated(set, call, out),
+    }
+}
+
+/// Calls on a hashed set.
+pub fn hashed_set_added(set: &mut HashedSet, call: &Call, out: &mut Transcript) -> Answered {
+    std_set!(set, call, out, hashed_set_iterated)
+}
+
+/// Calls on an index set.
+pub fn indexed_set_added(set: &mut IndexedSet, call: &Call, out: &mut Transcript) -> Answered {
+    let item = call.key(0);
+    match call.name {
+        "swap_remove" => out.told(set.swap_remove(&item)),
+        "shift_remove" => out.told(set.shift_remove(&item)),
+        "swap_take" => out.told(set.swap_take(&item)),
+        "shift_take" => out.told(set.shift_take(&item)),
+        "pop" => out.told(set.pop()),
+        "retain" => {
+            let all = set.clone()?;
+            let kept = all.retain(|item| call.closure.holds(item.number()));
+            put_counted(set, call, out, kept)
+        }
+        _ => indexed_set_iterated(set, call, out),
+    }
+}
