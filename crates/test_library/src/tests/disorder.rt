@@ -65,6 +65,11 @@ fn sort_by(items: &mut NEVec<Item>, kind: u32, count: usize) -> Result<(), Fail>
         calls = calls.wrapping_add(1);
         answer(kind, calls)
     })?;
+    all_there(items, count)?;
+    items.sort_unstable_by(|_, _| {
+        calls = calls.wrapping_add(1);
+        answer(kind, calls)
+    });
     all_there(items, count)
 }
 
@@ -74,6 +79,11 @@ fn sort_by_key(items: &mut NEVec<Item>, kind: u32, count: usize) -> Result<(), F
         calls = calls.wrapping_add(1);
         answer(kind, calls)
     })?;
+    all_there(items, count)?;
+    items.sort_unstable_by_key(|_| {
+        calls = calls.wrapping_add(1);
+        answer(kind, calls)
+    });
     all_there(items, count)
 }
 

@@ -42,6 +42,22 @@ fn cut_and_replaced(rt: HostRuntime) -> Result<(), Fail> {
 }
 
 #[test]
+fn split_and_swapped(rt: HostRuntime) -> Result<(), Fail> {
+    let token = Rc::new(rt.alloc(), 7u32)?;
+    let mut items = owners(rt.alloc(), &token, 6)?;
+    if items.len().get() != 6 {
+        return Err(Fail::new(format_args!("other items")));
+    }
+    items.swap(0, 5);
+    let rest = items.split_off(of(2)?)?;
+    let split = (items.len().get(), rest.len(), left(&token));
+    drop(rest);
+    is((split, left(&token)), ((2, 4, 6), 2))?;
+    items.extend_from_slice(&[token.clone()?, token.clone()?])?;
+    is(left(&token), 4)
+}
+
+#[test]
 fn kept(rt: HostRuntime) -> Result<(), Fail> {
     let token = Rc::new(rt.alloc(), 7u32)?;
     let mut turn = 0u32;
@@ -121,6 +137,8 @@ fn sorted_and_reversed(rt: HostRuntime) -> Result<(), Fail> {
     let mut sorted = owners(rt.alloc(), &token, 30)?;
     sorted.sort_by_key(|it| **it)?;
     sorted.reverse();
+    sorted.sort_unstable();
+    sorted.sort_unstable_by_key(|it| **it);
     let held = left(&token);
     drop(sorted);
     is([held, left(&token)], [30, 0])

@@ -22,6 +22,13 @@ trait Table: Clone + Drop {
     fn has(&self, key: &Owner) -> bool;
 
     fn size(&self) -> usize;
+
+    // Removes the key, or an entry at an end, by the call of this number from 0 to 4, and drops what
+    // is returned. Returns whether there was something.
+    fn cut(&mut self, key: &Owner, call: u32) -> bool;
+
+    // The table with the entry of the key alone, if it is there.
+    fn only(self, key: &Owner) -> Option<Self>;
 }
 
 impl Table for NEBTreeMap<Owner, Owner> {
@@ -40,6 +47,19 @@ impl Table for NEBTreeMap<Owner, Owner> {
 
     fn size(&self) -> usize {
         self.len().get()
+    }
+
+    fn cut(&mut self, key: &Owner, call: u32) -> bool {
+        match call {
+            0 => self.remove(key).is_some(),
+            1 => self.remove_entry(key).is_some(),
+            2 => self.pop_first().is_some(),
+            _ => self.pop_last().is_some(),
+        }
+    }
+
+    fn only(self, key: &Owner) -> Option<Self> {
+        self.retain(|it, _| it == key).ok()
     }
 }
 
@@ -60,6 +80,17 @@ impl<S: BuildHasher + Clone + Drop> Table for NEMap<Owner, Owner, S> {
     fn size(&self) -> usize {
         self.len().get()
     }
+
+    fn cut(&mut self, key: &Owner, call: u32) -> bool {
+        match call % 2 {
+            0 => self.remove(key).is_some(),
+            _ => self.remove_entry(key).is_some(),
+        }
+    }
+
+    fn only(self, key: &Owner) -> Option<Self> {
+        self.retain(|it, _| it == key).ok()
+    }
 }
 
 impl<S: BuildHasher + Clone + Drop> Table for NEIndexMap<Owner, Owner, S> {
@@ -78,6 +109,20 @@ impl<S: BuildHasher + Clone + Drop> Table for NEIndexMap<Owner, Owner, S> {
 
     fn size(&self) -> usize {
         self.len().get()
+    }
+
+    fn cut(&mut self, key: &Owner, call: u32) -> bool {
+        match call {
+            0 => self.swap_remove(key).is_some(),
+            1 => self.shift_remove(key).is_some(),
+            2 => self.swap_remove_entry(key).is_some(),
+            3 => self.shift_remove_entry(key).is_some(),
+            _ => self.pop().is_some(),
+        }
+    }
+
+    fn only(self, key: &Owner) -> Option<Self> {
+        self.retain(|it, _| it == key).ok()
     }
 }
 
@@ -99,6 +144,19 @@ impl Table for NEBTreeSet<Owner> {
     fn size(&self) -> usize {
         self.len().get()
     }
+
+    fn cut(&mut self, key: &Owner, call: u32) -> bool {
+        match call {
+            0 => self.remove(key),
+            1 => self.take(key).is_some(),
+            2 => self.pop_first().is_some(),
+            _ => self.pop_last().is_some(),
+        }
+    }
+
+    fn only(self, key: &Owner) -> Option<Self> {
+        self.retain(|it| it == key).ok()
+    }
 }
 
 impl<S: BuildHasher + Clone + Drop> Table for NESet<Owner, S> {
@@ -118,6 +176,17 @@ impl<S: BuildHasher + Clone + Drop> Table for NESet<Owner, S> {
 
     fn size(&self) -> usize {
         self.len().get()
+    }
+
+    fn cut(&mut self, key: &Owner, call: u32) -> bool {
+        match call % 2 {
+            0 => self.remove(key),
+            _ => self.take(key).is_some(),
+        }
+    }
+
+    fn only(self, key: &Owner) -> Option<Self> {
+        self.retain(|it| it == key).ok()
     }
 }
 
@@ -139,11 +208,25 @@ impl<S: BuildHasher + Clone + Drop> Table for NEIndexSet<Owner, S> {
     fn size(&self) -> usize {
         self.len().get()
     }
+
+    fn cut(&mut self, key: &Owner, call: u32) -> bool {
+        match call {
+            0 => self.swap_remove(key),
+            1 => self.shift_remove(key),
+            2 => self.swap_take(key).is_some(),
+            3 => self.shift_take(key).is_some(),
+            _ => self.pop().is_some(),
+        }
+    }
+
+    fn only(self, key: &Owner) -> Option<Self> {
+        self.retain(|it| it == key).ok()
+    }
 }
 
 // Fails unless the token is the only key of the table. Puts it again, and a second key, each twice.
-// Fails unless the table then has both, each with so many owners, and drops these and those of its
-// clone.
+// Fails unless the table then has both, each with so many owners, and drops these. Then removes the
+// keys of its clone.
 fn changed<T: Table>(alloc: Global, token: &Owner, mut table: T, each: usize) -> Result<(), Fail> {
     is((table.has(token), table.size()), (true, 1))?;
     let second = Rc::new(alloc, 8u32)?;
@@ -151,16 +234,41 @@ fn changed<T: Table>(alloc: Global, token: &Owner, mut table: T, each: usize) ->
     table.take_in(token.clone()?)?;
     table.put(second.clone()?)?;
     table.take_in(second.clone()?)?;
-    let held = (Rc::strong_count(token) - 1, Rc::strong_count(&second) - 1);
+    let held = (owners(token), owners(&second));
     let copy = table.clone()?;
     drop(table);
-    let copied = (Rc::strong_count(token) - 1, Rc::strong_count(&second) - 1);
+    let copied = (owners(token), owners(&second));
     is((held, copied), ((each, each), (each, each)))?;
     let third = Rc::new(alloc, 9u32)?;
     let found = (copy.has(token), copy.has(&second), copy.has(&third));
     is((found, copy.size()), ((true, true, false), 2))?;
-    drop(copy);
-    is((Rc::strong_count(token), Rc::strong_count(&second)), (1, 1))
+    removed(token, &second, copy, each)?;
+    is((owners(token), owners(&second)), (0, 0))
+}
+
+// Removes one of the two tokens of the table, by each call, and puts both again. Fails unless the
+// other one then stays, and unless what is removed is dropped once. Keeps one token, and then none.
+fn removed<T: Table>(token: &Owner, second: &Owner, mut table: T, each: usize) -> Result<(), Fail> {
+    for call in 0..5 {
+        let cut = (
+            table.cut(token, call),
+            table.cut(token, call),
+            table.cut(second, call),
+        );
+        is((cut, table.size()), ((true, false, false), 1))?;
+        is(owners(token).wrapping_add(owners(second)), each)?;
+        table.take_in(token.clone()?)?;
+        table.take_in(second.clone()?)?;
+        is((owners(token), owners(second)), (each, each))?;
+    }
+    let table = table.only(second).ok_or("none kept")?;
+    is((owners(token), owners(second)), (0, each))?;
+    is(table.only(token).is_none(), true)
+}
+
+// How many owners a token has besides this one.
+fn owners(token: &Owner) -> usize {
+    Rc::strong_count(token) - 1
 }
 
 #[test]
