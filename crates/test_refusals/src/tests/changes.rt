@@ -1,8 +1,9 @@
-//! The calls that add to a vector, each onto one that has to grow.
+//! The calls that add to a vector, each onto one that has to grow, and the one that splits it.
 
 use super::{Countdown, holds, is, leaves, pair, same, tell, two};
 use nonempty_collections::Singleton;
 use std::convert::AsSlice;
+use std::num::NonZeroUsize;
 use std::test::Fail;
 
 #[test]
@@ -52,6 +53,20 @@ fn append(rt: HostRuntime) -> Result<(), Fail> {
     let kept: &[u32] = if answer.is_ok() { &[] } else { &[3, 4] };
     same("NEVec::append", other.as_slice(), kept)?;
     leaves(&rt, "NEVec::append", answer, &items, &[1, 2], &[1, 2, 3, 4])
+}
+
+#[test]
+fn split_off(rt: HostRuntime) -> Result<(), Fail> {
+    let call = "NEVec::split_off";
+    let Ok(mut items) = pair(rt.alloc()) else {
+        return tell(&rt, "not reached", call);
+    };
+    is("length", items.len().get(), 2)?;
+    let answer = items.split_off(NonZeroUsize::MIN);
+    if let Ok(rest) = &answer {
+        same(call, rest.as_slice(), &[2])?;
+    }
+    leaves(&rt, call, answer.map(|_| ()), &items, &[1, 2], &[1])
 }
 
 // The vector grows twice. If the first growth fails it takes nothing, and if the second fails it

@@ -81,6 +81,20 @@ fn clone(rt: HostRuntime) -> Result<(), Fail> {
     gives(&rt, "NEVec::clone", answer, &[7])
 }
 
+// The vector grows, and then clones each item of the slice.
+#[test]
+fn extend_from_slice(rt: HostRuntime) -> Result<(), Fail> {
+    let call = "NEVec::extend_from_slice";
+    let Ok(mut items) = NEVec::new(rt.alloc(), fresh(rt.alloc(), 7)) else {
+        return tell(&rt, "not reached", call);
+    };
+    let slice = [fresh(rt.alloc(), 8), fresh(rt.alloc(), 9)];
+    let is_made = items.extend_from_slice(&slice).is_ok();
+    let left: &[u32] = if is_made { &[7, 8, 9] } else { &[7] };
+    holds(call, are(&items, left))?;
+    tell(&rt, if is_made { "made" } else { "refused" }, call)
+}
+
 // Whether the left side is there, and the number of the one that is.
 fn side(either: &NEEither<Number, Number>) -> (bool, u32) {
     match either {
