@@ -52,16 +52,16 @@ fn or_one<T>(items: Vec<T>, one: T) -> Vec<T> {
 }
 
 fn answered(subject: &mut Subject, call: &Call, out: &mut Transcript) {
-    let pairs = || each_key(or_one(call.pairs(), (call.key(0), 0)));
-    let items = || each_once(or_one(call.items(), call.key(0)));
+    let pairs = || or_one(call.pairs(), (call.key(0), 0));
+    let items = || or_one(call.items(), call.key(0));
     match call.name {
         "vector" => *subject = Subject::Vector(or_one(call.numbers.clone(), 0)),
         "tree_map" => *subject = Subject::TreeMap(pairs().into_iter().collect()),
         "hashed_map" => *subject = Subject::HashedMap(pairs().into_iter().collect()),
-        "indexed_map" => *subject = Subject::IndexedMap(pairs()),
+        "indexed_map" => *subject = Subject::IndexedMap(each_key(pairs())),
         "tree_set" => *subject = Subject::TreeSet(items().into_iter().collect()),
         "hashed_set" => *subject = Subject::HashedSet(items().into_iter().collect()),
-        "indexed_set" => *subject = Subject::IndexedSet(items()),
+        "indexed_set" => *subject = Subject::IndexedSet(each_once(items())),
         _ => subject.answered(call, out),
     }
 }
