@@ -244,15 +244,24 @@ pub fn retain(
     ),
     AllocError,
 >
-    ensures two { IfOk result (λ r. IsOkAnd r.0 (λ m. get nat_eq m 2 ≡ Some 24)) }
-    ensures four { IfOk result (λ r. IsOkAnd r.0 (λ m. get nat_eq m 4 ≡ Some 26)) }
-    ensures len { IfOk result (λ r. IsOkAnd r.0 (λ m. hash_map_len m ≡ 2)) }
-    ensures none { IfOk result (λ r. IsErr r.1) }
+    ensures { IfOk result (λ r. (IsOkAnd r.0 (λ m. m.entries ≡ (2, 24) ∷ [])) × (IsErr r.1)) }
 {
-    let map = nem![alloc; 2 => 24, 3 => 9, 4 => 26]?;
-    let even = map.retain(|k, _v| *k % 2 == 0);
-    let none = nem![alloc; 1 => 10, 3 => 30]?.retain(|k, _v| *k % 2 == 0);
+    let even = NEMap::new(alloc, 2, 24)?.retain(|k, _v| *k % 2 == 0);
+    let none = NEMap::new(alloc, 3, 9)?.retain(|k, _v| *k % 2 == 0);
     Ok((even, none))
+}
+
+/// The example of `values_mut`.
+pub fn values_mut(alloc: Global) -> Result<NEMap<u32, u32>, AllocError>
+    ensures two { IfOk result (λ m. get nat_eq m 2 ≡ Some 33) }
+    ensures four { IfOk result (λ m. get nat_eq m 4 ≡ Some 994) }
+    ensures len { IfOk result (λ m. hash_map_len m ≡ 2) }
+{
+    let mut map = nem![alloc; 2 => 1u32, 4 => 32]?;
+    for value in map.values_mut() {
+        *value = value.wrapping_mul(31).wrapping_add(2);
+    }
+    Ok(map)
 }
 
 /// By hand. Iterates over the keys by value.

@@ -250,12 +250,9 @@ pub fn retain(
     ),
     AllocError,
 >
-    ensures four { IfOk result (λ r. IsOkAnd r.0 (λ s. contains nat_eq s 4 ≡ true)) }
-    ensures six { IfOk result (λ r. IsOkAnd r.0 (λ s. contains nat_eq s 6 ≡ true)) }
-    ensures len { IfOk result (λ r. IsOkAnd r.0 (λ s. hash_set_len s ≡ 2)) }
-    ensures none { IfOk result (λ r. IsErr r.1) }
+    ensures { IfOk result (λ r. (IsOkAnd r.0 (λ s. s.keys ≡ 4 ∷ [])) × (IsErr r.1)) }
 {
-    let even = nes![alloc; 4, 5, 6, 7]?.retain(|x| *x % 2 == 0);
-    let none = nes![alloc; 1, 3]?.retain(|x| *x % 2 == 0);
+    let even = NESet::new(alloc, 4)?.retain(|x| *x % 2 == 0);
+    let none = NESet::new(alloc, 3)?.retain(|x| *x % 2 == 0);
     Ok((even, none))
 }

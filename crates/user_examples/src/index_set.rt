@@ -1,6 +1,6 @@
 //! The examples of index sets, written by `.ci/examples --write`.
-ghost use Rattle.std.specs.Prelude.{◌≡◌, ◌+◌, ◌≤◌, [], ◌∷◌, true, false, IfOk};
-ghost use Rattle.std.specs.Prelude.{None, Some, IsErr, IsOkAnd};
+ghost use Rattle.std.specs.Prelude.{◌≡◌, ◌+◌, ◌≤◌, ◌%◌, ◌==◌, [], ◌∷◌, List, ℕ, true, false};
+ghost use Rattle.std.specs.Prelude.{filter, IfOk, MatchResult, None, Some};
 ghost use Rattle.std.specs.Option.{IsSomeAnd};
 ghost use Rattle.indexmap.specs.IndexSet.{index_set_len, spare};
 
@@ -254,7 +254,7 @@ pub fn pop(alloc: Global) -> Result<(Option<u32>, Option<u32>, NEIndexSet<u32>),
     Ok((popped, none, set))
 }
 
-/// The example of `retain`.
+/// By hand. The even items stay, or there are none.
 pub fn retain(
     alloc: Global,
 ) -> Result<
@@ -264,7 +264,13 @@ pub fn retain(
     ),
     AllocError,
 >
-    ensures { IfOk result (λ r. (IsOkAnd r.0 (λ s. s.keys ≡ 6 ∷ 4 ∷ [])) × (IsErr r.1)) }
+    ensures even { IfOk result (λ r. (xs : List ℕ) → xs ≡ 6 ∷ 5 ∷ 4 ∷ []
+        → MatchResult r.0 (λ s. s.keys ≡ filter (λ x. x % 2 == 0) xs)
+        (λ _. filter (λ x. x % 2 == 0) xs ≡ [])) }
+    ensures none { IfOk result (λ r. (xs : List ℕ) → xs ≡ 1 ∷ 3 ∷ []
+        → MatchResult r.1 (λ s. s.keys ≡ filter (λ x. x % 2 == 0) xs) (λ none. none.keys ≡ [])) }
+    ensures value { filter (λ x. x % 2 == 0) (6 ∷ 5 ∷ 4 ∷ []) ≡ 6 ∷ 4 ∷ [] }
+    ensures no_value { filter (λ x. x % 2 == 0) (1 ∷ 3 ∷ []) ≡ [] }
 {
     let even = neis![alloc; 6, 5, 4]?.retain(|x| *x % 2 == 0);
     let none = neis![alloc; 1, 3]?.retain(|x| *x % 2 == 0);
