@@ -1,5 +1,6 @@
 //! The examples of tree sets, written by `.ci/examples --write`.
-ghost use Rattle.std.specs.Prelude.{◌≡◌, [], ◌∷◌, true, false, IfOk, None, Some, IsErr, IsOkAnd};
+ghost use Rattle.std.specs.Prelude.{◌≡◌, ◌%◌, ◌==◌, [], ◌∷◌, List, ℕ, true, false, filter, IfOk};
+ghost use Rattle.std.specs.Prelude.{MatchResult, None, Some};
 ghost use Rattle.std.specs.Option.{IsSomeAnd};
 
 use nonempty_collections::{NEBTreeSet, NEVec, NonEmptyIterator, nebts};
@@ -235,7 +236,7 @@ pub fn pop_last(alloc: Global) -> Result<(Option<u32>, Option<u32>, NEBTreeSet<u
     Ok((popped, none, set))
 }
 
-/// The example of `retain`.
+/// By hand. The even items stay, or there are none.
 pub fn retain(
     alloc: Global,
 ) -> Result<
@@ -245,7 +246,13 @@ pub fn retain(
     ),
     AllocError,
 >
-    ensures { IfOk result (λ r. (IsOkAnd r.0 (λ s. s.keys ≡ 4 ∷ 6 ∷ [])) × (IsErr r.1)) }
+    ensures even { IfOk result (λ r. (xs : List ℕ) → xs ≡ 4 ∷ 5 ∷ 6 ∷ 7 ∷ []
+        → MatchResult r.0 (λ s. s.keys ≡ filter (λ x. x % 2 == 0) xs)
+        (λ _. filter (λ x. x % 2 == 0) xs ≡ [])) }
+    ensures none { IfOk result (λ r. (xs : List ℕ) → xs ≡ 1 ∷ 3 ∷ []
+        → MatchResult r.1 (λ s. s.keys ≡ filter (λ x. x % 2 == 0) xs) (λ none. none.keys ≡ [])) }
+    ensures value { filter (λ x. x % 2 == 0) (4 ∷ 5 ∷ 6 ∷ 7 ∷ []) ≡ 4 ∷ 6 ∷ [] }
+    ensures no_value { filter (λ x. x % 2 == 0) (1 ∷ 3 ∷ []) ≡ [] }
 {
     let even = nebts![alloc; 4, 5, 6, 7]?.retain(|x| *x % 2 == 0);
     let none = nebts![alloc; 1, 3]?.retain(|x| *x % 2 == 0);
