@@ -3,6 +3,7 @@
 #![allow(deprecated)]
 #[path = "replay_keyed.rs"]
 mod keyed;
+#[allow(dead_code)] // The other program uses the rest.
 #[path = "replay_script.rs"]
 mod script;
 #[path = "replay_vector.rs"]

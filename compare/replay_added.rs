@@ -2,7 +2,7 @@
 // are made on std's collections, and for index maps and sets on lists that are searched by `==`.
 // The last entry is never removed: a removal returns `None` or `false` if there is no other. This
 // program reads and prints what `replay.rs` does, and needs no crate.
-#[allow(dead_code)] // The other program uses all of it.
+#[allow(dead_code)] // The other program uses the rest.
 #[path = "replay_script.rs"]
 mod script;
 

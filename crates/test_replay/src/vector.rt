@@ -130,7 +130,7 @@ fn added(items: &mut NEVec<u32>, call: &Call, out: &mut Transcript) -> Answered 
     }
 }
 
-// Calls that sort. How often a closure is called is up to std. In the unstable ones no two different
+// Calls that sort. How often a closure is called is up to std. In unstable sorts no two different
 // numbers tie.
 fn sorted(items: &mut NEVec<u32>, call: &Call, out: &mut Transcript) -> Answered {
     let closure = call.closure.anew();

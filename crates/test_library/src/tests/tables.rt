@@ -23,8 +23,8 @@ trait Table: Clone + Drop {
 
     fn size(&self) -> usize;
 
-    // Removes the key, or an entry at an end, by the call of this number from 0 to 4, and drops what
-    // is returned. Returns whether there was something.
+    // Removes the key, or an entry at an end, by the call of this number from 0 to 4, and drops it.
+    // Returns whether something was removed.
     fn cut(&mut self, key: &Owner, call: u32) -> bool;
 
     // The table with the entry of the key alone, if it is there.
