@@ -44,9 +44,8 @@ ROWS = [
     ("pop", [MAPS[2], SETS[2]], NONE, "", CHANGES),
     ("retain", [MAPS[0], MAPS[2], SETS[0], SETS[2]], ANY, "", CHANGES),
     ("retain", [MAPS[1], SETS[1]], PURE, "", CHANGES),
-    ("or_insert", MAPS, NONE, "key value", CHANGES),
-    ("first_mut last_mut", [MAPS[0], MAPS[2]], NONE, "value", CHANGES),
-    ("values_mut", MAPS[:2], NONE, "value", CHANGES),
+    ("first_mut last_mut", MAPS[2:], NONE, "value", CHANGES),
+    ("values_mut", MAPS[1:2], NONE, "value", CHANGES),
     ("into_keys into_values", MAPS[:2], NONE, "", READS),
     ("first_key_value last_key_value", MAPS[:1], NONE, "", READS),
     ("first last", SETS[:1], NONE, "", READS),
@@ -201,18 +200,14 @@ remove 2
 remove_entry 3
 pop_first
 pop_last
-or_insert 4 26
-or_insert 5 7
+insert 4 26
 remove 6
 remove 3
-or_insert 8 23
-or_insert 0 22
+insert 8 23
+insert 0 22
 remove_entry 9
 first_key_value
 last_key_value
-first_mut 5
-last_mut 7
-values_mut 2
 into_keys
 into_values
 tree_map 2 24 4 26 6 23 8 22
@@ -235,11 +230,10 @@ HASHED_MAP_ROWS = """
 hashed_map 2 24
 remove 2
 remove_entry 3
-or_insert 4 26
-or_insert 5 7
+insert 4 26
 remove 6
 remove 3
-or_insert 8 23
+insert 8 23
 remove_entry 9
 values_mut 2
 into_keys
@@ -258,9 +252,8 @@ shift_remove 3
 swap_remove_entry 2
 shift_remove_entry 3
 pop
-or_insert 4 26
-or_insert 5 7
-or_insert 8 23
+insert 4 26
+insert 8 23
 swap_remove 6
 swap_remove 2
 indexed_map 2 24 4 26 6 23 8 22
@@ -361,17 +354,17 @@ split_off 100000
 sort_unstable
 iter
 tree_map 200000*7919
-or_insert 200001 7
+insert 200001 7
 remove 100000
 retain tens
 iter
 hashed_map 200000*7919
-or_insert 200001 7
+insert 200001 7
 remove 100000
 retain tens
 iter
 indexed_map 200000*7919
-or_insert 200001 7
+insert 200001 7
 swap_remove 100000
 shift_remove 100002
 retain tens

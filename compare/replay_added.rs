@@ -133,19 +133,6 @@ fn keeps(call: &Call, key: &Key, value: &mut u32) -> bool {
     *value % 2 == 0
 }
 
-// Changes each value to one that depends on the old one and on the number.
-fn rewrite<'a>(values: impl IntoIterator<Item = &'a mut u32>, number: u32) {
-    for value in values {
-        *value = value.wrapping_mul(31).wrapping_add(number);
-    }
-}
-
-// Writes the value, and changes it.
-fn exchange(value: &mut u32, number: u32, out: &mut Transcript) {
-    out.told(*value);
-    rewrite([value], number)
-}
-
 fn vector(items: &mut Vec<u32>, call: &Call, out: &mut Transcript) {
     let (len, a, b) = (items.len(), call.place, call.last as usize);
     let closure = call.closure.anew();
@@ -180,8 +167,6 @@ macro_rules! std_map {
                 let len = kept.len();
                 put_kept(map, kept, len, call, out)
             }
-            "or_insert" => exchange(map.entry(key).or_insert(value), value, out),
-            "values_mut" => rewrite(map.values_mut(), call.first),
             "into_keys" => out.yielded(map.clone().into_keys()),
             "into_values" => out.yielded(map.clone().into_values()),
             "insert" => out.told(map.insert(key, value)),
@@ -201,8 +186,6 @@ fn tree_map(map: &mut TreeMap, call: &Call, out: &mut Transcript) {
         "pop_last" => out.told(unless_last(map.len(), || map.pop_last())),
         "first_key_value" => out.told(map.iter().next().unwrap()),
         "last_key_value" => out.told(map.iter().next_back().unwrap()),
-        "first_mut" => *map.iter_mut().next().unwrap().1 = call.first,
-        "last_mut" => *map.iter_mut().next_back().unwrap().1 = call.first,
         "is_empty" => out.told(map.is_empty()),
         "range" if key <= other => out.yielded(map.range(key..other)),
         "range" => out.said("out of order"),
@@ -211,7 +194,14 @@ fn tree_map(map: &mut TreeMap, call: &Call, out: &mut Transcript) {
 }
 
 fn hashed_map(map: &mut HashedMap, call: &Call, out: &mut Transcript) {
-    std_map!(map, call, out)
+    match call.name {
+        "values_mut" => {
+            for value in map.values_mut() {
+                *value = value.wrapping_mul(31).wrapping_add(call.first);
+            }
+        }
+        _ => std_map!(map, call, out),
+    }
 }
 
 // The place of a key.
@@ -260,13 +250,6 @@ fn indexed_map(map: &mut IndexedMap, call: &Call, out: &mut Transcript) {
             let mut kept = map.clone();
             kept.retain_mut(|(key, value)| keeps(call, key, value));
             indexed_kept(map, kept, call, out)
-        }
-        "or_insert" => {
-            let place = place_of(map, key).unwrap_or(len);
-            if place == len {
-                map.push((key, value));
-            }
-            exchange(&mut map[place].1, value, out)
         }
         "insert" => out.told(put(map, (key, value))),
         "extend" => {

@@ -1,5 +1,5 @@
-//! Calls on maps and sets that the Rust crate lacks. What std's kinds have in common is written
-//! once, as macros; the last arm of a function tries the calls of the next one.
+//! Calls on maps and sets that the Rust crate lacks. The last arm of a function tries the calls of
+//! the next one.
 ghost use Rattle.std.specs.Iterator.{IsFiniteIterable};
 
 use crate::call::Call;
@@ -10,29 +10,7 @@ use crate::keyed::{
     tree_set_iterated,
 };
 use crate::transcript::{Answered, Transcript, put_kept};
-use std::alloc::AllocError;
 use std::fmt::Debug;
-
-// Calls that tree maps and hashed maps have.
-macro_rules! std_map {
-    ($map:expr, $call:expr, $out:expr, $next:ident) => {{
-        let (key, value) = ($call.key(0), $call.number(1));
-        match $call.name {
-            "remove" => $out.told($map.remove(&key)),
-            "remove_entry" => $out.told($map.remove_entry(&key)),
-            "retain" => {
-                let all = $map.clone()?;
-                let kept = all.retain(|key, value| keeps($call, key, value));
-                put_counted($map, $call, $out, kept)
-            }
-            "or_insert" => exchange($map.or_insert(key, value), value, $out),
-            "values_mut" => Ok(rewrite($map.values_mut(), $call.first)),
-            "into_keys" => $out.yielded($map.clone()?.into_keys()),
-            "into_values" => $out.yielded($map.clone()?.into_values()),
-            _ => $next($map, $call, $out),
-        }
-    }};
-}
 
 // Whether a pair is kept. Its value is changed.
 fn keeps(call: &Call, key: &Key, value: &mut u32) -> bool {
@@ -51,57 +29,81 @@ fn put_counted<C: Drop, E: Debug + Drop>(
     put_kept(there, out, kept)
 }
 
-// Writes the value that is there, and changes it.
-fn exchange(place: Result<&mut u32, AllocError>, number: u32, out: &mut Transcript) -> Answered {
-    let place = place?;
-    let found = *place;
-    *place = changed(found, number);
-    out.told(found)
-}
-
 // Changes each value.
 fn rewrite<'a, I: IntoIterator<Item = &'a mut u32>>(values: I, number: u32)
     requires { IsFiniteIterable I.into_iter_gives I.IntoIter.can_next I.IntoIter.remaining values }
 {
     for value in values {
-        *value = changed(*value, number);
+        *value = value.wrapping_mul(31).wrapping_add(number);
     }
 }
 
-// A value that depends on this one and on the number.
-fn changed(value: u32, number: u32) -> u32 {
-    value.wrapping_mul(31).wrapping_add(number)
+// Calls that take a map by value, which is a clone of the map that is there. So it is cloned in one
+// arm.
+macro_rules! consumed_map {
+    ($all:expr, $map:expr, $call:expr, $out:expr) => {
+        match $call.name {
+            "into_keys" => $out.yielded($all.into_keys()),
+            "into_values" => $out.yielded($all.into_values()),
+            _ => {
+                let kept = $all.retain(|key, value| keeps($call, key, value));
+                put_counted($map, $call, $out, kept)
+            }
+        }
+    };
 }
 
 /// Calls on a tree map.
 pub fn tree_map_added(map: &mut TreeMap, call: &Call, out: &mut Transcript) -> Answered {
-    std_map!(map, call, out, tree_map_ends)
-}
-
-fn tree_map_ends(map: &mut TreeMap, call: &Call, out: &mut Transcript) -> Answered {
     let (key, other) = (call.key(0), call.key(1));
     match call.name {
-        "pop_first" => out.told(map.pop_first()),
-        "pop_last" => out.told(map.pop_last()),
+        "remove" => out.told(map.remove(&key)),
+        "remove_entry" => out.told(map.remove_entry(&key)),
         "first_key_value" => out.told(map.first_key_value()),
         "last_key_value" => out.told(map.last_key_value()),
-        "first_mut" => Ok(*map.first_mut() = call.first),
-        "last_mut" => Ok(*map.last_mut() = call.first),
+        "pop_first" => out.told(map.pop_first()),
+        "pop_last" => out.told(map.pop_last()),
+        "is_empty" => out.told(map.is_empty()),
         "range" if key <= other => out.yielded(map.range(key..other)),
         "range" => out.said("out of order"),
-        "is_empty" => out.told(map.is_empty()),
+        "retain" | "into_keys" | "into_values" => tree_map_consumed(map.clone()?, map, call, out),
         _ => tree_map_iterated(map, call, out),
     }
 }
 
+fn tree_map_consumed(
+    all: TreeMap,
+    map: &mut TreeMap,
+    call: &Call,
+    out: &mut Transcript,
+) -> Answered {
+    consumed_map!(all, map, call, out)
+}
+
 /// Calls on a hashed map.
 pub fn hashed_map_added(map: &mut HashedMap, call: &Call, out: &mut Transcript) -> Answered {
-    std_map!(map, call, out, hashed_map_iterated)
+    let key = call.key(0);
+    match call.name {
+        "remove" => out.told(map.remove(&key)),
+        "remove_entry" => out.told(map.remove_entry(&key)),
+        "values_mut" => Ok(rewrite(map.values_mut(), call.first)),
+        "retain" | "into_keys" | "into_values" => hashed_map_consumed(map.clone()?, map, call, out),
+        _ => hashed_map_iterated(map, call, out),
+    }
+}
+
+fn hashed_map_consumed(
+    all: HashedMap,
+    map: &mut HashedMap,
+    call: &Call,
+    out: &mut Transcript,
+) -> Answered {
+    consumed_map!(all, map, call, out)
 }
 
 /// Calls on an index map.
 pub fn indexed_map_added(map: &mut IndexedMap, call: &Call, out: &mut Transcript) -> Answered {
-    let (key, value) = (call.key(0), call.number(1));
+    let key = call.key(0);
     match call.name {
         "swap_remove" => out.told(map.swap_remove(&key)),
         "shift_remove" => out.told(map.shift_remove(&key)),
@@ -113,52 +115,47 @@ pub fn indexed_map_added(map: &mut IndexedMap, call: &Call, out: &mut Transcript
             let kept = all.retain(|key, value| keeps(call, key, value));
             put_counted(map, call, out, kept)
         }
-        "or_insert" => exchange(map.or_insert(key, value), value, out),
         "first_mut" => Ok(*map.first_mut() = call.first),
         "last_mut" => Ok(*map.last_mut() = call.first),
         _ => indexed_map_iterated(map, call, out),
     }
 }
 
-// Calls that tree sets and hashed sets have.
-macro_rules! std_set {
-    ($set:expr, $call:expr, $out:expr, $next:ident) => {{
-        let item = $call.key(0);
-        match $call.name {
-            "remove" => $out.told($set.remove(&item)),
-            "take" => $out.told($set.take(&item)),
-            "retain" => {
-                let all = $set.clone()?;
-                let kept = all.retain(|item| $call.closure.holds(item.number()));
-                put_counted($set, $call, $out, kept)
-            }
-            _ => $next($set, $call, $out),
-        }
-    }};
-}
-
 /// Calls on a tree set.
 pub fn tree_set_added(set: &mut TreeSet, call: &Call, out: &mut Transcript) -> Answered {
-    std_set!(set, call, out, tree_set_ends)
-}
-
-fn tree_set_ends(set: &mut TreeSet, call: &Call, out: &mut Transcript) -> Answered {
     let (item, other) = (call.key(0), call.key(1));
     match call.name {
-        "pop_first" => out.told(set.pop_first()),
-        "pop_last" => out.told(set.pop_last()),
+        "remove" => out.told(set.remove(&item)),
+        "take" => out.told(set.take(&item)),
         "first" => out.told(set.first()),
         "last" => out.told(set.last()),
+        "pop_first" => out.told(set.pop_first()),
+        "pop_last" => out.told(set.pop_last()),
+        "is_empty" => out.told(set.is_empty()),
         "range" if item <= other => out.yielded(set.range(item..=other)),
         "range" => out.said("out of order"),
-        "is_empty" => out.told(set.is_empty()),
+        "retain" => {
+            let all = set.clone()?;
+            let kept = all.retain(|item| call.closure.holds(item.number()));
+            put_counted(set, call, out, kept)
+        }
         _ => tree_set_iterated(set, call, out),
     }
 }
 
 /// Calls on a hashed set.
 pub fn hashed_set_added(set: &mut HashedSet, call: &Call, out: &mut Transcript) -> Answered {
-    std_set!(set, call, out, hashed_set_iterated)
+    let item = call.key(0);
+    match call.name {
+        "remove" => out.told(set.remove(&item)),
+        "take" => out.told(set.take(&item)),
+        "retain" => {
+            let all = set.clone()?;
+            let kept = all.retain(|item| call.closure.holds(item.number()));
+            put_counted(set, call, out, kept)
+        }
+        _ => hashed_set_iterated(set, call, out),
+    }
 }
 
 /// Calls on an index set.

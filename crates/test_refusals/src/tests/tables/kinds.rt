@@ -34,7 +34,6 @@ macro_rules! changed_map {
         let (key, value) = $item;
         match $call {
             Change::Put => $map.put(key, value).map(|_| ()),
-            Change::OrInsert => $map.or_insert(key, value).map(|_| ()),
             Change::Insert | Change::Replace => $map.insert(key, value).map(|_| ()),
             Change::ExtendOne => $map.extend_one((key, value)),
             _ => $map.shrink_to_fit(),
@@ -98,7 +97,6 @@ impl Table for NEBTreeMap<Key, Owner> {
         let (key, value) = item;
         match call {
             Change::Put => self.put(key, value).map(|_| ()),
-            Change::OrInsert => self.or_insert(key, value).map(|_| ()),
             Change::Insert => self.insert(key, value).map(|_| ()),
             _ => self.extend_one((key, value)),
         }
@@ -226,7 +224,7 @@ impl Table for NEIndexSet<Item> {
 
 #[test]
 fn tree_map(rt: HostRuntime) -> Result<(), Fail> {
-    let rows: [Row; 6] = [
+    let rows: [Row; 5] = [
         (
             (Make::New, "NEBTreeMap::new"),
             (Change::Insert, "NEBTreeMap::insert"),
@@ -241,7 +239,6 @@ fn tree_map(rt: HostRuntime) -> Result<(), Fail> {
             (Make::New, ""),
             (Change::Put, "NonEmptyMap::put of a tree map"),
         ),
-        ((Make::New, ""), (Change::OrInsert, "NEBTreeMap::or_insert")),
     ];
     every_call::<NEBTreeMap<Key, Owner>>(&rt, rt.alloc(), &rows, "collect into NEBTreeMap")
 }
@@ -266,7 +263,7 @@ fn tree_set(rt: HostRuntime) -> Result<(), Fail> {
 
 #[test]
 fn hashed_map(rt: HostRuntime) -> Result<(), Fail> {
-    let rows: [Row; 7] = [
+    let rows: [Row; 6] = [
         ((Make::New, "NEMap::new"), (Change::Insert, "NEMap::insert")),
         (
             (Make::Singleton, "Singleton::singleton of a hashed map"),
@@ -291,7 +288,6 @@ fn hashed_map(rt: HostRuntime) -> Result<(), Fail> {
             (Make::New, ""),
             (Change::Put, "NonEmptyMap::put of a hashed map"),
         ),
-        ((Make::New, ""), (Change::OrInsert, "NEMap::or_insert")),
     ];
     every_call::<NEMap<Key, Owner>>(&rt, rt.alloc(), &rows, "collect into NEMap")
 }
@@ -329,7 +325,7 @@ fn hashed_set(rt: HostRuntime) -> Result<(), Fail> {
 
 #[test]
 fn index_map(rt: HostRuntime) -> Result<(), Fail> {
-    let rows: [Row; 7] = [
+    let rows: [Row; 6] = [
         (
             (Make::New, "NEIndexMap::new"),
             (Change::Insert, "NEIndexMap::insert"),
@@ -357,7 +353,6 @@ fn index_map(rt: HostRuntime) -> Result<(), Fail> {
             (Make::New, ""),
             (Change::Put, "NonEmptyMap::put of an index map"),
         ),
-        ((Make::New, ""), (Change::OrInsert, "NEIndexMap::or_insert")),
     ];
     every_call::<NEIndexMap<Key, Owner>>(&rt, rt.alloc(), &rows, "collect into NEIndexMap")
 }
