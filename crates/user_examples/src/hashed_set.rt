@@ -1,7 +1,8 @@
 //! The examples of hashed sets, written by `.ci/examples --write`.
 ghost use Rattle.std.specs.Prelude.{◌≡◌, ◌+◌, ◌≤◌, [], ◌∷◌, true, false, length, nat_eq};
-ghost use Rattle.std.specs.Prelude.{IfOk, IsErr, IsOkAnd, None, Some};
+ghost use Rattle.std.specs.Prelude.{◌%◌, ◌==◌, ℕ, List, IfOk, MatchResult, None, Some};
 ghost use Rattle.std.specs.HashSet.{contains, hash_set_len, spare};
+ghost use Rattle.std.specs.List.{filter};
 ghost use Rattle.std.specs.Option.{IsSomeAnd};
 ghost use Rattle.std.specs.Set.{is_member};
 ghost use Rattle.nonempty_collections.specs.Collected.{IsSetOf};
@@ -217,30 +218,32 @@ pub fn clone(alloc: Global) -> Result<bool, AllocError>
 }
 
 /// The example of `remove`.
-pub fn remove(alloc: Global) -> Result<(bool, bool, NESet<u32>), AllocError>
+pub fn remove(alloc: Global) -> Result<(bool, bool, bool), AllocError>
     ensures removed { IfOk result (λ r. r.0 ≡ true) }
-    ensures stays { IfOk result (λ r. r.1 ≡ false) }
-    ensures set { IfOk result (λ r. r.2.keys ≡ 4 ∷ []) }
+    ensures only { IfOk result (λ r. r.1 ≡ false) }
+    ensures stays { IfOk result (λ r. r.2 ≡ true) }
 {
     let mut set = nes![alloc; 2, 4]?;
     let removed = set.remove(&2);
-    let stays = set.remove(&4);
-    Ok((removed, stays, set))
+    let only = set.remove(&4);
+    let stays = set.contains(&4);
+    Ok((removed, only, stays))
 }
 
 /// The example of `take`.
-pub fn take(alloc: Global) -> Result<(Option<u32>, Option<u32>, NESet<u32>), AllocError>
+pub fn take(alloc: Global) -> Result<(Option<u32>, Option<u32>, bool), AllocError>
     ensures taken { IfOk result (λ r. r.0 ≡ Some 4) }
     ensures none { IfOk result (λ r. r.1 ≡ None) }
-    ensures set { IfOk result (λ r. r.2.keys ≡ 2 ∷ []) }
+    ensures stays { IfOk result (λ r. r.2 ≡ true) }
 {
     let mut set = nes![alloc; 2, 4]?;
     let taken = set.take(&4);
     let none = set.take(&2);
-    Ok((taken, none, set))
+    let stays = set.contains(&2);
+    Ok((taken, none, stays))
 }
 
-/// The example of `retain`.
+/// By hand. An even item stays, and an odd one does not.
 pub fn retain(
     alloc: Global,
 ) -> Result<
@@ -250,7 +253,13 @@ pub fn retain(
     ),
     AllocError,
 >
-    ensures { IfOk result (λ r. (IsOkAnd r.0 (λ s. s.keys ≡ 4 ∷ [])) × (IsErr r.1)) }
+    ensures even { IfOk result (λ r. (xs : List ℕ) → xs ≡ 4 ∷ []
+        → MatchResult r.0 (λ s. s.keys ≡ filter (λ x. x % 2 == 0) xs)
+        (λ _. filter (λ x. x % 2 == 0) xs ≡ [])) }
+    ensures none { IfOk result (λ r. (xs : List ℕ) → xs ≡ 3 ∷ []
+        → MatchResult r.1 (λ s. s.keys ≡ filter (λ x. x % 2 == 0) xs) (λ none. none.keys ≡ [])) }
+    ensures value { filter (λ x. x % 2 == 0) (4 ∷ []) ≡ 4 ∷ [] }
+    ensures no_value { filter (λ x. x % 2 == 0) (3 ∷ []) ≡ [] }
 {
     let even = NESet::new(alloc, 4)?.retain(|x| *x % 2 == 0);
     let none = NESet::new(alloc, 3)?.retain(|x| *x % 2 == 0);

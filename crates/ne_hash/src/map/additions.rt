@@ -27,8 +27,9 @@ impl<K: Eq + Hash, V, S: BuildHasher> NEMap<K, V, S> {
     ///
     /// ```
     /// let mut map = nem![alloc; 2 => 24, 4 => 26]?;
-    /// let removed = map.remove(&2); // Some(24), and map is {4: 26}
+    /// let removed = map.remove(&2); // Some(24)
     /// let none = map.remove(&4); // None: the only key stays
+    /// let stays = map.get(&4); // Some(&26)
     /// ```
     pub fn remove(&mut self, k: &K) -> Option<V>
     where
@@ -56,8 +57,9 @@ impl<K: Eq + Hash, V, S: BuildHasher> NEMap<K, V, S> {
     ///
     /// ```
     /// let mut map = nem![alloc; 2 => 24, 4 => 26]?;
-    /// let removed = map.remove_entry(&4); // Some((4, 26)), and map is {2: 24}
+    /// let removed = map.remove_entry(&4); // Some((4, 26))
     /// let none = map.remove_entry(&2); // None: the only key stays
+    /// let stays = map.contains_key(&2); // true
     /// ```
     pub fn remove_entry(&mut self, k: &K) -> Option<(K, V)>
         ensures entries { TakesFoundUnlessLast (get K.eq self.old k.now ≡ None) self.old.entries

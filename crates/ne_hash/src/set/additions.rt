@@ -23,8 +23,9 @@ impl<T: Eq + Hash, S: BuildHasher> NESet<T, S> {
     ///
     /// ```
     /// let mut set = nes![alloc; 2, 4]?;
-    /// let removed = set.remove(&2); // true, and the set is {4}
-    /// let stays = set.remove(&4); // false: it is the only item
+    /// let removed = set.remove(&2); // true
+    /// let only = set.remove(&4); // false: it is the only item
+    /// let stays = set.contains(&4); // true
     /// ```
     pub fn remove(&mut self, value: &T) -> bool
     where
@@ -51,8 +52,9 @@ impl<T: Eq + Hash, S: BuildHasher> NESet<T, S> {
     ///
     /// ```
     /// let mut set = nes![alloc; 2, 4]?;
-    /// let taken = set.take(&4); // Some(4), and the set is {2}
+    /// let taken = set.take(&4); // Some(4)
     /// let none = set.take(&2); // None: the only item stays
+    /// let stays = set.contains(&2); // true
     /// ```
     pub fn take(&mut self, value: &T) -> Option<T>
         ensures keys { TakesFoundUnlessLast (contains T.eq self.old value.now ≡ false)
