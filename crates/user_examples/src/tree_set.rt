@@ -1,6 +1,7 @@
 //! The examples of tree sets, written by `.ci/examples --write`.
-ghost use Rattle.std.specs.Prelude.{◌≡◌, ◌%◌, ◌==◌, [], ◌∷◌, List, ℕ, true, false, filter, IfOk};
-ghost use Rattle.std.specs.Prelude.{MatchResult, None, Some};
+ghost use Rattle.std.specs.Prelude.{◌≡◌, ◌%◌, ◌==◌, ℕ, List, [], ◌∷◌, true, false, None, Some};
+ghost use Rattle.std.specs.Prelude.{IfOk, MatchResult};
+ghost use Rattle.std.specs.List.{filter};
 ghost use Rattle.std.specs.Option.{IsSomeAnd};
 
 use nonempty_collections::{NEBTreeSet, NEVec, NonEmptyIterator, nebts};
@@ -250,7 +251,7 @@ pub fn retain(
         → MatchResult r.0 (λ s. s.keys ≡ filter (λ x. x % 2 == 0) xs)
         (λ _. filter (λ x. x % 2 == 0) xs ≡ [])) }
     ensures none { IfOk result (λ r. (xs : List ℕ) → xs ≡ 1 ∷ 3 ∷ []
-        → MatchResult r.1 (λ s. s.keys ≡ filter (λ x. x % 2 == 0) xs) (λ none. none.keys ≡ [])) }
+        → MatchResult r.1 (λ s. s.keys ≡ filter (λ x. x % 2 == 0) xs) (λ s. s.keys ≡ [])) }
     ensures value { filter (λ x. x % 2 == 0) (4 ∷ 5 ∷ 6 ∷ 7 ∷ []) ≡ 4 ∷ 6 ∷ [] }
     ensures no_value { filter (λ x. x % 2 == 0) (1 ∷ 3 ∷ []) ≡ [] }
 {

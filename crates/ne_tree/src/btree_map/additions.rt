@@ -1,7 +1,7 @@
 //! The methods of an [`NEBTreeMap`] that the Rust crate lacks, with the names of std's methods.
 //! Those that remove an entry never remove the only one.
 ghost use Rattle.std.specs.Prelude.{◌≡◌, ◌+◌, ◌-◌, ◌<◌, ◌^◌, ◌↔◌, [], ◌∷◌, ◌++◌, Bool, false};
-ghost use Rattle.std.specs.Prelude.{length, None, Some, is_some, slice_get, if◌then◌else◌};
+ghost use Rattle.std.specs.Prelude.{length, take, None, Some, is_some, slice_get, if◌then◌else◌};
 ghost use Rattle.std.specs.Prelude.{IfSome, IsErr};
 ghost use Rattle.std.specs.BTreeMap.{btree_map_len, get, get_key, is_at, keys, values, IsEmpty};
 ghost use Rattle.std.specs.BTreeMap.{IsLowerBound, IsOrdered, IsRun, IsUpperBound, Updates};
@@ -139,6 +139,8 @@ impl<K: Ord, V> NEBTreeMap<K, V> {
     pub fn pop_last(&mut self) -> Option<(K, V)>
         ensures entries { TakesUnlessLast self.old.entries self.new.entries result
             (λ p. self.old.entries ≡ self.new.entries ++ p ∷ []) }
+        ensures rest { IfSome result (λ _. self.new.entries
+            ≡ take (btree_map_len self.old - 1) self.old.entries) }
         ensures value { IfSome result (λ p. get K.cmp self.old p.0 ≡ Some p.1) }
         ensures greatest { IfSome result (λ p. IsUpperBound K.cmp self.old p.0) }
         ensures updates { IfSome result (λ p. Updates K.cmp self.old self.new p.0 None) }

@@ -1,7 +1,7 @@
 //! The methods of an [`NEBTreeSet`] that the Rust crate lacks, with the names of std's methods.
 //! Those that remove an item never remove the only one.
 ghost use Rattle.std.specs.Prelude.{◌≡◌, ◌+◌, ◌-◌, ◌<◌, ◌^◌, ◌↔◌, [], ◌∷◌, ◌++◌, Bool, false};
-ghost use Rattle.std.specs.Prelude.{length, Some, is_some, slice_get, if◌then◌else◌, IfSome};
+ghost use Rattle.std.specs.Prelude.{length, take, Some, is_some, slice_get, if◌then◌else◌, IfSome};
 ghost use Rattle.std.specs.Prelude.{IsErr, IsTrue};
 ghost use Rattle.std.specs.Bool.{OnTrue};
 ghost use Rattle.std.specs.BTreeMap.{is_at};
@@ -141,6 +141,8 @@ impl<T: Ord> NEBTreeSet<T> {
     pub fn pop_last(&mut self) -> Option<T>
         ensures keys { TakesUnlessLast self.old.keys self.new.keys result
             (λ x. self.old.keys ≡ self.new.keys ++ x ∷ []) }
+        ensures rest { IfSome result (λ _. self.new.keys
+            ≡ take (btree_set_len self.old - 1) self.old.keys) }
         ensures found { IfSome result (λ x. IsTrue (contains T.cmp self.old x)) }
         ensures greatest { IfSome result (IsUpperBound T.cmp self.old) }
         ensures updates { IfSome result (λ x. Updates T.cmp self.old self.new x false) }
