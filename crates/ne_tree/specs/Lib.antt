@@ -1,2 +1,3 @@
 pub mod TreeLends
+pub mod TreeLendLaws
 pub mod InOrder

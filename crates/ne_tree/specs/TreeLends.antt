@@ -5,14 +5,20 @@ use Rattle.std.specs.Borrow.{Fml, RattleType, MutBor, LendsSo, follows}
 use Rattle.std.specs.contracts.impls.GlobalAllocator.TheImpl.{ghosts}
 use Rattle.std.specs.BTreeMap.{BTreeMap, WritesThrough, values}
 use Rattle.std.specs.BTreeMap.Lent.{OrdMembers, with_values, map_row as row_of}
-use Rattle.std.specs.BTreeMap.IterMut.{iter_mut_name}
+use Rattle.std.specs.BTreeMap.IterMut.{iter_mut_name, values_mut_name}
 use Rattle.std_collections.specs.declared.btree_map.iter.lent.IterMut.{IterMut as StdIterMut}
+use Rattle.std_collections.specs.declared.btree_map.iter.lent.ValuesMut.{ValuesMut as StdValuesMut}
 use Rattle.ne_tree.specs.declared.btree_map.iter.IterMut.{IterMut}
+use Rattle.ne_tree.specs.declared.btree_map.iter.ValuesMut.{ValuesMut}
 use Rattle.ne_tree.specs.contracts.btree_map.NEBTreeMap.{the_row}
 
 -- The iterator that a non-empty iterator over mutable references holds and is turned into.
 abbrev pub std_iterator : {K V : Type 0} → IterMut K V → StdIterMut K V
 std_iterator w = w.inner
+
+-- The same of an iterator over mutable references to the values alone.
+abbrev pub std_values_iterator : {K V : Type 0} → ValuesMut K V → StdValuesMut K V
+std_values_iterator w = w.inner
 
 module _ (K V : RattleType) (key : OrdMembers K.Denot) where
   -- The type of the map in the logic.
@@ -33,6 +39,18 @@ module _ (K V : RattleType) (key : OrdMembers K.Denot) where
   abbrev pub LendsValuesInside : MutBor (BTreeMap K.Denot V.Denot) → StdIterMut K.Denot V.Denot
       → Fml
   LendsValuesInside m it = follows inner_row inner_row m.ghost_name (iter_mut_name it)
+      (λ n. with_values m.now 0 (values n))
+
+  -- The map keeps its keys, and its values are those that the iterator over values leaves.
+  abbrev pub LendsValuesAlone : MutBor (BTreeMap K.Denot V.Denot) → StdValuesMut K.Denot V.Denot
+      → Fml
+  LendsValuesAlone m it = follows map_row map_row m.ghost_name (values_mut_name it)
+      (λ n. with_values m.now 0 (values n))
+
+  -- The inner map keeps its keys, and its values are those that the iterator over values leaves.
+  abbrev pub LendsValuesAloneInside : MutBor (BTreeMap K.Denot V.Denot)
+      → StdValuesMut K.Denot V.Denot → Fml
+  LendsValuesAloneInside m it = follows inner_row inner_row m.ghost_name (values_mut_name it)
       (λ n. with_values m.now 0 (values n))
 
   -- The key k has the value that was last written through r. If r is `None`, the map is unchanged.

@@ -30,7 +30,7 @@ mod additions;
 mod iter;
 mod traits;
 
-pub use iter::{Held, IntoIter, IntoKeys, IntoValues, Iter, IterMut, Keys, Values};
+pub use iter::{Held, IntoIter, IntoKeys, IntoValues, Iter, IterMut, Keys, Values, ValuesMut};
 use ne_iter::iter::{NonEmptyIter, Source};
 use std::alloc::{AllocError, Global};
 use std::collections::{BTreeMap, btree_map};

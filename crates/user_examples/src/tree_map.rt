@@ -248,6 +248,17 @@ pub fn retain(
     Ok((even, none))
 }
 
+/// By hand. The values that the loop writes are only run.
+pub fn values_mut(alloc: Global) -> Result<NEBTreeMap<u32, u32>, AllocError>
+    ensures { IfOk result (λ m. keys m ≡ 2 ∷ 4 ∷ []) }
+{
+    let mut map = nebtm![alloc; 2 => 0u32, 4 => 1]?;
+    for value in map.values_mut() {
+        *value = value.wrapping_mul(31).wrapping_add(1);
+    }
+    Ok(map)
+}
+
 /// The example of `into_keys`.
 pub fn into_keys(alloc: Global) -> Result<NEVec<u32>, AllocError>
     ensures { IfOk result (λ keys. keys ≡ 0 ∷ 2 ∷ []) }

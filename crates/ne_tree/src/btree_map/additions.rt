@@ -5,7 +5,11 @@ ghost use Rattle.std.specs.Prelude.{length, take, None, Some, is_some, slice_get
 ghost use Rattle.std.specs.Prelude.{IfSome, IsErr};
 ghost use Rattle.std.specs.BTreeMap.{btree_map_len, get, get_key, is_at, keys, values, IsEmpty};
 ghost use Rattle.std.specs.BTreeMap.{IsLowerBound, IsOrdered, IsRun, IsUpperBound, Updates};
+ghost use Rattle.std.specs.BTreeMap.IterMut.{values_mut_rest, values_mut_steps};
+ghost use Rattle.std.specs.BTreeMap.Lent.{KeepsKeys};
 ghost use Rattle.std.specs.BTreeMap.Range.{entries_between, IsLeBy, IsLtBy, IsRangeOf};
+ghost use Rattle.std.specs.Borrow.{sem};
+ghost use Rattle.std.specs.Iterator.Runs.{YieldsMutRefsInOrder};
 ghost use Rattle.std.specs.Map.{remove_entry};
 ghost use Rattle.std.specs.Map.Calls.{CallableOnEachPair, CalledAtPair, RetainsPairs, TakesPair};
 ghost use Rattle.std.specs.Map.Iter.{ShowsInOrder, ShowsInReverse, TakesFirst, TakesLast};
@@ -14,8 +18,10 @@ ghost use Rattle.std.specs.declared.cmp.Ordering.TheVariants.{Equal};
 ghost use Rattle.ne_vec.specs.Taken.{TakesFoundUnlessLast, TakesUnlessLast};
 ghost use Rattle.ne_iter.specs.KeptEntries.{either_way, kept_entries, ActsAsAtEntry};
 ghost use Rattle.ne_iter.specs.KeyIterators.{KnownByValue, ListsEntriesByValue};
+ghost use Rattle.ne_tree.specs.TreeLends.{std_values_iterator, LendsValuesAlone};
+ghost use Rattle.ne_tree.specs.TreeLends.{LendsValuesAloneInside};
 
-use super::{IntoKeys, IntoValues, NEBTreeMap};
+use super::{IntoKeys, IntoValues, NEBTreeMap, ValuesMut};
 use ne_iter::iter::NonEmptyIter;
 use std::collections::{BTreeMap, btree_map};
 use std::ops::RangeBounds;
@@ -186,6 +192,45 @@ impl<K: Ord, V> NEBTreeMap<K, V> {
         }
     }
 
+    /// Returns a non-empty iterator over mutable references to the values, in ascending order of
+    /// their keys. The keys and their number do not change.
+    ///
+    /// ```
+    /// let mut map = nebtm![alloc; 2 => 0u32, 4 => 1]?;
+    /// for value in map.values_mut() {
+    ///     *value = value.wrapping_mul(31).wrapping_add(1);
+    /// } // {2: 1, 4: 32}
+    /// ```
+    pub fn values_mut(&mut self) -> ValuesMut<'_, K, V>
+        ensures* writes_back { sem 𝓛 (LendsValuesAlone K.row V.row K.Ord self.entry
+            (std_values_iterator result)) }
+        ensures keeps { KeepsKeys self.old 0 }
+        ensures rest { values_mut_rest (std_values_iterator result) ≡ values self.old }
+        ensures ordered { IsOrdered K.cmp self.old }
+        ensures fits { btree_map_len self.old < 2 ^ 63 }
+        ensures runs { YieldsMutRefsInOrder (values_mut_steps {K = K} {X = V})
+            (values_mut_rest {K = K} {X = V}) }
+        ensures nonempty { 0 < btree_map_len self.old }
+    {
+        ValuesMut {
+            inner: self.lend_values(),
+        }
+    }
+
+    // Lends the values by std's iterator.
+    fn lend_values(&mut self) -> btree_map::ValuesMut<'_, K, V>
+        ensures* writes_back { sem 𝓛 (LendsValuesAlone K.row V.row K.Ord self.entry result) }
+        ensures keeps { KeepsKeys self.old 0 }
+        ensures rest { values_mut_rest result ≡ values self.old }
+        ensures ordered { IsOrdered K.cmp self.old }
+        ensures fits { btree_map_len self.old < 2 ^ 63 }
+        ensures runs { YieldsMutRefsInOrder (values_mut_steps {K = K} {X = V})
+            (values_mut_rest {K = K} {X = V}) }
+        ensures nonempty { 0 < btree_map_len self.old }
+    {
+        lend_values(&mut self.inner)
+    }
+
     /// Returns a non-empty iterator over the keys by value, in ascending order. The values are
     /// dropped.
     ///
@@ -260,4 +305,17 @@ impl<K: Ord, V> NEBTreeMap<K, V> {
     {
         self.inner.range(range)
     }
+}
+
+// Lends the values of the inner map.
+fn lend_values<'a, K: Ord, V>(map: &'a mut BTreeMap<K, V>) -> btree_map::ValuesMut<'a, K, V>
+    ensures* writes_back { sem 𝓛 (LendsValuesAloneInside K.row V.row K.Ord map.entry result) }
+    ensures keeps { KeepsKeys map.old 0 }
+    ensures rest { values_mut_rest result ≡ values map.old }
+    ensures ordered { IsOrdered K.cmp map.old }
+    ensures fits { btree_map_len map.old < 2 ^ 63 }
+    ensures runs { YieldsMutRefsInOrder (values_mut_steps {K = K} {X = V})
+        (values_mut_rest {K = K} {X = V}) }
+{
+    map.values_mut()
 }

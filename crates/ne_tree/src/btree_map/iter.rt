@@ -2,7 +2,7 @@
 //! into std's iterators.
 ghost use Rattle.std.specs.Prelude.{◌≡◌, ◌<◌, ◌^◌, length};
 ghost use Rattle.std.specs.BTreeMap.{IsOrdered, btree_map_len};
-ghost use Rattle.std.specs.BTreeMap.IterMut.{iter_mut_rest, IterMutCanStep};
+ghost use Rattle.std.specs.BTreeMap.IterMut.{iter_mut_rest, values_mut_rest, IterMutCanStep};
 ghost use Rattle.std.specs.Map.Iter.{deref, deref_pair};
 ghost use Rattle.ne_vec.specs.Lists.{view_by};
 ghost use Rattle.ne_iter.specs.KeyIterators.{IteratesEntries, IteratesKnown, KnownByReference};
@@ -217,4 +217,33 @@ impl<K: Drop, V: Drop> HeldIterator<btree_map::IntoValues<K, V>> for Held {
     ghost known = { KnownByValue };
 
     ghost has_first = { HasFirst-entries (λ x. x) };
+}
+
+/// A non-empty iterator over mutable references to the values of an [`NEBTreeMap`], in ascending
+/// order of their keys. Contracts describe it by the std iterator inside, `std_values_iterator`.
+#[derive(Drop)]
+pub struct ValuesMut<'a, K, V> {
+    pub(super) inner: btree_map::ValuesMut<'a, K, V>,
+    ghost nonempty: { 0 < length (values_mut_rest inner) },
+}
+
+impl<'a, K, V> NonEmptyIterator for ValuesMut<'a, K, V> {
+    ghost use Rattle.ne_tree.specs.TreeLendLaws.{HasFirst-values_mut};
+
+    ghost not_empty = { λ w it made. HasFirst-values_mut it made.0 };
+}
+
+impl<'a, K, V> IntoIterator for ValuesMut<'a, K, V> {
+    ghost use Rattle.ne_tree.specs.TreeLends.{std_values_iterator};
+
+    type Item = &'a mut V;
+
+    type IntoIter = btree_map::ValuesMut<'a, K, V>;
+
+    ghost into_iter_gives = { λ w it. (0 < length (values_mut_rest it))
+        × (it ≡ std_values_iterator w) };
+
+    fn into_iter(self) -> btree_map::ValuesMut<'a, K, V> {
+        self.inner
+    }
 }
