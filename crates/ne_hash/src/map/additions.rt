@@ -81,11 +81,11 @@ impl<K: Eq + Hash, V, S: BuildHasher> NEMap<K, V, S> {
         }
     }
 
-    /// Keeps the keys for whose pairs `f` returns `true`, in order, with the values that `f` leaves,
-    /// or returns the empty map as an error if there is no such key.
+    /// Keeps the entries for which `f` returns `true`, in order and with the values that `f` left,
+    /// or returns the empty map as an error if there is no such entry.
     ///
-    /// `f` is called once for each pair, in the order of iteration. It must be callable with each of
-    /// them. The clause `kept` covers an `f` whose result and changes depend on the pair alone;
+    /// `f` is called once for each entry, in the order of iteration. It must be callable with each
+    /// of them. The clause `kept` covers an `f` whose result and changes depend on the entry alone;
     /// `asked` covers any `f`.
     ///
     /// ```
@@ -115,8 +115,8 @@ impl<K: Eq + Hash, V, S: BuildHasher> NEMap<K, V, S> {
         }
     }
 
-    /// Returns a non-empty iterator over mutable references to the values. The order is unspecified,
-    /// but it is that of the pairs. The keys and their number do not change.
+    /// Returns a non-empty iterator over mutable references to the values. The order is
+    /// unspecified, but it is that of the pairs. The keys and their number do not change.
     ///
     /// ```
     /// let mut map = nem![alloc; 2 => 1u32, 4 => 32]?;

@@ -233,8 +233,8 @@ impl<K: Drop, V: Drop> HeldIterator<hash_map::IntoKeys<K, V>> for Held {
     ghost has_first = { HasFirst-entries (λ x. x) };
 }
 
-/// A non-empty iterator over the values of an [`NEMap`] by value. In contracts it is the list of the
-/// values, in the order of their keys.
+/// A non-empty iterator over the values of an [`NEMap`] by value. In contracts it is the list of
+/// the values, in the order of their keys.
 pub type IntoValues<K, V> = NonEmptyIter<hash_map::IntoValues<K, V>, Held>;
 
 impl<K: Drop, V: Drop> HeldIterator<hash_map::IntoValues<K, V>> for Held {

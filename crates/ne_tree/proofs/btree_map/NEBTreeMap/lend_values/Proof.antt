@@ -1,5 +1,5 @@
--- `lend_values` lends the inner map for the whole borrow. Its invariant is shown again at the end, by
--- what the clause of the inner `values_mut` says: the map has the same number of keys.
+-- `lend_values` lends the inner map for the whole borrow. Its invariant is shown again at the end,
+-- by what the clause of the inner `values_mut` says: the map has the same number of keys.
 use mathlib.Core.Path.{◌≡◌, refl, sym, subst}
 use Prim.Native.Nat.{ℕ, ◌+◌}
 use mathlib.Core.List.{List, [], ◌∷◌}
@@ -146,8 +146,8 @@ lend_values_spec 𝓤 𝓛 𝓜 𝓡 wired K V LK LV o₀ d₀ o₁ d₁ o₂ d�
     use2 𝓛 (raw (G.pre z)) (id⊢ 𝓤 _) $
     calls_at ! (framed 𝓤 𝓛.H 𝓜 𝓣) G
     (met 𝓤 𝓛 𝓜 𝓡
-    (code.calls-ne_tree::btree_map::additions::lend_values 𝓡.env wired) K V LK LV o₀ d₀ o₁ d₁ o₂ d₂ o₃ d₃ m₀ m₁ m₂
-    m₃) z (and_then ! (get ! refl) (no_more !)) (λ v.
+    (code.calls-ne_tree::btree_map::additions::lend_values 𝓡.env wired) K V LK LV o₀ d₀ o₁ d₁ o₂
+    d₂ o₃ d₃ m₀ m₁ m₂ m₃) z (and_then ! (get ! refl) (no_more !)) (λ v.
     use1 𝓛 (later (some (λ (it : It.Denot). ((‵ (flft κ (Share.left q)) ⊛ toks)
     ⊛ ‵ (It.own_val it (v ∷ []))) ⊛
     some (λ (ws : Lasts Gn κs (ka, tt)). ‵ (lasts Gn κs (ka, tt) ws)
