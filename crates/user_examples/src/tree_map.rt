@@ -275,6 +275,14 @@ pub fn into_values(alloc: Global) -> Result<NEVec<u32>, AllocError>
     values.collect(alloc)
 }
 
+/// The example of `is_empty`.
+pub fn is_empty(alloc: Global) -> Result<bool, AllocError>
+    ensures { IfOk result (λ empty. empty ≡ false) }
+{
+    let empty = nebtm![alloc; 1 => 10]?.is_empty();
+    Ok(empty)
+}
+
 /// The example of `range`.
 pub fn range(alloc: Global) -> Result<Vec<(u32, u32)>, AllocError>
     ensures { IfOk result (λ v. v.items ≡ (4, 26) ∷ (6, 23) ∷ []) }

@@ -260,6 +260,14 @@ pub fn retain(
     Ok((even, none))
 }
 
+/// The example of `is_empty`.
+pub fn is_empty(alloc: Global) -> Result<bool, AllocError>
+    ensures { IfOk result (λ empty. empty ≡ false) }
+{
+    let empty = nebts![alloc; 2]?.is_empty();
+    Ok(empty)
+}
+
 /// The example of `range`.
 pub fn range(alloc: Global) -> Result<Vec<u32>, AllocError>
     ensures { IfOk result (λ v. v.items ≡ 4 ∷ 6 ∷ []) }

@@ -269,6 +269,10 @@ impl<K: Ord, V> NEBTreeMap<K, V> {
     /// Returns `false`, as there is always a key.
     ///
     /// It exists for code that is written for `BTreeMap` too.
+    ///
+    /// ```
+    /// let empty = nebtm![alloc; 1 => 10]?.is_empty(); // false
+    /// ```
     pub fn is_empty(&self) -> bool
         ensures never { result ≡ false }
         ensures nonempty { 0 < btree_map_len self.now }

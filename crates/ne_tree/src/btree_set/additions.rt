@@ -189,6 +189,10 @@ impl<T: Ord> NEBTreeSet<T> {
     /// Returns `false`, as there is always an item.
     ///
     /// It exists for code that is written for `BTreeSet` too.
+    ///
+    /// ```
+    /// let empty = nebts![alloc; 2]?.is_empty(); // false
+    /// ```
     pub fn is_empty(&self) -> bool
         ensures never { result ≡ false }
         ensures nonempty { 0 < btree_set_len self.now }
