@@ -1,67 +1,22 @@
 -- The points of the intervals of a set, one after another: each covered point once.
-use Rattle.std.proofs.Common.{◌≡◌, ◌<◌, ◌≤◌, ◌+◌, ◌-◌, ℕ, zero, suc, Bool, true, false, cond, refl}
-use Rattle.std.proofs.Common.{List, [], ◌∷◌, ◌++◌, length, map, sym, ap₂, ◌∙◌, arith}
+use Rattle.std.proofs.Common.{◌≡◌, ◌<◌, ◌≤◌, ◌+◌, ◌-◌, ℕ, zero, suc, refl}
+use Rattle.std.proofs.Common.{List, [], ◌∷◌, ◌++◌, length, sym, ap₂, ◌∙◌, arith}
 use Rattle.std.proofs.Common.{length-append, Less}
 use Rattle.std.proofs.lemmas.List.Elements.{Contains-append_left, Contains-append_right}
 use Rattle.std.proofs.lemmas.List.Elements.{Contains-append_cases}
 use Rattle.std.proofs.lemmas.List.FromFn.{get_or-range_with_len, length-range_with_len}
 use Rattle.std.proofs.lemmas.List.Sums.{sum-map, sum_by-append}
-use Rattle.std.specs.BTreeMap.{is_at}
 use Rattle.std.specs.List.{AllByRecursion, range_with_len}
 use Rattle.std.specs.List.Sorted.{IsStrictlySortedBy}
 use Rattle.std.specs.Ordering.{nat_cmp}
-use Rattle.std.specs.Prelude.{⊤, Contains, Some, ◌⊎◌}
+use Rattle.std.specs.Prelude.{⊤, Contains, Some}
+use Rattle.user_intervals.proofs.Lookups.{behind, first, later, starts, which, Follow}
 use Rattle.user_intervals.specs.Points.{end_of, length_of, total_of, ArePoints, Covers}
 use Rattle.user_intervals.specs.Points.{IsIntervalSet, IsWithin}
 use mathlib.Core.Logic.{inl, inr}
 
-less : (m n : ℕ) → nat_cmp m n ≡ Less → m < n
-less m n h = grind arith
-
 is_less : (m n : ℕ) → m < n → nat_cmp m n ≡ Less
 is_less m n h = grind arith
-
-at_itself : (n : ℕ) → is_at (nat_cmp n) n ≡ true
-at_itself n = grind arith
-
-same : (m n : ℕ) → is_at (nat_cmp m) n ≡ true → m ≡ n
-same m n h = grind arith
-
-not_at : (m n : ℕ) → n < m → is_at (nat_cmp m) n ≡ false
-not_at m n h = grind arith
-
-abbrev Follow : ℕ → List ℕ → Type 0
-Follow k ks = AllByRecursion (λ y. nat_cmp k y ≡ Less) ks
-
-abbrev starts : List (ℕ × ℕ) → List ℕ
-starts s = map (λ p. p.0) s
-
--- The first interval, and those behind it.
-first : (p : ℕ × ℕ) (s : List (ℕ × ℕ)) → end_of (p ∷ s) p.0 ≡ Some p.1
-first p s = rw (at_itself p.0) refl
-
-which_at : (b : Bool) (p : ℕ × ℕ) (s : List (ℕ × ℕ)) (start end : ℕ)
-    → is_at (nat_cmp start) p.0 ≡ b → cond b (Some p.1) (end_of s start) ≡ Some end
-    → ((start ≡ p.0) × (end ≡ p.1)) ⊎ (end_of s start ≡ Some end)
-which_at true p s start end test is = inl (same start p.0 test, cc)
-which_at false p s start end test is = inr is
-
-which : (p : ℕ × ℕ) (s : List (ℕ × ℕ)) (start end : ℕ) → end_of (p ∷ s) start ≡ Some end
-    → ((start ≡ p.0) × (end ≡ p.1)) ⊎ (end_of s start ≡ Some end)
-which p s start end is = which_at (is_at (nat_cmp start) p.0) p s start end refl is
-
-later : (k : ℕ) (s : List (ℕ × ℕ)) (start end : ℕ) → Follow k (starts s)
-    → end_of s start ≡ Some end → k < start
-later k [] start end follow is = absurd (cc)
-later k (p ∷ s) start end follow is =
-    elim (which p s start end is) [
-      | inl this ↦ omega (arith, this.0, less k p.0 follow.0)
-      | inr behind ↦ later k s start end follow.1 behind
-    ]
-
-behind : (p : ℕ × ℕ) (s : List (ℕ × ℕ)) (start end : ℕ) → Follow p.0 (starts s)
-    → end_of s start ≡ Some end → end_of (p ∷ s) start ≡ Some end
-behind p s start end follow is = rw (not_at start p.0 (later p.0 s start end follow is)) is
 
 -- From lo on and below hi, each interval has a point and starts where the one before it ends, or
 -- later.

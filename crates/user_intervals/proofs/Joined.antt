@@ -6,10 +6,13 @@ use Rattle.std.specs.Prelude.{Option, Some, None, ◌⊎◌, ◌↔◌}
 use Rattle.user_intervals.specs.Points.{IsWithin}
 use mathlib.Core.Logic.{inl, inr}
 
-abbrev Covers : (ℕ → Option ℕ) → ℕ → Type 0
+abbrev pub Covers : (ℕ → Option ℕ) → ℕ → Type 0
 Covers f x = (start : ℕ) × (end : ℕ) × (f start ≡ Some end) × IsWithin start end x
 
-abbrev AreApart : (ℕ → Option ℕ) → Type 0
+abbrev pub HavePoints : (ℕ → Option ℕ) → Type 0
+HavePoints f = (s e : ℕ) → f s ≡ Some e → s < e
+
+abbrev pub AreApart : (ℕ → Option ℕ) → Type 0
 AreApart f = (s e t d : ℕ) → f s ≡ Some e → f t ≡ Some d → s < t → e < t
 
 pub one_at : (f : ℕ → Option ℕ) → AreApart f → (s e t d x : ℕ) → f s ≡ Some e → f t ≡ Some d

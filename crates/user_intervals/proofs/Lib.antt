@@ -1,2 +1,4 @@
-pub mod Joined
 pub mod Counted
+pub mod Determined
+pub mod Joined
+pub mod Lookups

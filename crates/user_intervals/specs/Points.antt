@@ -1,7 +1,7 @@
 -- Half-open intervals, and the points that they cover. A set of them is seen as the list of their
 -- starts with their ends, in ascending order of the starts.
 use Rattle.std.specs.Prelude.{◌≡◌, ◌<◌, ◌≤◌, ◌-◌, ◌^◌, ◌↔◌, ℕ, List, Option, Some, map, sum}
-use Rattle.std.specs.Prelude.{Contains}
+use Rattle.std.specs.Prelude.{length, Contains}
 use Rattle.std.specs.BTreeMap.{is_at}
 use Rattle.std.specs.List.Sorted.{IsStrictlySortedBy}
 use Rattle.std.specs.Map.{lookup, remove_entry}
@@ -23,9 +23,10 @@ IsWithin start end x = (start ≤ x) × (x < end)
 abbrev pub Covers : List (ℕ × ℕ) → ℕ → Type 0
 Covers s x = (start : ℕ) × (end : ℕ) × (end_of s start ≡ Some end) × IsWithin start end x
 
--- The starts ascend, and each end fits in 64 bits. Each interval has a point, and ends before any
--- later one starts.
+-- There is an interval. The starts ascend, and each end fits in 64 bits. Each interval has a
+-- point, and ends before any later one starts.
 pub record IsIntervalSet (s : List (ℕ × ℕ)) : Type 0 where
+  pub nonempty : 0 < length s
   pub rising : IsStrictlySortedBy nat_cmp (map (λ p. p.0) s)
   pub some : (start end : ℕ) → end_of s start ≡ Some end → start < end
   pub apart : (start end later its_end : ℕ) → end_of s start ≡ Some end

@@ -1,7 +1,7 @@
 //! Sets of half-open intervals. There is always an interval.
 ghost use Rattle.std.specs.Prelude.{◌≡◌, ◌<◌, ◌≤◌, ◌^◌, ◌⊎◌, ◌↔◌, [], ◌∷◌, ℕ, List, length};
 ghost use Rattle.std.specs.Prelude.{None, Some, IfOk, IfSome, IsTrue, MatchOption, OnErr, OnOk};
-ghost use Rattle.std.specs.BTreeMap.{IsOrdered, IsUnchanged};
+ghost use Rattle.std.specs.BTreeMap.{btree_map_len, IsOrdered, IsUnchanged};
 ghost use Rattle.std.specs.Ordering.{nat_cmp};
 ghost use Rattle.nonempty_collections.specs.Taken.{TakesFoundUnlessLast};
 ghost use Rattle.user_intervals.specs.Points.{end_of, total_of, without, ArePoints, Covers};
@@ -58,14 +58,11 @@ impl Intervals {
     pub fn insert(&mut self, start: u64, end: u64) -> Result<(), AllocError>
         ensures points { OnOk result ((x : ℕ)
             → Covers self.new x ↔ (Covers self.old x ⊎ IsWithin start end x)) }
+        ensures only { OnOk result ((s : List (ℕ × ℕ)) → IsIntervalSet s → ((x : ℕ)
+            → Covers s x ↔ (Covers self.old x ⊎ IsWithin start end x)) → self.new ≡ s) }
         ensures unchanged { OnErr result (self.new ≡ self.old) }
     {
-        if end <= start {
-            return Ok(());
-        }
-        let low = joined_start(&self.map, start);
-        let high = joined_end(&self.map, end);
-        replace(&mut self.map, low, high)?;
+        join(&mut self.map, start, end)?;
         Ok(())
     }
 
@@ -110,6 +107,23 @@ fn at_or_before(map: &NEBTreeMap<u64, u64>, point: u64) -> Option<(u64, u64)>
         Some((start, end)) => Some((*start, *end)),
         None => None,
     }
+}
+
+// Adds the points from `start` to before `end`.
+fn join(map: &mut NEBTreeMap<u64, u64>, start: u64, end: u64) -> Result<(), AllocError>
+    requires { IsIntervalSet map.old.entries }
+    ensures set { IsIntervalSet map.new.entries }
+    ensures points { OnOk result ((x : ℕ) → Covers map.new.entries x
+        ↔ (Covers map.old.entries x ⊎ IsWithin start end x)) }
+    ensures unchanged { OnErr result (IsUnchanged map.old map.new) }
+{
+    if end <= start {
+        return Ok(());
+    }
+    let low = joined_start(map, start);
+    let high = joined_end(map, end);
+    replace(map, low, high)?;
+    Ok(())
 }
 
 // Returns where an interval from `start` on starts once it is joined to the one that it touches.
@@ -162,6 +176,7 @@ fn replace(map: &mut NEBTreeMap<u64, u64>, low: u64, high: u64) -> Result<(), Al
     ensures above { OnOk result ((start : ℕ) → high < start
         → end_of map.new.entries start ≡ end_of map.old.entries start) }
     ensures ordered { IsOrdered nat_cmp map.new }
+    ensures nonempty { 0 < btree_map_len map.new }
     ensures unchanged { OnErr result (IsUnchanged map.old map.new) }
 {
     map.insert(low, high)?;

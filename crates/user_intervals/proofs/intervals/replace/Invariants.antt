@@ -14,6 +14,7 @@ invariant-loop-start l = record {
   above : (start : ℕ) → l.high < start
       → end_of l.map.entries start ≡ end_of l.fn.map.entries start;
   ordered : IsOrdered nat_cmp l.map;
+  nonempty : 0 < btree_map_len l.map;
 }
 
 abbrev pub decreases-loop-start : goal.decreases-loop-start

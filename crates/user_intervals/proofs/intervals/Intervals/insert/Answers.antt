@@ -1,17 +1,18 @@
 use Rattle.user_intervals.proofs.intervals.Intervals.insert.Goals as goal
-use Rattle.std.proofs.Common.{ℕ, subst}
+use Rattle.std.proofs.Common.{◌≡◌, ℕ, List, subst}
 use Rattle.std.specs.Prelude.{◌↔◌, ◌⊎◌}
-use Rattle.user_intervals.proofs.Joined.{points_joined}
-use Rattle.user_intervals.specs.Points.{end_of, Covers, IsWithin}
+use Rattle.user_intervals.proofs.Determined.{only_set}
+use Rattle.user_intervals.specs.Points.{Covers, IsIntervalSet, IsWithin}
+
+pub returns-clause-only : goal.returns-clause-only
+returns-clause-only c =
+    let new = c.join.new.map.entries in
+    subst (λ old. (s : List (ℕ × ℕ)) → IsIntervalSet s → ((x : ℕ) → Covers s x
+    ↔ (Covers old x ⊎ IsWithin c.args.start c.args.end x)) → new ≡ s) c.self.view_is
+    (only_set c.args.start c.args.end c.self.inside.map.entries new c.in_ok-join.ensures.set
+    c.in_ok-join.ensures.points)
 
 pub returns-clause-points : goal.returns-clause-points
 returns-clause-points c =
-    let old = c.self.inside.map.entries in
-    let new = c.replace.new.map.entries in
-    let start = c.joined_start-low in
-    let end = c.joined_end-high in
-    let put = c.in_ok-replace.ensures in
-    subst (λ s. (x : ℕ) → Covers new x ↔ (Covers s x ⊎ IsWithin c.args.start c.args.end x))
-    c.self.view_is (points_joined (end_of old) (end_of new) start.result end.result put.at
-    put.within put.below put.above c.args.start c.args.end start.ensures.before
-    end.ensures.after start.ensures.covered end.ensures.covered end.ensures.inside)
+    subst (λ old. (x : ℕ) → Covers c.join.new.map.entries x
+    ↔ (Covers old x ⊎ IsWithin c.args.start c.args.end x)) c.self.view_is c.in_ok-join.ensures.points
