@@ -3,4 +3,5 @@ pub mod IndexInserts
 pub mod KeyLists
 pub mod Popped
 pub mod Put
+pub mod PutLookups
 pub mod SameEntries

@@ -1,11 +1,13 @@
 -- What an index map is once the mutable reference to one of its values has ended.
 use Rattle.std.specs.declared.hash.BuildHasher as builder
 use Rattle.std.specs.declared.hash.Hasher as hasher
-use Rattle.std.specs.Prelude.{◌≡◌, ℕ, Option}
-use Rattle.std.specs.Borrow.{Fml, RattleType, MutBor, Lends, LendsSo}
+use Rattle.std.specs.Prelude.{◌≡◌, ℕ, Option, Result, Some}
+use Rattle.std.specs.Borrow.{Fml, RattleType, MutBor, Lends, LendsSo, LendsSoOk}
 use Rattle.std.specs.HashMap.Lent.{HashMembers}
-use Rattle.indexmap.specs.IndexMap.{IndexMap, with_value_at, WritesThrough}
+use Rattle.indexmap.specs.IndexMap.{IndexMap, hasher_of, with_value_at, IsUnchanged, Updates}
+use Rattle.indexmap.specs.IndexMap.{WritesThrough}
 use Rattle.ne_index.specs.contracts.index_map.NEIndexMap.{the_row}
+use Rattle.ne_index.specs.Puts.{put_entry}
 
 module _ (K V S H : RattleType) (key : HashMembers K.Denot)
     (build : builder.Ghosts S.Denot H.Denot) (hash : hasher.Ghosts H.Denot) where
@@ -23,3 +25,12 @@ module _ (K V S H : RattleType) (key : HashMembers K.Denot)
   -- The entry at the index i has the value that was last written through r.
   abbrev pub LendsValueAt : MutBor (IndexMap K.Denot V.Denot S.Denot) → ℕ → MutBor V.Denot → Fml
   LendsValueAt m i r = Lends map_row V m r (with_value_at m.now i)
+
+  -- The map is as after `insert` of the key k with the value that was last written through r. If r
+  -- is an error, the map is unchanged.
+  abbrev pub LendsInserted : {E : Type 0} → MutBor (IndexMap K.Denot V.Denot S.Denot) → K.Denot
+      → Result (MutBor V.Denot) E → Fml
+  LendsInserted m k r = LendsSoOk map_row V m r
+      (λ n w. (n.entries ≡ put_entry key.eq m.now.entries k w)
+      × Updates key.eq m.now n k (Some w) × (hasher_of n ≡ hasher_of m.now))
+      (IsUnchanged m.now)

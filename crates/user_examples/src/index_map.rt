@@ -301,6 +301,16 @@ pub fn retain(
     Ok((even, none))
 }
 
+/// The example of `or_insert`.
+pub fn or_insert(alloc: Global) -> Result<NEIndexMap<u32, u32>, AllocError>
+    ensures { IfOk result (λ m. m.entries ≡ (2, 25) ∷ (4, 1) ∷ []) }
+{
+    let mut map = neim![alloc; 2 => 24]?;
+    *map.or_insert(4, 0)? += 1;
+    *map.or_insert(2, 0)? += 1;
+    Ok(map)
+}
+
 /// The example of `index`.
 pub fn index(alloc: Global) -> Result<u32, AllocError>
     ensures { IfOk result (λ value. value ≡ 2) }

@@ -1,7 +1,16 @@
 use Rattle.ne_index.proofs.index_map.NEIndexMap.last_mut.Goals as goal
-use Rattle.std.proofs.Common.{◌-◌, ◌<◌, sym, subst}
-use Rattle.indexmap.specs.Layout.{length-set_value_at}
+use Rattle.std.proofs.Common.{◌≡◌, ◌<◌, refl, sym, subst, ◌∙◌}
+use Rattle.indexmap.specs.IndexMap.{index_map_len}
 
-pub invariant_of-self-lent : goal.invariant_of-self-lent
-invariant_of-self-lent g c w = subst (λ n. 0 < n)
-    (sym (length-set_value_at c.self.inside.inner.entries (c.len-last.result - 1) w)) c.self.invariant
+pub returns : goal.returns
+returns g c =
+    let len : index_map_len c.args.self.now ≡ c.len-last.result =
+        rw (← c.self.view_is) (sym c.len-last.ensures.len) in
+    rw len ((refl, λ w. refl), record {
+      writes_back = tt;
+      value = c.value_at.ensures.value;
+      stays = λ w. ((c.value_at.ensures.stays w).0, (c.value_at.ensures.stays w).1 ∙ len);
+      updates = c.value_at.ensures.updates;
+      unique = c.value_at.ensures.unique;
+      nonempty = subst (λ n. 0 < n) len c.value_at.ensures.nonempty;
+    })
