@@ -23,6 +23,7 @@ module _ {K : Type 0} (test : K → Bool) where
       by true passes rest is = cc
       by false passes rest is = rest is
 
-  pub item-passes : (xs : List K) (r : Option K) → r ≡ find test xs → IfSome r (λ x. IsTrue (test x))
+  pub item-passes : (xs : List K) (r : Option K) → r ≡ find test xs
+      → IfSome r (λ x. IsTrue (test x))
   item-passes xs None is = tt
   item-passes xs (Some x) is = find-passes xs x (sym is)

@@ -40,12 +40,12 @@ module _ {K V : Type 0} {eq : K → K → Bool} (laws : IsEquivalence eq) (k : K
       → Updates eq m n k (Some w)
   unfolding KeepsOthers
   put-updates m n is = (
-      each,
-      found (eq k) (laws.congr k) ∙ ap (λ b. cond b (Some w) (lookup (eq k) m.entries))
-          (laws.refl k),
-      λ q other. each q ∙ ap (λ b. cond b (Some w) (lookup (eq q) m.entries)) other,
-      λ u test apart. found u test ∙ ap (λ b. cond b (Some w) (lookup u m.entries))
-          (apart k (laws.refl k)),
+    each,
+    found (eq k) (laws.congr k) ∙ ap (λ b. cond b (Some w) (lookup (eq k) m.entries))
+        (laws.refl k),
+    λ q other. each q ∙ ap (λ b. cond b (Some w) (lookup (eq q) m.entries)) other,
+    λ u test apart. found u test ∙ ap (λ b. cond b (Some w) (lookup u m.entries))
+        (apart k (laws.refl k)),
   )
     where
       found : (u : K → Bool) → IsKeyTest eq u
@@ -60,7 +60,8 @@ module _ {K V : Type 0} (eq : K → K → Bool) (k : K) where
   -- the value of a key that is there
   pub written-found : (es : List (K × V)) (i : ℕ) → position (eq k) (keys_of es) ≡ Some i
       → (w : V) → set_value_at es i w ≡ put_entry eq es k w
-  written-found es i at w = sym (insert_entry-first eq k w es i (Found-position (eq k) es i at).first)
+  written-found es i at w =
+      sym (insert_entry-first eq k w es i (Found-position (eq k) es i at).first)
       ∙ put_entry-insert eq es k w
 
   module _ (v : V) where

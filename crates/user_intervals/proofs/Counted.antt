@@ -52,7 +52,12 @@ set_rises s set =
 
 total_more : (p : ℕ × ℕ) (s : List (ℕ × ℕ)) → total_of (p ∷ s) ≡ length_of p + total_of s
 total_more p s =
-    omega (arith, sum-map length_of (p ∷ s), sum_by-append length_of (p ∷ []) s, sum-map length_of s)
+    omega (
+      arith,
+      sum-map length_of (p ∷ s),
+      sum_by-append length_of (p ∷ []) s,
+      sum-map length_of s,
+    )
 
 room : (lo hi : ℕ) (s : List (ℕ × ℕ)) → lo < hi → Rise lo hi s → total_of s + lo < hi
 room lo hi [] order h = omega (arith, order)
@@ -100,7 +105,8 @@ unfolding IsStrictlySortedBy
 run_rises a zero ks from sorted = sorted
 run_rises a (suc n) ks from sorted = (
   follow a (a + 1) (range_with_len (a + 1) n ++ ks) (omega arith)
-      (run_from (a + 1) (a + 1) n ks (omega arith) (weaker (a + 1) (a + suc n) ks (omega arith) from)),
+      (run_from (a + 1) (a + 1) n ks (omega arith)
+      (weaker (a + 1) (a + suc n) ks (omega arith) from)),
   run_rises (a + 1) n ks (weaker (a + 1 + n) (a + suc n) ks (omega arith) from) sorted,
 )
 

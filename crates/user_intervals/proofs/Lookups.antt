@@ -1,4 +1,4 @@
--- What a look-up finds in a set of intervals, of which the list is in ascending order of the starts.
+-- What a lookup finds in a set of intervals, whose list is in ascending order of the starts.
 use Rattle.std.proofs.Common.{◌≡◌, ◌<◌, ℕ, Bool, true, false, cond, refl, sym, ap₂, ◌∙◌}
 use Rattle.std.proofs.Common.{List, [], ◌∷◌, map, arith, Less}
 use Rattle.std.specs.BTreeMap.{is_at}

@@ -1,14 +1,14 @@
 //! The methods of an [`NEIndexMap`] that the Rust crate lacks, with the names that `indexmap` has.
 //! Those that remove an entry never remove the only one.
 ghost use Rattle.std.specs.Prelude.{◌≡◌, ◌+◌, ◌-◌, ◌<◌, ◌↔◌, ◌++◌, [], ◌∷◌, None, Some, Bool};
-ghost use Rattle.std.specs.Prelude.{if◌then◌else◌, is_some, slice_get, take, unwrap_or, IfOk, IfSome};
-ghost use Rattle.std.specs.Prelude.{IsErr, IsTrue, OnErr};
+ghost use Rattle.std.specs.Prelude.{if◌then◌else◌, is_some, slice_get, take, unwrap_or, IfOk};
+ghost use Rattle.std.specs.Prelude.{IfSome, IsErr, IsTrue, OnErr};
 ghost use Rattle.std.specs.Borrow.{sem};
 ghost use Rattle.std.specs.Map.Calls.{CallableOnEachPair, CalledAtPair, RetainsPairs, TakesPair};
 ghost use Rattle.ne_vec.specs.Taken.{TakesFoundUnlessLast, TakesUnlessLast};
 ghost use Rattle.indexmap.specs.IndexMap.{get, get_key, hasher_of, index_map_len, keys};
-ghost use Rattle.indexmap.specs.IndexMap.{shift_remove_entry, swap_remove_entry, values, with_value_at};
-ghost use Rattle.indexmap.specs.IndexMap.{IsUnchanged, IsUnique, Updates};
+ghost use Rattle.indexmap.specs.IndexMap.{shift_remove_entry, swap_remove_entry, values};
+ghost use Rattle.indexmap.specs.IndexMap.{with_value_at, IsUnchanged, IsUnique, Updates};
 ghost use Rattle.ne_iter.specs.KeptEntries.{either_way, kept_entries, ActsAsAtEntry};
 ghost use Rattle.ne_index.specs.IndexLends.{LendsInserted, LendsValueAt};
 ghost use Rattle.ne_index.specs.Puts.{put_entry};
@@ -274,8 +274,8 @@ impl<K: Eq + Hash, V, S: BuildHasher> NEIndexMap<K, V, S> {
         Ok(self.value_at(index))
     }
 
-    // Returns the index of the key equal to `k`, which is first inserted with the value `v` if there
-    // is no such key.
+    // Returns the index of the key equal to `k`, which is first inserted with the value `v` if
+    // there is no such key.
     fn index_or_insert(&mut self, k: K, v: V) -> Result<usize, AllocError>
     where
         K: Drop,

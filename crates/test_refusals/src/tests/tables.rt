@@ -81,11 +81,13 @@ enum Make {
     Written,
 }
 
-// The calls on a table. A map has `Put`, a set has `Replace`, and a tree does not shrink.
+// The calls on a table. A map has `Put`, an index map `OrInsert`, a set has `Replace`, and a tree
+// does not shrink.
 #[derive(Clone, Copy, PartialEq, Eq)]
 enum Change {
     Insert,
     Put,
+    OrInsert,
     Replace,
     ExtendOne,
     ShrinkToFit,
@@ -116,7 +118,7 @@ trait Table: Singleton<Item = Item> + FromNonEmptyIterator<Item> + Clone + Drop 
 
     fn make(alloc: Global, call: Make, item: Item) -> Result<Self, AllocError>;
 
-    // `Insert`, `Put`, `Replace`, `ExtendOne` or `ShrinkToFit`.
+    // `Insert`, `Put`, `OrInsert`, `Replace`, `ExtendOne` or `ShrinkToFit`.
     fn change(&mut self, call: Change, item: Item) -> Result<(), AllocError>;
 
     fn extend_by(&mut self, items: Items<'_>) -> Result<(), AllocError>;

@@ -192,7 +192,10 @@ impl Table for NEIndexMap<Key, Owner> {
     }
 
     fn change(&mut self, call: Change, item: Item) -> Result<(), AllocError> {
-        changed_map!(self, call, item)
+        match call {
+            Change::OrInsert => self.or_insert(item.0, item.1).map(|_| ()),
+            _ => changed_map!(self, call, item),
+        }
     }
 
     fn extend_by(&mut self, items: Items<'_>) -> Result<(), AllocError> {
@@ -325,7 +328,7 @@ fn hashed_set(rt: HostRuntime) -> Result<(), Fail> {
 
 #[test]
 fn index_map(rt: HostRuntime) -> Result<(), Fail> {
-    let rows: [Row; 6] = [
+    let rows: [Row; 7] = [
         (
             (Make::New, "NEIndexMap::new"),
             (Change::Insert, "NEIndexMap::insert"),
@@ -353,6 +356,7 @@ fn index_map(rt: HostRuntime) -> Result<(), Fail> {
             (Make::New, ""),
             (Change::Put, "NonEmptyMap::put of an index map"),
         ),
+        ((Make::New, ""), (Change::OrInsert, "NEIndexMap::or_insert")),
     ];
     every_call::<NEIndexMap<Key, Owner>>(&rt, rt.alloc(), &rows, "collect into NEIndexMap")
 }

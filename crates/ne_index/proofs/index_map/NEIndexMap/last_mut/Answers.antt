@@ -5,12 +5,15 @@ use Rattle.indexmap.specs.IndexMap.{index_map_len}
 pub returns : goal.returns
 returns g c =
     let len : index_map_len c.args.self.now ≡ c.len-last.result =
-        rw (← c.self.view_is) (sym c.len-last.ensures.len) in
-    rw len ((refl, λ w. refl), record {
-      writes_back = tt;
-      value = c.value_at.ensures.value;
-      stays = λ w. ((c.value_at.ensures.stays w).0, (c.value_at.ensures.stays w).1 ∙ len);
-      updates = c.value_at.ensures.updates;
-      unique = c.value_at.ensures.unique;
-      nonempty = subst (λ n. 0 < n) len c.value_at.ensures.nonempty;
-    })
+    rw (← c.self.view_is) (sym c.len-last.ensures.len) in
+    rw len (
+      (refl, λ w. refl),
+      record {
+        writes_back = tt;
+        value = c.value_at.ensures.value;
+        stays = λ w. ((c.value_at.ensures.stays w).0, (c.value_at.ensures.stays w).1 ∙ len);
+        updates = c.value_at.ensures.updates;
+        unique = c.value_at.ensures.unique;
+        nonempty = subst (λ n. 0 < n) len c.value_at.ensures.nonempty;
+      },
+    )

@@ -9,15 +9,18 @@ invariant_of-self-lent g c w = subst (λ n. 0 < n)
     (sym (length-set_value_at c.self.inside.inner.entries c.args.index w)) c.self.invariant
 
 pub returns : goal.returns
-returns g c = ((refl, λ w. rw (← c.self.view_is) refl), record {
-  writes_back = tt;
-  value = rw (← c.self.view_is) c.index_mut.ensures.value;
-  stays = λ w. (
+returns g c = (
+  (refl, λ w. rw (← c.self.view_is) refl),
+  record {
+    writes_back = tt;
+    value = rw (← c.self.view_is) c.index_mut.ensures.value;
+    stays = λ w. (
       keys-with_value_at c.args.self.now c.args.index w,
       index_map_len-with_value_at c.args.self.now c.args.index w,
-  );
-  updates = λ k v w at. updates-with_value_at c.args.self.now c.args.index w g.met.K.Eq.laws
-      (rw (← c.self.view_is) c.len-len.ensures.unique) k v at;
-  unique = rw (← c.self.view_is) c.len-len.ensures.unique;
-  nonempty = rw (← c.self.view_is) c.self.invariant;
-})
+    );
+    updates = λ k v w at. updates-with_value_at c.args.self.now c.args.index w g.met.K.Eq.laws
+        (rw (← c.self.view_is) c.len-len.ensures.unique) k v at;
+    unique = rw (← c.self.view_is) c.len-len.ensures.unique;
+    nonempty = rw (← c.self.view_is) c.self.invariant;
+  },
+)

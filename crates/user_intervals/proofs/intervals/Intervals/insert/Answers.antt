@@ -15,4 +15,5 @@ returns-clause-only c =
 pub returns-clause-points : goal.returns-clause-points
 returns-clause-points c =
     subst (λ old. (x : ℕ) → Covers c.join.new.map.entries x
-    ↔ (Covers old x ⊎ IsWithin c.args.start c.args.end x)) c.self.view_is c.in_ok-join.ensures.points
+    ↔ (Covers old x ⊎ IsWithin c.args.start c.args.end x)) c.self.view_is
+    c.in_ok-join.ensures.points
