@@ -45,7 +45,7 @@ ROWS = [
     ("retain", [MAPS[0], MAPS[2], SETS[0], SETS[2]], ANY, "", CHANGES),
     ("retain", [MAPS[1], SETS[1]], PURE, "", CHANGES),
     ("first_mut last_mut", MAPS[2:], NONE, "value", CHANGES),
-    ("values_mut", MAPS[1:2], NONE, "value", CHANGES),
+    ("values_mut", MAPS[:2], NONE, "value", CHANGES),
     ("into_keys into_values", MAPS[:2], NONE, "", READS),
     ("first_key_value last_key_value", MAPS[:1], NONE, "", READS),
     ("first last", SETS[:1], NONE, "", READS),
@@ -208,6 +208,7 @@ insert 0 22
 remove_entry 9
 first_key_value
 last_key_value
+values_mut 2
 into_keys
 into_values
 tree_map 2 24 4 26 6 23 8 22

@@ -167,6 +167,11 @@ macro_rules! std_map {
                 let len = kept.len();
                 put_kept(map, kept, len, call, out)
             }
+            "values_mut" => {
+                for value in map.values_mut() {
+                    *value = value.wrapping_mul(31).wrapping_add(call.first);
+                }
+            }
             "into_keys" => out.yielded(map.clone().into_keys()),
             "into_values" => out.yielded(map.clone().into_values()),
             "insert" => out.told(map.insert(key, value)),
@@ -194,14 +199,7 @@ fn tree_map(map: &mut TreeMap, call: &Call, out: &mut Transcript) {
 }
 
 fn hashed_map(map: &mut HashedMap, call: &Call, out: &mut Transcript) {
-    match call.name {
-        "values_mut" => {
-            for value in map.values_mut() {
-                *value = value.wrapping_mul(31).wrapping_add(call.first);
-            }
-        }
-        _ => std_map!(map, call, out),
-    }
+    std_map!(map, call, out)
 }
 
 // The place of a key.

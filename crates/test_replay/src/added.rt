@@ -38,21 +38,6 @@ fn rewrite<'a, I: IntoIterator<Item = &'a mut u32>>(values: I, number: u32)
     }
 }
 
-// Calls that take a map by value, which is a clone of the map that is there. So it is cloned in one
-// arm.
-macro_rules! consumed_map {
-    ($all:expr, $map:expr, $call:expr, $out:expr) => {
-        match $call.name {
-            "into_keys" => $out.yielded($all.into_keys()),
-            "into_values" => $out.yielded($all.into_values()),
-            _ => {
-                let kept = $all.retain(|key, value| keeps($call, key, value));
-                put_counted($map, $call, $out, kept)
-            }
-        }
-    };
-}
-
 /// Calls on a tree map.
 pub fn tree_map_added(map: &mut TreeMap, call: &Call, out: &mut Transcript) -> Answered {
     let (key, other) = (call.key(0), call.key(1));
@@ -64,20 +49,16 @@ pub fn tree_map_added(map: &mut TreeMap, call: &Call, out: &mut Transcript) -> A
         "pop_first" => out.told(map.pop_first()),
         "pop_last" => out.told(map.pop_last()),
         "is_empty" => out.told(map.is_empty()),
+        "values_mut" => Ok(rewrite(map.values_mut(), call.first)),
         "range" if key <= other => out.yielded(map.range(key..other)),
         "range" => out.said("out of order"),
-        "retain" | "into_keys" | "into_values" => tree_map_consumed(map.clone()?, map, call, out),
+        "retain" => {
+            let all = map.clone()?;
+            let kept = all.retain(|key, value| keeps(call, key, value));
+            put_counted(map, call, out, kept)
+        }
         _ => tree_map_iterated(map, call, out),
     }
-}
-
-fn tree_map_consumed(
-    all: TreeMap,
-    map: &mut TreeMap,
-    call: &Call,
-    out: &mut Transcript,
-) -> Answered {
-    consumed_map!(all, map, call, out)
 }
 
 /// Calls on a hashed map.
@@ -87,18 +68,13 @@ pub fn hashed_map_added(map: &mut HashedMap, call: &Call, out: &mut Transcript) 
         "remove" => out.told(map.remove(&key)),
         "remove_entry" => out.told(map.remove_entry(&key)),
         "values_mut" => Ok(rewrite(map.values_mut(), call.first)),
-        "retain" | "into_keys" | "into_values" => hashed_map_consumed(map.clone()?, map, call, out),
+        "retain" => {
+            let all = map.clone()?;
+            let kept = all.retain(|key, value| keeps(call, key, value));
+            put_counted(map, call, out, kept)
+        }
         _ => hashed_map_iterated(map, call, out),
     }
-}
-
-fn hashed_map_consumed(
-    all: HashedMap,
-    map: &mut HashedMap,
-    call: &Call,
-    out: &mut Transcript,
-) -> Answered {
-    consumed_map!(all, map, call, out)
 }
 
 /// Calls on an index map.

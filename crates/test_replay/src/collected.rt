@@ -10,26 +10,53 @@ use std::borrow::CowStr;
 use std::collections::{BTreeMap, BTreeSet, HashMap, HashSet};
 use std::path::PathBuf;
 
-/// Nothing, a result, maps and sets.
+/// Nothing, a result, maps and sets. Each is a function of its own, since the check follows each arm
+/// to its end with all that the function has.
 pub fn answered(source: IntoIter<u32>, call: &Call, out: &mut Transcript) -> Answered {
-    let alloc = out.alloc;
-    let of = |x: u32| call.closure.of(x);
-    let pair = |x: (usize, u32)| (call.closure.of(x.1), x);
     match call.name {
-        "collect_unit" => source.map(|x| drop(of(x))).collect::<()>(alloc),
-        "collect_result" => {
-            let holds = |x: u32| if call.closure.holds(x) { Ok(x) } else { Err(x) };
-            out.made(source.map(holds).collect::<Result<NEVec<u32>, u32>>(alloc))
-        }
-        "collect_tree_map" => {
-            let pairs = source.enumerate().map(pair);
-            out.made(pairs.collect::<BTreeMap<u32, (usize, u32)>>(alloc))
-        }
-        "collect_hash_map" => found(source.enumerate().map(pair).collect(alloc), call, out),
-        "collect_tree_set" => out.made(source.map(of).collect::<BTreeSet<u32>>(alloc)),
-        "collect_hash_set" => held(source.map(of).collect(alloc), call, out),
+        "collect_unit" => unit(source, call, out),
+        "collect_result" => result(source, call, out),
+        "collect_tree_map" => tree_map(source, call, out),
+        "collect_hash_map" => hash_map(source, call, out),
+        "collect_tree_set" => tree_set(source, call, out),
+        "collect_hash_set" => hash_set(source, call, out),
         _ => joined(source, call, out),
     }
+}
+
+fn unit(source: IntoIter<u32>, call: &Call, out: &mut Transcript) -> Answered {
+    let drops = |x: u32| drop(call.closure.of(x));
+    source.map(drops).collect::<()>(out.alloc)
+}
+
+fn result(source: IntoIter<u32>, call: &Call, out: &mut Transcript) -> Answered {
+    let holds = |x: u32| if call.closure.holds(x) { Ok(x) } else { Err(x) };
+    out.made(
+        source
+            .map(holds)
+            .collect::<Result<NEVec<u32>, u32>>(out.alloc),
+    )
+}
+
+fn tree_map(source: IntoIter<u32>, call: &Call, out: &mut Transcript) -> Answered {
+    let pair = |x: (usize, u32)| (call.closure.of(x.1), x);
+    let pairs = source.enumerate().map(pair);
+    out.made(pairs.collect::<BTreeMap<u32, (usize, u32)>>(out.alloc))
+}
+
+fn hash_map(source: IntoIter<u32>, call: &Call, out: &mut Transcript) -> Answered {
+    let pair = |x: (usize, u32)| (call.closure.of(x.1), x);
+    found(source.enumerate().map(pair).collect(out.alloc), call, out)
+}
+
+fn tree_set(source: IntoIter<u32>, call: &Call, out: &mut Transcript) -> Answered {
+    let of = |x: u32| call.closure.of(x);
+    out.made(source.map(of).collect::<BTreeSet<u32>>(out.alloc))
+}
+
+fn hash_set(source: IntoIter<u32>, call: &Call, out: &mut Transcript) -> Answered {
+    let of = |x: u32| call.closure.of(x);
+    held(source.map(of).collect(out.alloc), call, out)
 }
 
 // A hashed map is shown by its size and by what is found in it, because its order is its own.

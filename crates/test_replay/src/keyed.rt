@@ -189,11 +189,11 @@ macro_rules! changed_set {
     }};
 }
 
-// Calls that read a whole map or set. `shared` and `owned` write what an iterator by reference and
-// by value yields. So each arm passes on an iterator of std's or of `indexmap`'s, and what the
-// iterators of one type need is proved once.
+// Calls that read a whole map or set. `shared` writes what an iterator by reference yields. So each
+// arm passes on an iterator of std's or of `indexmap`'s, and what the iterators of one type need is
+// proved once. One arm makes the calls that take a map or a set by value, on a clone.
 macro_rules! iterated {
-    ($it:expr, $call:expr, $out:expr, $next:ident, $shared:ident, $owned:ident, $Std:ident) => {
+    ($it:expr, $call:expr, $out:expr, $next:ident, $shared:ident, $consumed:ident) => {
         match $call.name {
             "len" => $out.told($it.len()),
             "as_ref" => $out.told($it.as_ref().len()),
@@ -203,10 +203,20 @@ macro_rules! iterated {
             "nonempty_iter" => $shared($it.nonempty_iter().into_iter(), $out),
             "ref_into_iter" => $shared((&*$it).into_iter(), $out),
             "ref_into_nonempty_iter" => $shared((&*$it).into_nonempty_iter().into_iter(), $out),
-            "into_iter" => $owned($it.clone()?.into_iter(), $out),
-            "into_nonempty_iter" => $owned($it.clone()?.into_nonempty_iter().into_iter(), $out),
-            "into_map" | "into_set" => $owned($Std::from($it.clone()?).into_iter(), $out),
+            name if name.starts_with("into_") => $consumed($it.clone()?, $call, $out),
             _ => $next($it, $call, $out),
+        }
+    };
+}
+
+// Calls that take a map or a set by value. `owned` writes what an iterator by value yields.
+macro_rules! consumed {
+    ($all:expr, $call:expr, $out:expr, $owned:ident, $Std:ident, $last:expr) => {
+        match $call.name {
+            "into_iter" => $owned($all.into_iter(), $out),
+            "into_nonempty_iter" => $owned($all.into_nonempty_iter().into_iter(), $out),
+            "into_map" | "into_set" => $owned($Std::from($all).into_iter(), $out),
+            _ => $last,
         }
     };
 }
@@ -225,23 +235,22 @@ macro_rules! compared_map {
 
 // Calls with another set.
 macro_rules! compared_set {
-    ($set:expr, $call:expr, $out:expr) => {{
-        let other = set($call, $out.alloc)?;
+    ($set:expr, $other:expr, $call:expr, $out:expr) => {
         match $call.name {
-            "eq" => $out.told(*$set == other),
-            "is_disjoint" => $out.told($set.is_disjoint(&other)),
-            "is_subset" => $out.told($set.is_subset(&other)),
-            "is_superset" => $out.told($set.is_superset(&other)),
-            "difference" => $out.yielded($set.difference(&other)),
-            "intersection" => $out.yielded($set.intersection(&other)),
-            "union" => $out.yielded($set.union(&other)),
+            "eq" => $out.told(*$set == *$other),
+            "is_disjoint" => $out.told($set.is_disjoint($other)),
+            "is_subset" => $out.told($set.is_subset($other)),
+            "is_superset" => $out.told($set.is_superset($other)),
+            "difference" => $out.yielded($set.difference($other)),
+            "intersection" => $out.yielded($set.intersection($other)),
+            "union" => $out.yielded($set.union($other)),
             "union_next" => {
-                let (first, rest) = $set.union(&other).next();
+                let (first, rest) = $set.union($other).next();
                 $out.yielded_after(first, rest)
             }
             _ => $out.said("no such call"),
         }
-    }};
+    };
 }
 
 /// Calls on a tree map.
@@ -257,8 +266,12 @@ fn tree_map_more(map: &mut TreeMap, call: &Call, out: &mut Transcript) -> Answer
     changed_std_map!(map, call, out, tree_map_added, TreeMap, BTreeMap)
 }
 
-/// Writes what an iterator over a tree map yields.
-pub fn tree_map_iter(iter: btree_map::Iter<Key, u32>, out: &mut Transcript) -> Answered {
+/// Writes a tree map.
+pub fn tree_map_written(map: &TreeMap, out: &mut Transcript) -> Answered {
+    tree_map_iter(map.iter(), out)
+}
+
+fn tree_map_iter(iter: btree_map::Iter<Key, u32>, out: &mut Transcript) -> Answered {
     out.yielded(iter)
 }
 
@@ -274,8 +287,22 @@ pub fn tree_map_iterated(map: &TreeMap, call: &Call, out: &mut Transcript) -> An
         out,
         tree_map_compared,
         tree_map_iter,
+        tree_map_consumed
+    )
+}
+
+fn tree_map_consumed(all: TreeMap, call: &Call, out: &mut Transcript) -> Answered {
+    consumed!(
+        all,
+        call,
+        out,
         tree_map_into_iter,
-        BTreeMap
+        BTreeMap,
+        match call.name {
+            "into_keys" => out.yielded(all.into_keys()),
+            "into_values" => out.yielded(all.into_values()),
+            _ => out.said("no such call"),
+        }
     )
 }
 
@@ -308,8 +335,12 @@ fn hashed_map_more(map: &mut HashedMap, call: &Call, out: &mut Transcript) -> An
     changed_std_map!(map, call, out, hashed_map_added, HashedMap, HashMap)
 }
 
-/// Writes what an iterator over a hashed map yields.
-pub fn hashed_map_iter(iter: hash_map::Iter<Key, u32>, out: &mut Transcript) -> Answered {
+/// Writes a hashed map.
+pub fn hashed_map_written(map: &HashedMap, out: &mut Transcript) -> Answered {
+    hashed_map_iter(map.iter(), out)
+}
+
+fn hashed_map_iter(iter: hash_map::Iter<Key, u32>, out: &mut Transcript) -> Answered {
     out.yielded(iter)
 }
 
@@ -325,8 +356,22 @@ pub fn hashed_map_iterated(map: &HashedMap, call: &Call, out: &mut Transcript) -
         out,
         hashed_map_compared,
         hashed_map_iter,
+        hashed_map_consumed
+    )
+}
+
+fn hashed_map_consumed(all: HashedMap, call: &Call, out: &mut Transcript) -> Answered {
+    consumed!(
+        all,
+        call,
+        out,
         hashed_map_into_iter,
-        HashMap
+        HashMap,
+        match call.name {
+            "into_keys" => out.yielded(all.into_keys()),
+            "into_values" => out.yielded(all.into_values()),
+            _ => out.said("no such call"),
+        }
     )
 }
 
@@ -371,8 +416,12 @@ fn indexed_map_placed(map: &mut IndexedMap, call: &Call, out: &mut Transcript) -
     }
 }
 
-/// Writes what an iterator over an index map yields.
-pub fn indexed_map_iter(iter: index_map::Iter<Key, u32>, out: &mut Transcript) -> Answered {
+/// Writes an index map.
+pub fn indexed_map_written(map: &IndexedMap, out: &mut Transcript) -> Answered {
+    indexed_map_iter(map.iter(), out)
+}
+
+fn indexed_map_iter(iter: index_map::Iter<Key, u32>, out: &mut Transcript) -> Answered {
     out.yielded(iter)
 }
 
@@ -388,8 +437,18 @@ pub fn indexed_map_iterated(map: &IndexedMap, call: &Call, out: &mut Transcript)
         out,
         indexed_map_compared,
         indexed_map_iter,
+        indexed_map_consumed
+    )
+}
+
+fn indexed_map_consumed(all: IndexedMap, call: &Call, out: &mut Transcript) -> Answered {
+    consumed!(
+        all,
+        call,
+        out,
         indexed_map_into_iter,
-        IndexMap
+        IndexMap,
+        out.said("no such call")
     )
 }
 
@@ -406,8 +465,12 @@ fn tree_set_changed(set: &mut TreeSet, call: &Call, out: &mut Transcript) -> Ans
     changed_set!(set, call, out, tree_set_added)
 }
 
-/// Writes what an iterator over a tree set yields.
-pub fn tree_set_iter(iter: btree_set::Iter<Key>, out: &mut Transcript) -> Answered {
+/// Writes a tree set.
+pub fn tree_set_written(set: &TreeSet, out: &mut Transcript) -> Answered {
+    tree_set_iter(set.iter(), out)
+}
+
+fn tree_set_iter(iter: btree_set::Iter<Key>, out: &mut Transcript) -> Answered {
     out.yielded(iter)
 }
 
@@ -423,13 +486,27 @@ pub fn tree_set_iterated(set: &TreeSet, call: &Call, out: &mut Transcript) -> An
         out,
         tree_set_compared,
         tree_set_iter,
-        tree_set_into_iter,
-        BTreeSet
+        tree_set_consumed
     )
 }
 
-fn tree_set_compared(set: &TreeSet, call: &Call, out: &mut Transcript) -> Answered {
-    compared_set!(set, call, out)
+fn tree_set_consumed(all: TreeSet, call: &Call, out: &mut Transcript) -> Answered {
+    consumed!(
+        all,
+        call,
+        out,
+        tree_set_into_iter,
+        BTreeSet,
+        out.said("no such call")
+    )
+}
+
+fn tree_set_compared(it: &TreeSet, call: &Call, out: &mut Transcript) -> Answered {
+    tree_set_with(it, &set(call, out.alloc)?, call, out)
+}
+
+fn tree_set_with(set: &TreeSet, other: &TreeSet, call: &Call, out: &mut Transcript) -> Answered {
+    compared_set!(set, other, call, out)
 }
 
 /// Calls on a hashed set.
@@ -452,8 +529,12 @@ fn hashed_set_changed(set: &mut HashedSet, call: &Call, out: &mut Transcript) ->
     changed_set!(set, call, out, hashed_set_added)
 }
 
-/// Writes what an iterator over a hashed set yields.
-pub fn hashed_set_iter(iter: hash_set::Iter<Key>, out: &mut Transcript) -> Answered {
+/// Writes a hashed set.
+pub fn hashed_set_written(set: &HashedSet, out: &mut Transcript) -> Answered {
+    hashed_set_iter(set.iter(), out)
+}
+
+fn hashed_set_iter(iter: hash_set::Iter<Key>, out: &mut Transcript) -> Answered {
     out.yielded(iter)
 }
 
@@ -469,13 +550,32 @@ pub fn hashed_set_iterated(set: &HashedSet, call: &Call, out: &mut Transcript) -
         out,
         hashed_set_compared,
         hashed_set_iter,
-        hashed_set_into_iter,
-        HashSet
+        hashed_set_consumed
     )
 }
 
-fn hashed_set_compared(set: &HashedSet, call: &Call, out: &mut Transcript) -> Answered {
-    compared_set!(set, call, out)
+fn hashed_set_consumed(all: HashedSet, call: &Call, out: &mut Transcript) -> Answered {
+    consumed!(
+        all,
+        call,
+        out,
+        hashed_set_into_iter,
+        HashSet,
+        out.said("no such call")
+    )
+}
+
+fn hashed_set_compared(it: &HashedSet, call: &Call, out: &mut Transcript) -> Answered {
+    hashed_set_with(it, &set(call, out.alloc)?, call, out)
+}
+
+fn hashed_set_with(
+    set: &HashedSet,
+    other: &HashedSet,
+    call: &Call,
+    out: &mut Transcript,
+) -> Answered {
+    compared_set!(set, other, call, out)
 }
 
 /// Calls on an index set.
@@ -505,8 +605,12 @@ fn indexed_set_changed(set: &mut IndexedSet, call: &Call, out: &mut Transcript) 
     changed_set!(set, call, out, indexed_set_added)
 }
 
-/// Writes what an iterator over an index set yields.
-pub fn indexed_set_iter(iter: index_set::Iter<Key>, out: &mut Transcript) -> Answered {
+/// Writes an index set.
+pub fn indexed_set_written(set: &IndexedSet, out: &mut Transcript) -> Answered {
+    indexed_set_iter(set.iter(), out)
+}
+
+fn indexed_set_iter(iter: index_set::Iter<Key>, out: &mut Transcript) -> Answered {
     out.yielded(iter)
 }
 
@@ -522,11 +626,30 @@ pub fn indexed_set_iterated(set: &IndexedSet, call: &Call, out: &mut Transcript)
         out,
         indexed_set_compared,
         indexed_set_iter,
-        indexed_set_into_iter,
-        IndexSet
+        indexed_set_consumed
     )
 }
 
-fn indexed_set_compared(set: &IndexedSet, call: &Call, out: &mut Transcript) -> Answered {
-    compared_set!(set, call, out)
+fn indexed_set_consumed(all: IndexedSet, call: &Call, out: &mut Transcript) -> Answered {
+    consumed!(
+        all,
+        call,
+        out,
+        indexed_set_into_iter,
+        IndexSet,
+        out.said("no such call")
+    )
+}
+
+fn indexed_set_compared(it: &IndexedSet, call: &Call, out: &mut Transcript) -> Answered {
+    indexed_set_with(it, &set(call, out.alloc)?, call, out)
+}
+
+fn indexed_set_with(
+    set: &IndexedSet,
+    other: &IndexedSet,
+    call: &Call,
+    out: &mut Transcript,
+) -> Answered {
+    compared_set!(set, other, call, out)
 }

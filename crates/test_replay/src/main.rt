@@ -113,12 +113,12 @@ impl Subject {
     fn write(&self, call: &Call, out: &mut Transcript) -> Answered {
         match self {
             Subject::Vector(items) => vector::written_out(items, call, out),
-            Subject::TreeMap(map) => keyed::tree_map_iter(map.iter(), out),
-            Subject::HashedMap(map) => keyed::hashed_map_iter(map.iter(), out),
-            Subject::IndexedMap(map) => keyed::indexed_map_iter(map.iter(), out),
-            Subject::TreeSet(set) => keyed::tree_set_iter(set.iter(), out),
-            Subject::HashedSet(set) => keyed::hashed_set_iter(set.iter(), out),
-            Subject::IndexedSet(set) => keyed::indexed_set_iter(set.iter(), out),
+            Subject::TreeMap(map) => keyed::tree_map_written(map, out),
+            Subject::HashedMap(map) => keyed::hashed_map_written(map, out),
+            Subject::IndexedMap(map) => keyed::indexed_map_written(map, out),
+            Subject::TreeSet(set) => keyed::tree_set_written(set, out),
+            Subject::HashedSet(set) => keyed::hashed_set_written(set, out),
+            Subject::IndexedSet(set) => keyed::indexed_set_written(set, out),
         }
     }
 }

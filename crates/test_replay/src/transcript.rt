@@ -39,15 +39,14 @@ impl Transcript {
     /// Writes a result, or the length and a checksum of its text, if that is long.
     pub fn told<T: Debug + Drop>(&mut self, answer: T) -> Answered {
         let text = format!(in self.alloc; "{answer:?}")?;
+        self.shortened(text.as_str())
+    }
+
+    fn shortened(&mut self, text: &str) -> Answered {
         if text.len() <= LONGEST {
-            return self.said(text.as_str());
+            return self.said(text);
         }
-        write!(
-            self.text,
-            "{} bytes, {}",
-            text.len(),
-            checksum(text.as_str())
-        )
+        write!(self.text, "{} bytes, {}", text.len(), checksum(text))
     }
 
     /// Writes a result, if there was memory for it.
