@@ -45,6 +45,7 @@ ROWS = [
     ("retain", [MAPS[0], MAPS[2], SETS[0], SETS[2]], ANY, "", CHANGES),
     ("retain", [MAPS[1], SETS[1]], PURE, "", CHANGES),
     ("first_mut last_mut", MAPS[2:], NONE, "value", CHANGES),
+    ("or_insert", MAPS[2:], NONE, "key value", CHANGES),
     ("values_mut", MAPS[:2], NONE, "value", CHANGES),
     ("into_keys into_values", MAPS[:2], NONE, "", READS),
     ("first_key_value last_key_value", MAPS[:1], NONE, "", READS),
@@ -268,6 +269,8 @@ get_index_of 6
 pop
 get_index_of 9
 insert 9 25
+or_insert 8 7
+or_insert 12 7
 indexed_map 6 24 2 26 5 23
 retain
 retain zero
@@ -365,7 +368,7 @@ remove 100000
 retain tens
 iter
 indexed_map 200000*7919
-insert 200001 7
+or_insert 200001 7
 swap_remove 100000
 shift_remove 100002
 retain tens

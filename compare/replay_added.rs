@@ -234,8 +234,9 @@ fn each_key(pairs: Vec<(Key, u32)>) -> IndexedMap {
 
 fn indexed_map(map: &mut IndexedMap, call: &Call, out: &mut Transcript) {
     let (key, value, len) = (call.key(0), call.number(1), map.len());
+    let found = place_of(map, key);
     // the place of a key that may be removed
-    let place = place_of(map, key).filter(|_| len > 1);
+    let place = found.filter(|_| len > 1);
     match call.name {
         "swap_remove" => out.told(place.map(|place| map.swap_remove(place).1)),
         "shift_remove" => out.told(place.map(|place| map.remove(place).1)),
@@ -244,6 +245,15 @@ fn indexed_map(map: &mut IndexedMap, call: &Call, out: &mut Transcript) {
         "pop" => out.told(unless_last(len, || map.pop())),
         "first_mut" => map[0].1 = call.first,
         "last_mut" => map[len - 1].1 = call.first,
+        "or_insert" => {
+            let place = found.unwrap_or_else(|| {
+                map.push((key, value));
+                len
+            });
+            let there = &mut map[place].1;
+            out.told(*there);
+            *there = there.wrapping_mul(31).wrapping_add(1);
+        }
         "retain" => {
             let mut kept = map.clone();
             kept.retain_mut(|(key, value)| keeps(call, key, value));

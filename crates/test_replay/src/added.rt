@@ -93,6 +93,12 @@ pub fn indexed_map_added(map: &mut IndexedMap, call: &Call, out: &mut Transcript
         }
         "first_mut" => Ok(*map.first_mut() = call.first),
         "last_mut" => Ok(*map.last_mut() = call.first),
+        "or_insert" => {
+            let place = map.or_insert(key, call.number(1))?;
+            let there = *place;
+            *place = there.wrapping_mul(31).wrapping_add(1);
+            out.told(there)
+        }
         _ => indexed_map_iterated(map, call, out),
     }
 }
