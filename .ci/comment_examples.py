@@ -24,7 +24,7 @@ ITERATORS = re.compile(r"^let \w+ = \w+\.(?:intersection|adjacent_runs)\(")
 def bare(code):
     """Returns code without comments, white space, and commas before a closing bracket."""
     code = re.sub(r"(?:^|(?<=\s))//.*", "", code, flags=re.M)
-    return re.sub(r",(?=[)\]}])", "", re.sub(r"\s", "", code))
+    return re.sub(r",(?=[)\]}>])", "", re.sub(r"\s", "", code))
 
 
 def split(text):
