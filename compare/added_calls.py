@@ -44,8 +44,8 @@ ROWS = [
     ("pop", [MAPS[2], SETS[2]], NONE, "", CHANGES),
     ("retain", [MAPS[0], MAPS[2], SETS[0], SETS[2]], ANY, "", CHANGES),
     ("retain", [MAPS[1], SETS[1]], PURE, "", CHANGES),
-    ("first_mut last_mut", MAPS[2:], NONE, "value", CHANGES),
     ("or_insert", MAPS[2:], NONE, "key value", CHANGES),
+    ("first_mut last_mut", MAPS[2:], NONE, "value", CHANGES),
     ("values_mut", MAPS[:2], NONE, "value", CHANGES),
     ("into_keys into_values", MAPS[:2], NONE, "", READS),
     ("first_key_value last_key_value", MAPS[:1], NONE, "", READS),
@@ -254,8 +254,9 @@ shift_remove 3
 swap_remove_entry 2
 shift_remove_entry 3
 pop
-insert 4 26
-insert 8 23
+or_insert 4 26
+or_insert 5 7
+or_insert 8 23
 swap_remove 6
 swap_remove 2
 indexed_map 2 24 4 26 6 23 8 22
@@ -269,8 +270,6 @@ get_index_of 6
 pop
 get_index_of 9
 insert 9 25
-or_insert 8 7
-or_insert 12 7
 indexed_map 6 24 2 26 5 23
 retain
 retain zero

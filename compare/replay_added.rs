@@ -133,6 +133,13 @@ fn keeps(call: &Call, key: &Key, value: &mut u32) -> bool {
     *value % 2 == 0
 }
 
+// Changes each value to one that depends on the old one and on the number.
+fn rewrite<'a>(values: impl IntoIterator<Item = &'a mut u32>, number: u32) {
+    for value in values {
+        *value = value.wrapping_mul(31).wrapping_add(number);
+    }
+}
+
 fn vector(items: &mut Vec<u32>, call: &Call, out: &mut Transcript) {
     let (len, a, b) = (items.len(), call.place, call.last as usize);
     let closure = call.closure.anew();
@@ -167,11 +174,7 @@ macro_rules! std_map {
                 let len = kept.len();
                 put_kept(map, kept, len, call, out)
             }
-            "values_mut" => {
-                for value in map.values_mut() {
-                    *value = value.wrapping_mul(31).wrapping_add(call.first);
-                }
-            }
+            "values_mut" => rewrite(map.values_mut(), call.first),
             "into_keys" => out.yielded(map.clone().into_keys()),
             "into_values" => out.yielded(map.clone().into_values()),
             "insert" => out.told(map.insert(key, value)),
@@ -234,9 +237,8 @@ fn each_key(pairs: Vec<(Key, u32)>) -> IndexedMap {
 
 fn indexed_map(map: &mut IndexedMap, call: &Call, out: &mut Transcript) {
     let (key, value, len) = (call.key(0), call.number(1), map.len());
-    let found = place_of(map, key);
     // the place of a key that may be removed
-    let place = found.filter(|_| len > 1);
+    let place = place_of(map, key).filter(|_| len > 1);
     match call.name {
         "swap_remove" => out.told(place.map(|place| map.swap_remove(place).1)),
         "shift_remove" => out.told(place.map(|place| map.remove(place).1)),
@@ -245,19 +247,18 @@ fn indexed_map(map: &mut IndexedMap, call: &Call, out: &mut Transcript) {
         "pop" => out.told(unless_last(len, || map.pop())),
         "first_mut" => map[0].1 = call.first,
         "last_mut" => map[len - 1].1 = call.first,
-        "or_insert" => {
-            let place = found.unwrap_or_else(|| {
-                map.push((key, value));
-                len
-            });
-            let there = &mut map[place].1;
-            out.told(*there);
-            *there = there.wrapping_mul(31).wrapping_add(1);
-        }
         "retain" => {
             let mut kept = map.clone();
             kept.retain_mut(|(key, value)| keeps(call, key, value));
             indexed_kept(map, kept, call, out)
+        }
+        "or_insert" => {
+            let place = place_of(map, key).unwrap_or(len);
+            if place == len {
+                map.push((key, value));
+            }
+            out.told(map[place].1);
+            rewrite([&mut map[place].1], value)
         }
         "insert" => out.told(put(map, (key, value))),
         "extend" => {

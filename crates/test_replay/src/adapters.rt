@@ -1,5 +1,5 @@
 //! Adapters, alone and over one another. The last arm of a function tries the calls of the next
-//! one.
+//! one. What takes the check long in an arm is a function of its own.
 
 use crate::call::Call;
 use crate::consumers;
@@ -14,23 +14,25 @@ use user_generic::{parted, runs_of_answers, spread, spread_pairs};
 pub fn referenced(items: &NEVec<u32>, call: &Call, out: &mut Transcript) -> Answered {
     let source = items.nonempty_iter();
     match call.name {
-        "cloned" => {
-            let cloned = source.cloned();
-            out.cloned(cloned.collect::<Result<NEVec<u32>, AllocError>>(out.alloc))
-        }
+        "cloned" => cloned(items, out),
         "copied" => out.collected(source.copied()),
         "collect_nevec" => out.collected(source),
         "collect_vec" => out.made(source.collect::<Vec<&u32>>(out.alloc)),
-        "cartesian_product" => {
-            let other = call.vector(out.alloc)?;
-            let pairs = source
-                .copied()
-                .cartesian_product(other.nonempty_iter().copied());
-            out.cloned(pairs.collect::<Result<NEVec<(u32, u32)>, AllocError>>(out.alloc))
-        }
+        "cartesian_product" => product(items, &call.vector(out.alloc)?, out),
         "all_unique" => out.made(source.copied().all_unique(out.alloc)),
         _ => alone(items.clone()?.into_nonempty_iter(), call, out),
     }
+}
+
+fn cloned(items: &NEVec<u32>, out: &mut Transcript) -> Answered {
+    let cloned = items.nonempty_iter().cloned();
+    out.cloned(cloned.collect::<Result<NEVec<u32>, AllocError>>(out.alloc))
+}
+
+fn product(items: &NEVec<u32>, other: &NEVec<u32>, out: &mut Transcript) -> Answered {
+    let others = other.nonempty_iter().copied();
+    let pairs = items.nonempty_iter().copied().cartesian_product(others);
+    out.cloned(pairs.collect::<Result<NEVec<(u32, u32)>, AllocError>>(out.alloc))
 }
 
 // Adapters of numbers.
@@ -73,33 +75,50 @@ fn peeked(source: IntoIter<u32>, call: &Call, out: &mut Transcript) -> Answered 
 
 // Adapters over one another.
 fn layered(source: IntoIter<u32>, call: &Call, out: &mut Transcript) -> Answered {
-    let of = |x: u32| call.closure.of(x);
-    let alloc = out.alloc;
     match call.name {
-        "flat_map_peekable_take_enumerate" => out.made(spread::<_, _, _, _, NEVec<(usize, u32)>>(
-            alloc,
-            source,
-            |x| [x, of(x)],
-            call.size,
-        )),
+        "flat_map_peekable_take_enumerate" => spread_alone(source, call, out),
         "zip_flat_map_peekable_take_enumerate" => {
-            let other = call.vector(alloc)?;
-            out.made(spread_pairs::<_, _, _, _, _, NEVec<(usize, u32)>>(
-                alloc,
-                source,
-                other,
-                |(x, y)| [x, of(y)],
-                call.size,
-            ))
+            spread_beside(source, call.vector(out.alloc)?, call, out)
         }
-        "map_zip_take_unzip" => {
-            let other = call.vector(alloc)?;
-            out.made::<Both>(parted(alloc, source, of, other, call.size))
+        "map_zip_take_unzip" => parted_beside(source, call.vector(out.alloc)?, call, out),
+        "map_group_by" => {
+            let of = |x: u32| call.closure.of(x);
+            out.made(runs_of_answers(out.alloc, source, of, |x| x / 2))
         }
-        "map_group_by" => out.made(runs_of_answers(alloc, source, of, |x| x / 2)),
         _ => divided(source, call, out),
     }
 }
+
+fn spread_alone(source: IntoIter<u32>, call: &Call, out: &mut Transcript) -> Answered {
+    let both = |x: u32| [x, call.closure.of(x)];
+    let made: Result<Numbered, AllocError> = spread(out.alloc, source, both, call.size);
+    out.made(made)
+}
+
+fn spread_beside(
+    source: IntoIter<u32>,
+    other: NEVec<u32>,
+    call: &Call,
+    out: &mut Transcript,
+) -> Answered {
+    let both = |(x, y): (u32, u32)| [x, call.closure.of(y)];
+    let made: Result<Numbered, AllocError> = spread_pairs(
+        out.alloc, source, other, both, call.size,
+    );
+    out.made(made)
+}
+
+fn parted_beside(
+    source: IntoIter<u32>,
+    other: NEVec<u32>,
+    call: &Call,
+    out: &mut Transcript,
+) -> Answered {
+    let of = |x: u32| call.closure.of(x);
+    out.made::<Both>(parted(out.alloc, source, of, other, call.size))
+}
+
+type Numbered = NEVec<(usize, u32)>;
 
 type Both = (NEVec<u32>, NEVec<u32>);
 
@@ -108,22 +127,31 @@ type Runs = Result<NEVec<NEVec<u32>>, AllocError>;
 // Runs of equal keys, all of them or only the first, and separators. A key's closure is called once
 // for each item drawn, so the number of its calls shows how many were drawn.
 fn divided(source: IntoIter<u32>, call: &Call, out: &mut Transcript) -> Answered {
-    let key = |x: &u32| call.closure.of(*x);
     let alloc = out.alloc;
     match call.name {
-        "group_by" => out.cloned(source.group_by(alloc, key).collect::<Runs>(alloc)),
-        "group_by_take" => {
-            let runs = source.group_by(alloc, key).take(call.size);
-            out.cloned(runs.collect::<Runs>(alloc))
-        }
+        "group_by" => grouped(source, call, out),
+        "group_by_take" => first_runs(source, call, out),
         "group_by_stopped" => stopped(source, call, out),
-        "take_runs" => out.told(take_runs(alloc, source, key, call.place)?.0),
+        "take_runs" => {
+            let key = |x: &u32| call.closure.of(*x);
+            out.told(take_runs(alloc, source, key, call.place)?.0)
+        }
         "intersperse" => {
             let items = source.intersperse(call.first);
             out.cloned(items.collect::<Result<NEVec<u32>, AllocError>>(alloc))
         }
         _ => consumers::answered(source, call, out),
     }
+}
+
+fn grouped(source: IntoIter<u32>, call: &Call, out: &mut Transcript) -> Answered {
+    let runs = source.group_by(out.alloc, |x: &u32| call.closure.of(*x));
+    out.cloned(runs.collect::<Runs>(out.alloc))
+}
+
+fn first_runs(source: IntoIter<u32>, call: &Call, out: &mut Transcript) -> Answered {
+    let runs = source.group_by(out.alloc, |x: &u32| call.closure.of(*x));
+    out.cloned(runs.take(call.size).collect::<Runs>(out.alloc))
 }
 
 // So many runs, one by one.

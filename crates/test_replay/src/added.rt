@@ -10,6 +10,7 @@ use crate::keyed::{
     tree_set_iterated,
 };
 use crate::transcript::{Answered, Transcript, put_kept};
+use std::alloc::AllocError;
 use std::fmt::Debug;
 
 // Whether a pair is kept. Its value is changed.
@@ -29,13 +30,26 @@ fn put_counted<C: Drop, E: Debug + Drop>(
     put_kept(there, out, kept)
 }
 
+// Writes the value that is there, and changes it.
+fn exchange(place: Result<&mut u32, AllocError>, number: u32, out: &mut Transcript) -> Answered {
+    let place = place?;
+    let found = *place;
+    *place = changed(found, number);
+    out.told(found)
+}
+
 // Changes each value.
 fn rewrite<'a, I: IntoIterator<Item = &'a mut u32>>(values: I, number: u32)
     requires { IsFiniteIterable I.into_iter_gives I.IntoIter.can_next I.IntoIter.remaining values }
 {
     for value in values {
-        *value = value.wrapping_mul(31).wrapping_add(number);
+        *value = changed(*value, number);
     }
+}
+
+// A value that depends on this one and on the number.
+fn changed(value: u32, number: u32) -> u32 {
+    value.wrapping_mul(31).wrapping_add(number)
 }
 
 /// Calls on a tree map.
@@ -79,7 +93,7 @@ pub fn hashed_map_added(map: &mut HashedMap, call: &Call, out: &mut Transcript) 
 
 /// Calls on an index map.
 pub fn indexed_map_added(map: &mut IndexedMap, call: &Call, out: &mut Transcript) -> Answered {
-    let key = call.key(0);
+    let (key, value) = (call.key(0), call.number(1));
     match call.name {
         "swap_remove" => out.told(map.swap_remove(&key)),
         "shift_remove" => out.told(map.shift_remove(&key)),
@@ -91,14 +105,9 @@ pub fn indexed_map_added(map: &mut IndexedMap, call: &Call, out: &mut Transcript
             let kept = all.retain(|key, value| keeps(call, key, value));
             put_counted(map, call, out, kept)
         }
+        "or_insert" => exchange(map.or_insert(key, value), value, out),
         "first_mut" => Ok(*map.first_mut() = call.first),
         "last_mut" => Ok(*map.last_mut() = call.first),
-        "or_insert" => {
-            let place = map.or_insert(key, call.number(1))?;
-            let there = *place;
-            *place = there.wrapping_mul(31).wrapping_add(1);
-            out.told(there)
-        }
         _ => indexed_map_iterated(map, call, out),
     }
 }

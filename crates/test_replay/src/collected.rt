@@ -10,8 +10,7 @@ use std::borrow::CowStr;
 use std::collections::{BTreeMap, BTreeSet, HashMap, HashSet};
 use std::path::PathBuf;
 
-/// Nothing, a result, maps and sets. Each is a function of its own, since the check follows each
-/// arm to its end with all that the function has.
+/// Nothing, a result, maps and sets.
 pub fn answered(source: IntoIter<u32>, call: &Call, out: &mut Transcript) -> Answered {
     match call.name {
         "collect_unit" => unit(source, call, out),

@@ -27,16 +27,25 @@ pub fn answered(source: IntoIter<u32>, call: &Call, out: &mut Transcript) -> Ans
 
 // Consumers that return a total.
 fn totalled(source: IntoIter<u32>, call: &Call, out: &mut Transcript) -> Answered {
-    let of = |total: u32, x| total.wrapping_mul(31).wrapping_add(call.closure.of(x));
     match call.name {
-        "fold" => out.told(source.fold(call.first, of)),
-        "reduce" => out.told(source.reduce(of)),
+        "fold" => folded(source, call, out),
+        "reduce" => reduced(source, call, out),
         "sum" => out.told(source.map(Wrapping).sum::<Wrapping<u32>>().0),
         "product" => out.told(source.map(Wrapping).product::<Wrapping<u32>>().0),
         "max" => out.told(source.max()),
         "min" => out.told(source.min()),
         _ => extreme(source, call, out),
     }
+}
+
+fn folded(source: IntoIter<u32>, call: &Call, out: &mut Transcript) -> Answered {
+    let of = |total: u32, x: u32| total.wrapping_mul(31).wrapping_add(call.closure.of(x));
+    out.told(source.fold(call.first, of))
+}
+
+fn reduced(source: IntoIter<u32>, call: &Call, out: &mut Transcript) -> Answered {
+    let of = |total: u32, x: u32| total.wrapping_mul(31).wrapping_add(call.closure.of(x));
+    out.told(source.reduce(of))
 }
 
 // Consumers that return a greatest or a least item. The items are shown with their indices, so that

@@ -81,8 +81,8 @@ enum Make {
     Written,
 }
 
-// The calls on a table. A map has `Put`, an index map `OrInsert`, a set has `Replace`, and a tree
-// does not shrink.
+// The calls on a table. A map has `Put`, an index map also `OrInsert`, a set has `Replace`, and a
+// tree does not shrink.
 #[derive(Clone, Copy, PartialEq, Eq)]
 enum Change {
     Insert,

@@ -192,10 +192,11 @@ impl Table for NEIndexMap<Key, Owner> {
     }
 
     fn change(&mut self, call: Change, item: Item) -> Result<(), AllocError> {
-        match call {
-            Change::OrInsert => self.or_insert(item.0, item.1).map(|_| ()),
-            _ => changed_map!(self, call, item),
+        if call == Change::OrInsert {
+            let (key, value) = item;
+            return self.or_insert(key, value).map(|_| ());
         }
+        changed_map!(self, call, item)
     }
 
     fn extend_by(&mut self, items: Items<'_>) -> Result<(), AllocError> {
