@@ -16,8 +16,13 @@ module _ (f g : ℕ → Option ℕ) (points : HavePoints f) (apart : AreApart f)
   just_before s e t d is also less more =
       let (u, v, there, within) =
       from (s - 1) (t, d, also, (omega (arith, less), omega (arith, less, more))) in
-      omega (arith, less, within.0, within.1,
-      apart u v s e there is (omega (arith, less, within.0)))
+      omega (
+        arith,
+        less,
+        within.0,
+        within.1,
+        apart u v s e there is (omega (arith, less, within.0)),
+      )
 
   starts : (s e : ℕ) → f s ≡ Some e → (d : ℕ) × (g s ≡ Some d)
   starts s e is =
