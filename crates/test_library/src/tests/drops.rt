@@ -42,19 +42,16 @@ fn cut_and_replaced(rt: HostRuntime) -> Result<(), Fail> {
 }
 
 #[test]
-fn split_and_swapped(rt: HostRuntime) -> Result<(), Fail> {
+fn swapped_and_extended(rt: HostRuntime) -> Result<(), Fail> {
     let token = Rc::new(rt.alloc(), 7u32)?;
     let mut items = owners(rt.alloc(), &token, 6)?;
     if items.len().get() != 6 {
         return Err(Fail::new(format_args!("other items")));
     }
     items.swap(0, 5);
-    let rest = items.split_off(of(2)?)?;
-    let split = (items.len().get(), rest.len(), left(&token));
-    drop(rest);
-    is((split, left(&token)), ((2, 4, 6), 2))?;
+    let swapped = left(&token);
     items.extend_from_slice(&[token.clone()?, token.clone()?])?;
-    is(left(&token), 4)
+    is((swapped, left(&token)), (6, 8))
 }
 
 #[test]
