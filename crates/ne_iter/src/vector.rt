@@ -3,7 +3,7 @@
 use crate::iter::{FromNonEmptyIterator, IntoNonEmptyIterator, NonEmptyIterator};
 use ne_vec::{NEVec, vector};
 use std::alloc::{AllocError, Global};
-use std::{slice, vec};
+use std::{mem, slice, vec};
 
 impl<T: Drop> FromNonEmptyIterator<T> for NEVec<T> {
     ghost use Rattle.std.specs.Prelude.{◌≡◌};
@@ -17,6 +17,13 @@ impl<T: Drop> FromNonEmptyIterator<T> for NEVec<T> {
         let items: Vec<T> = iter.into_nonempty_iter().into_iter().collect(alloc)?;
         match NEVec::try_from_vec(items) {
             Some(v) => Ok(v),
+            None => unreachable!(),
+        }
+    }
+
+    fn from_drained(alloc: Global, items: &mut Vec<T>) -> Result<NEVec<T>, AllocError> {
+        match NEVec::try_from_vec(mem::replace(items, Vec::new(alloc))) {
+            Some(items) => Ok(items),
             None => unreachable!(),
         }
     }

@@ -1,16 +1,17 @@
 //! Collecting: the trait [`FromNonEmptyIterator`], and the standard library's types that implement
 //! it: `()`, vectors and results here, texts and paths in `texts`, and maps and sets in the crate's
 //! module `keys`.
-ghost use Rattle.std.specs.Prelude.{Bool, true, List, IfOk};
+ghost use Rattle.std.specs.Prelude.{◌≡◌, ◌<◌, Bool, true, List, [], IfOk, vec_len};
 ghost use Rattle.std.specs.Iterator.{IsFiniteIterable};
 ghost use Rattle.std.specs.Result.{is_ok};
-ghost use Rattle.ne_iter.specs.Collected.{ResultsMake};
+ghost use Rattle.ne_iter.specs.Collected.{PrefixMakes, ResultsMake};
 
 mod texts;
 
 use super::{IntoNonEmptyIterator, NonEmptyIterator, Source};
 use ne_vec::NEVec;
 use std::alloc::{AllocError, Global};
+use std::mem;
 
 /// A type that can be made from one item or more.
 ///
@@ -39,6 +40,29 @@ pub trait FromNonEmptyIterator<T>: Sized {
             I.IntoNEIter.IntoIter.remaining source }
         ensures { IfOk result (λ c. (xs : List T)
             × ⟦<I as Source>⟧.reads (is_complete c) iter xs × collected xs c) };
+
+    /// Collects the items of a vector, which must have one, and leaves it empty. If vectors are
+    /// collected, they keep its memory, and nothing is allocated. The Rust crate lacks this method.
+    ///
+    /// Returns `AllocError` if the allocation fails; the items are then dropped.
+    ///
+    /// ```
+    /// let mut items = vec![in alloc; 3u32, 1, 4]?;
+    /// let list: NEVec<u32> = FromNonEmptyIterator::from_drained(alloc, &mut items)?; // [3, 1, 4]
+    /// let len = items.len(); // 0
+    /// ```
+    fn from_drained(alloc: Global, items: &mut Vec<T>) -> Result<Self, AllocError>
+    where
+        T: Drop,
+        requires { 0 < vec_len items.old }
+        ensures made { IfOk result (PrefixMakes collected is_complete items.old.items) }
+        ensures drained { items.new.items ≡ [] }
+    {
+        match NEVec::try_from_vec(mem::replace(items, Vec::new(alloc))) {
+            Some(items) => Self::from_nonempty_iter(alloc, items),
+            None => unreachable!(),
+        }
+    }
 }
 
 /// Makes nothing, but takes every item.
@@ -72,11 +96,16 @@ impl<T: Drop> FromNonEmptyIterator<T> for Vec<T> {
     ) -> Result<Vec<T>, AllocError> {
         iter.into_nonempty_iter().into_iter().collect(alloc)
     }
+
+    fn from_drained(alloc: Global, items: &mut Vec<T>) -> Result<Vec<T>, AllocError> {
+        Ok(mem::replace(items, Vec::new(alloc)))
+    }
 }
 
 /// Makes `Ok` of what the values make, or the first `Err`; no item after that is taken.
 ///
-/// The values are first collected in an [`NEVec`], which is allocated separately.
+/// The values are first collected in a vector, which is then passed to `from_drained`. So a
+/// `Result<NEVec<T>, E>` or `Result<Vec<T>, E>` is collected in one vector only.
 ///
 /// ```
 /// let items = nev![alloc; 3, 1, 4, 1, 5, 9, 2, 6]?.into_nonempty_iter();
@@ -94,16 +123,20 @@ impl<T: Drop, E: Drop, V: FromNonEmptyIterator<T>> FromNonEmptyIterator<Result<T
         iter: I,
     ) -> Result<Result<V, E>, AllocError> {
         let (first, rest) = iter.into_nonempty_iter().next();
-        let mut values = match first {
-            Ok(value) => NEVec::new(alloc, value)?,
+        let first = match first {
+            Ok(value) => value,
             Err(e) => return Ok(Err(e)),
         };
+        let mut values = Vec::new(alloc);
+        // Without memory for as many values as the hint says, the vector grows as they come.
+        let _has_room = values.reserve(rest.size_hint().0.saturating_add(1)).is_ok();
+        values.push(first)?;
         for item in rest {
             match item {
                 Ok(value) => values.push(value)?,
                 Err(e) => return Ok(Err(e)),
             }
         }
-        Ok(Ok(V::from_nonempty_iter(alloc, values)?))
+        Ok(Ok(V::from_drained(alloc, &mut values)?))
     }
 }

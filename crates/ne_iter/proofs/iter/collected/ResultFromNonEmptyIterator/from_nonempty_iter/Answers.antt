@@ -1,20 +1,19 @@
 use Rattle.ne_iter.proofs.iter.collected.ResultFromNonEmptyIterator.from_nonempty_iter.Goals as goal
-use Rattle.std.proofs.Common.{◌≡◌, List, [], ◌∷◌, ◌++◌, length, map, sym, ap, ◌∙◌, append_assoc}
-use Rattle.std.proofs.Common.{refl, true, false}
+use Rattle.std.proofs.Common.{◌≡◌, List, [], ◌∷◌, ◌++◌, map, sym, ap, ◌∙◌, append_assoc}
+use Rattle.std.proofs.Common.{refl, true, false, arith}
 use Rattle.std.proofs.lemmas.List.{map-append}
 use Rattle.std.specs.Prelude.{Result, Ok, Err}
-use Rattle.ne_vec.specs.ListLaws.{counted_prefix}
 use Rattle.ne_iter.specs.Collected.{values_or_first_err}
-use Rattle.ne_iter.proofs.PrefixesMade.{all_values, first_err_at, prefix_makes}
+use Rattle.ne_iter.proofs.PrefixesMade.{all_values, first_err_at}
 use Rattle.ne_iter.proofs.Loops.{Reads-first, Reads-left, Reads-loop}
 
 module _ {T E : Type 0} where
   -- the values so far are those of the items so far, the first one among them
-  are_values : (first : Result T E) (value : T) (begun values : List T)
-      (yielded : List (Result T E)) → first ≡ Ok value → begun ≡ value ∷ []
+  are_values : (first : Result T E) (value : T) (empty begun values : List T)
+      (yielded : List (Result T E)) → first ≡ Ok value → empty ≡ [] → begun ≡ empty ++ value ∷ []
       → map Ok values ≡ map Ok begun ++ yielded → first ∷ yielded ≡ map Ok values
-  are_values first value begun values yielded is one same = ap (λ r. r ∷ yielded) is
-      ∙ sym (same ∙ ap (λ l. map Ok l ++ yielded) one)
+  are_values first value empty begun values yielded is none one same = ap (λ r. r ∷ yielded) is
+      ∙ sym (same ∙ ap (λ l. map Ok l ++ yielded) (one ∙ ap (λ l. l ++ value ∷ []) none))
 
   -- the same, if an `Err` came then
   up_to_err : (items : List (Result T E)) (item : Result T E) (e : E) (values : List T)
@@ -47,39 +46,42 @@ returns-in-Err g c =
     )
 
 pub loop-item-preserved : goal.loop-item-preserved
-loop-item-preserved g c =
-    one_more (map Ok c.in_ok-values-in-Ok.values) c.loop-item.yielded c.in-Some.item
-    c.in-Ok-item.value c.loop-item.values c.push.new.self
-    c.in-Ok-item.is c.in_ok-push-in-Ok-item.ensures.added c.loop-item.invariant
+loop-item-preserved g c = (
+  one_more (map Ok c.push.new.self.items) c.loop-item.yielded c.in-Some.item
+      c.in-Ok-item.value c.loop-item.values.items c.push-in-Ok-item.new.self.items
+      c.in-Ok-item.is c.in_ok-push-in-Ok-item.ensures.items c.loop-item.invariant.0,
+  omega (arith, c.in_ok-push-in-Ok-item.ensures.len),
+)
 
 pub returns-in-Err-item : goal.returns-in-Err-item
 returns-in-Err-item g c =
     let from = c.next-first.ensures.first in
     let drawn = c.next-first.result.0 ∷ c.loop-item.yielded in
     let items = drawn ++ c.in-Some.item ∷ [] in
-    let ends = up_to_err drawn c.in-Some.item c.in-Err-item.e c.loop-item.values c.in-Err-item.is
-    (are_values c.next-first.result.0 c.in-Ok.value c.in_ok-values-in-Ok.values c.loop-item.values
-    c.loop-item.yielded c.in-Ok.is c.in_ok-values-in-Ok.ensures c.loop-item.invariant) in (
+    let values = c.loop-item.values.items in
+    let ends = up_to_err drawn c.in-Some.item c.in-Err-item.e values c.in-Err-item.is
+    (are_values c.next-first.result.0 c.in-Ok.value c.reserve.new.self.items c.push.new.self.items
+    values c.loop-item.yielded c.in-Ok.is
+    (c.reserve.ensures.items ∙ c.new-values.ensures.items) c.in_ok-push.ensures.items
+    c.loop-item.invariant.0) in (
       items,
       (g.met.I.IntoNonEmptyIterator.same_lists c.args.iter false items).1
           c.into_nonempty_iter.result c.into_nonempty_iter.ensures.into_nonempty_iter_gives
           (Reads-left from.0 c.loop-item.yielded c.loop-item.item-iterator c.in-Some.item
           c.next.new.self from.1 from.2 c.into_iter-item-iterator.ensures.into_iter_gives
           c.loop-item.yielded_by c.in-Some.ensures.steps),
-      (c.loop-item.values, ends, first_err_at items c.loop-item.values c.in-Err-item.e ends),
+      (values, ends, first_err_at items values c.in-Err-item.e ends),
     )
 
 pub returns : goal.returns
 returns g c =
     let from = c.next-first.ensures.first in
     let items = c.next-first.result.0 ∷ c.loop-item.yielded in
-    let made = c.in_ok-from_nonempty_iter.ensures in
-    let walk = made.1 in
-    let rest = counted_prefix walk.it made.0 (walk.made.2 ∙ sym (ap length walk.made.1)) walk.given
-    in
-    let values = c.loop-item.values in
-    let is = are_values c.next-first.result.0 c.in-Ok.value c.in_ok-values-in-Ok.values values
-    c.loop-item.yielded c.in-Ok.is c.in_ok-values-in-Ok.ensures c.loop-item.invariant in (
+    let values = c.loop-item.values.items in
+    let is = are_values c.next-first.result.0 c.in-Ok.value c.reserve.new.self.items
+    c.push.new.self.items values c.loop-item.yielded c.in-Ok.is
+    (c.reserve.ensures.items ∙ c.new-values.ensures.items) c.in_ok-push.ensures.items
+    c.loop-item.invariant.0 in (
       items,
       (g.met.I.IntoNonEmptyIterator.same_lists c.args.iter true items).1 c.into_nonempty_iter.result
           c.into_nonempty_iter.ensures.into_nonempty_iter_gives
@@ -90,7 +92,6 @@ returns g c =
         values,
         is,
         ap values_or_first_err is ∙ all_values values,
-        prefix_makes g.V.FromNonEmptyIterator.collected _ values made.0
-            g.V.FromNonEmptyIterator.is_complete (rest.0, sym walk.made.1 ∙ rest.1, rest.2) made.2,
+        c.in_ok-from_drained.ensures.made,
       ),
     )
