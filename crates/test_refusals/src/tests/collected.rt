@@ -3,7 +3,7 @@
 
 use super::{Countdown, holds, is, same, tell};
 use nonempty_collections::iter::once;
-use nonempty_collections::{IntoNonEmptyIterator, NonEmptyIterator};
+use nonempty_collections::{FromNonEmptyIterator, IntoNonEmptyIterator, NonEmptyIterator};
 use std::alloc::AllocError;
 use std::collections::{BTreeMap, BTreeSet, HashMap, HashSet};
 use std::convert::AsSlice;
@@ -115,6 +115,22 @@ fn result(rt: HostRuntime) -> Result<(), Fail> {
         return tell(&rt, "refused", call);
     };
     let text = joined.ok().ok_or("a value is lost")?;
+    holds(call, text.as_str() == "eight bytes and some more")?;
+    tell(&rt, "made", call)
+}
+
+// The text grows for each piece.
+#[test]
+fn drained(rt: HostRuntime) -> Result<(), Fail> {
+    let call = "FromNonEmptyIterator::from_drained";
+    let Ok(mut pieces) = vec![in rt.alloc(); "eight by", "tes and some more"] else {
+        return tell(&rt, "not reached", call);
+    };
+    let answer = <String as FromNonEmptyIterator<&str>>::from_drained(rt.alloc(), &mut pieces);
+    is("left", pieces.len(), 0)?;
+    let Ok(text) = answer else {
+        return tell(&rt, "refused", call);
+    };
     holds(call, text.as_str() == "eight bytes and some more")?;
     tell(&rt, "made", call)
 }
