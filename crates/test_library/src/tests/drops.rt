@@ -55,6 +55,22 @@ fn swapped_and_extended(rt: HostRuntime) -> Result<(), Fail> {
 }
 
 #[test]
+fn split_off(rt: HostRuntime) -> Result<(), Fail> {
+    let token = Rc::new(rt.alloc(), 7u32)?;
+    let mut items = owners(rt.alloc(), &token, 6)?;
+    let two = of(2)?;
+    if items.len().get() < two.get() {
+        return Err(Fail::new(format_args!("other items")));
+    }
+    let rest = items.split_off(two)?;
+    let split = left(&token);
+    drop(items);
+    let held = left(&token);
+    drop(rest);
+    is([split, held, left(&token)], [6, 4, 0])
+}
+
+#[test]
 fn kept(rt: HostRuntime) -> Result<(), Fail> {
     let token = Rc::new(rt.alloc(), 7u32)?;
     let mut turn = 0u32;
