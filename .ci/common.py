@@ -143,11 +143,18 @@ def errors_of(said):
     return re.findall(row, said, re.M)
 
 
+def unproved(folder, *words, **how):
+    """Runs `rt try` with these words in the folder of a crate. `rt` also begins a check, which only
+    gives a hint on names and takes as long as the run; here it is replaced by `true`."""
+    program = "import rtlib, sys; rtlib.RATTLE = 'true'; sys.exit(rtlib.main(*sys.argv[1:]))"
+    how["env"] = {**os.environ, "PYTHONPATH": os.path.join(kit(), "bin")}
+    return subprocess.run([sys.executable, "-c", program, "try", *words], cwd=folder, **how)
+
+
 def tested(folder, crate):
     """Returns what the tests of a crate of the scratch copy print. They are compiled, but not
     proved."""
-    how = {**QUIET, "cwd": os.path.join(folder, "crates", crate)}
-    said = subprocess.run(["rt", "try", "--test"], **how).stdout
+    said = unproved(os.path.join(folder, "crates", crate), "--test", **QUIET).stdout
     errors = errors_of(said)
     if errors or "test result: " not in said:
         stop("\n".join([f"the tests of {crate} do not run:", *errors[:9], said[-2000:]]))
@@ -163,9 +170,9 @@ def failed_tests(folder, crate):
 def printed(folder, script):
     """Returns what the program in the folder of its crate prints for this input. It is compiled,
     but not proved."""
-    how = {"cwd": folder, "capture_output": True, "text": True}
+    how = {"input": script, "capture_output": True, "text": True}
     # the interpreter would run it first, and its run with checks is slow: it is stopped at once
-    ran = subprocess.run(["rt", "try", "--steps", "1", "--seconds", "600"], input=script, **how)
+    ran = unproved(folder, "--steps", "1", "--seconds", "600", **how)
     errors = errors_of(ran.stderr)
     if errors or "runners=1" not in ran.stderr:
         said = "\n".join([*errors[:9], ran.stderr[-2000:]])
