@@ -1,11 +1,16 @@
 // The workloads of `crates/test_bench` on the Rust crate `nonempty-collections`. The port's speed
-// is compared with them. The steps and the numbers are those of the port.
+// is compared with them. The steps and the numbers are those of the port. Adapters and collecting
+// are in `bench_chains`, consumers in `bench_passes`.
+mod bench_chains;
+mod bench_passes;
+
+use indexmap::{IndexMap, IndexSet};
 use nonempty_collections::{
     IntoNonEmptyIterator, NEBTreeMap, NEBTreeSet, NEIndexMap, NEIndexSet, NEMap, NESet, NEVec,
     NonEmptyIterator, NonEmptyItertools,
 };
-use std::collections::{BTreeMap, HashMap};
-use std::hash::{BuildHasherDefault, Hasher, RandomState};
+use std::collections::{BTreeMap, BTreeSet, HashMap, HashSet};
+use std::hash::{BuildHasher, BuildHasherDefault, Hasher, RandomState};
 use std::num::NonZeroUsize;
 use std::process::ExitCode;
 
@@ -120,9 +125,15 @@ fn checksum(name: &str, n: NonZeroUsize) -> Option<u64> {
         "adjacent_runs" => adjacent_runs(n),
         "flatten" => flatten(n),
         "scan" => scan(n),
-        "hash_map" => hash_map(n),
+        "hash_map" => hash_map::<Folding>(n),
+        "hash_map_default" => hash_map::<RandomState>(n),
         "tree_map" => tree_map(n),
-        _ => return listed(name, n).or_else(|| keyed(name, n)),
+        _ => {
+            return bench_chains::checksum(name, n)
+                .or_else(|| listed(name, n))
+                .or_else(|| keyed(name, n))
+                .or_else(|| bench_passes::checksum(name, n))
+        }
     })
 }
 
@@ -130,7 +141,7 @@ fn length_and_last(items: &NEVec<u64>) -> u64 {
     mixed(items.len().get() as u64, *items.last())
 }
 
-fn combined(items: &NEVec<u64>) -> u64 {
+fn combined<'a, I: IntoIterator<Item = &'a u64>>(items: I) -> u64 {
     let mut checksum = 0u64;
     for x in items {
         checksum = mixed(checksum, *x);
@@ -189,11 +200,7 @@ fn chunks(n: NonZeroUsize) -> u64 {
 fn chain(n: NonZeroUsize) -> u64 {
     let items = scrambled(n).into_nonempty_iter();
     let kept: Vec<u64> = items.map(|x| x.wrapping_mul(3)).take(n).filter(|x| *x % 4 != 0).collect();
-    let mut checksum = 0u64;
-    for x in &kept {
-        checksum = mixed(checksum, *x);
-    }
-    checksum
+    combined(&kept)
 }
 
 fn zip_max(n: NonZeroUsize) -> u64 {
@@ -259,11 +266,7 @@ fn adjacent_runs(n: NonZeroUsize) -> u64 {
 
 fn flatten(n: NonZeroUsize) -> u64 {
     let lists = nested(n);
-    let mut checksum = 0u64;
-    for x in lists.iter().flatten() {
-        checksum = mixed(checksum, *x);
-    }
-    checksum
+    combined(lists.iter().flatten())
 }
 
 fn scan(n: NonZeroUsize) -> u64 {
@@ -279,9 +282,9 @@ fn scan(n: NonZeroUsize) -> u64 {
     checksum
 }
 
-fn hash_map(n: NonZeroUsize) -> u64 {
+fn hash_map<S: BuildHasher + Default>(n: NonZeroUsize) -> u64 {
     let items = paired(n).into_nonempty_iter();
-    let map: HashMap<u64, u64> = items.collect();
+    let map: HashMap<u64, u64, S> = items.collect();
     let mut sum = 0u64;
     for (key, value) in &map {
         sum = sum.wrapping_add(mixed(*key, *value));
@@ -505,10 +508,21 @@ fn of<M: Table, S: Bag>(step: &str, n: NonZeroUsize) -> Option<u64> {
     Some(match step {
         "insert" => inserted::<M>(n).length(),
         "collect" => M::of_all(paired(n)).length(),
-        "look_up" => look_up(&M::of_all(paired(n)), n),
+        "look_up" => {
+            let map = M::of_all(paired(n));
+            asked(n, |key| map.found(key))
+        }
+        "remove" => M::of_all(paired(n)).removed(n),
         "walk" => M::of_all(paired(n)).combined(),
         "maps" => mixed(M::of_all(paired(n)).length(), M::of_all(paired(n)).length()),
         "equal" => u64::from(M::of_all(paired(n)).is_same(&M::of_all(paired(n)))),
+        "set_rising" => S::of_all(rising(n, 3)).length(),
+        "set_collect" => numbers::<S>(n, half).length(),
+        "set_contains" => {
+            let set = numbers::<S>(n, half);
+            asked(n, |key| set.found(key))
+        }
+        "set_remove" => numbers::<S>(n, half).removed(n),
         "sets" => mixed(numbers::<S>(n, 0).length(), numbers::<S>(n, half).length()),
         "union" => numbers::<S>(n, 0).united(&numbers::<S>(n, half)),
         "set_equal" => u64::from(numbers::<S>(n, 0).is_same(&numbers::<S>(n, 0))),
@@ -524,12 +538,12 @@ fn inserted<M: Table>(n: NonZeroUsize) -> M {
     map
 }
 
-fn look_up<M: Table>(map: &M, n: NonZeroUsize) -> u64 {
+fn asked<F: FnMut(u64) -> u64>(n: NonZeroUsize, mut call: F) -> u64 {
     let mut state = 1u64;
     let mut checksum = 0u64;
     for _ in 0..n.get() {
         state = next(state);
-        checksum = mixed(checksum, map.found((state >> 11) % n.get() as u64));
+        checksum = mixed(checksum, call((state >> 11) % n.get() as u64));
     }
     checksum
 }
@@ -553,13 +567,17 @@ trait Table {
     fn length(&self) -> u64;
     fn combined(&self) -> u64;
     fn is_same(&self, other: &Self) -> bool;
+    // The Rust crate has no removals. These are those of the map inside.
+    fn removed(self, n: NonZeroUsize) -> u64;
 }
 
 trait Bag {
     fn of_all(items: NEVec<u64>) -> Self;
     fn length(&self) -> u64;
+    fn found(&self, key: u64) -> u64;
     fn united(&self, other: &Self) -> u64;
     fn is_same(&self, other: &Self) -> bool;
+    fn removed(self, n: NonZeroUsize) -> u64;
 }
 
 // Adds a pair or an item to a checksum: so that their order counts, or so that it does not.
@@ -572,7 +590,7 @@ fn in_any(checksum: u64, x: u64) -> u64 {
 }
 
 macro_rules! table {
-    ($map:ty, $one:expr, $pair:expr) => {
+    ($map:ty, $one:expr, $pair:expr, $inner:ident, $remove:ident) => {
         impl Table for $map {
             fn of_one(key: u64, value: u64) -> Self {
                 $one(key, value)
@@ -609,6 +627,10 @@ macro_rules! table {
             fn is_same(&self, other: &Self) -> bool {
                 *self == *other
             }
+            fn removed(self, n: NonZeroUsize) -> u64 {
+                let mut map = $inner::from(self);
+                asked(n, |key| (map.len() > 1).then(|| map.$remove(&key)).flatten().unwrap_or(1))
+            }
         }
     };
 }
@@ -621,24 +643,41 @@ fn pair_in_any(checksum: u64, key: u64, value: u64) -> u64 {
     checksum.wrapping_add(mixed(key, value))
 }
 
-table!(NEBTreeMap<u64, u64>, NEBTreeMap::new, pair_in_order);
-table!(NEMap<u64, u64>, NEMap::new, pair_in_any);
-table!(NEMap<u64, u64, Folding>, |k, v| NEMap::with_hasher(Folding::default(), k, v), pair_in_any);
-table!(NEIndexMap<u64, u64, RandomState>, NEIndexMap::new, pair_in_order);
+table!(NEBTreeMap<u64, u64>, NEBTreeMap::new, pair_in_order, BTreeMap, remove);
+table!(NEMap<u64, u64>, NEMap::new, pair_in_any, HashMap, remove);
+table!(
+    NEMap<u64, u64, Folding>,
+    |k, v| NEMap::with_hasher(Folding::default(), k, v),
+    pair_in_any,
+    HashMap,
+    remove
+);
+table!(
+    NEIndexMap<u64, u64, RandomState>,
+    NEIndexMap::new,
+    pair_in_order,
+    IndexMap,
+    swap_remove
+);
 table!(
     NEIndexMap<u64, u64, Folding>,
     |k, v| NEIndexMap::with_hasher(Folding::default(), k, v),
-    pair_in_order
+    pair_in_order,
+    IndexMap,
+    swap_remove
 );
 
 macro_rules! bag {
-    ($set:ty, $item:expr) => {
+    ($set:ty, $item:expr, $inner:ident, $remove:ident) => {
         impl Bag for $set {
             fn of_all(items: NEVec<u64>) -> Self {
                 items.into_nonempty_iter().collect()
             }
             fn length(&self) -> u64 {
                 self.len().get() as u64
+            }
+            fn found(&self, key: u64) -> u64 {
+                u64::from(self.contains(&key))
             }
             fn united(&self, other: &Self) -> u64 {
                 let mut checksum = 0u64;
@@ -650,12 +689,16 @@ macro_rules! bag {
             fn is_same(&self, other: &Self) -> bool {
                 *self == *other
             }
+            fn removed(self, n: NonZeroUsize) -> u64 {
+                let mut set = $inner::from(self);
+                asked(n, |key| u64::from(set.len() > 1 && set.$remove(&key)))
+            }
         }
     };
 }
 
-bag!(NEBTreeSet<u64>, in_order);
-bag!(NESet<u64>, in_any);
-bag!(NESet<u64, Folding>, in_any);
-bag!(NEIndexSet<u64>, in_order);
-bag!(NEIndexSet<u64, Folding>, in_order);
+bag!(NEBTreeSet<u64>, in_order, BTreeSet, remove);
+bag!(NESet<u64>, in_any, HashSet, remove);
+bag!(NESet<u64, Folding>, in_any, HashSet, remove);
+bag!(NEIndexSet<u64>, in_order, IndexSet, swap_remove);
+bag!(NEIndexSet<u64, Folding>, in_order, IndexSet, swap_remove);

@@ -1,4 +1,5 @@
 //! The input of the workloads: numbers of a linear congruential generator, and pairs of them.
+ghost use Rattle.std.specs.Iterator.{IsFiniteIterable};
 
 use nonempty_collections::NEVec;
 use std::alloc::{AllocError, Global};
@@ -14,6 +15,17 @@ pub fn next(state: u64) -> u64 {
 /// Adds a number to a checksum.
 pub fn mixed(checksum: u64, x: u64) -> u64 {
     checksum.wrapping_mul(31).wrapping_add(x)
+}
+
+/// The checksum of all items.
+pub fn combined<'a, I: IntoIterator<Item = &'a u64>>(items: I) -> u64
+    requires { IsFiniteIterable I.into_iter_gives I.IntoIter.can_next I.IntoIter.remaining items }
+{
+    let mut checksum = 0u64;
+    for x in items {
+        checksum = mixed(checksum, *x);
+    }
+    checksum
 }
 
 /// `n` scrambled numbers.

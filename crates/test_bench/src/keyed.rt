@@ -3,8 +3,8 @@
 
 mod kinds;
 
-use crate::input::{mixed, next, paired, scrambled};
-use kinds::{Bag, Table};
+use crate::input::{mixed, next, paired, rising, scrambled};
+use kinds::{Bag, Keyed, Table};
 use ne_laws::maps::NonEmptyMap;
 use nonempty_collections::{
     FromNonEmptyIterator, IntoNonEmptyIterator, NEBTreeMap, NEBTreeSet, NEIndexMap, NEIndexSet,
@@ -15,10 +15,8 @@ use std::num::NonZeroUsize;
 
 /// Returns what the workload of this name makes of `n` items, or `None` if none has the name.
 ///
-/// A name is the kind of the collection and the step that is measured, as in `tree_insert`. With
-/// `_default` at the end, the program in Rust uses its own default hasher; here it is the same.
+/// A name is the kind of the collection and the step that is measured, as in `tree_insert`.
 pub fn checksum(alloc: Global, name: &str, n: NonZeroUsize) -> Result<Option<u64>, AllocError> {
-    let name = name.strip_suffix("_default").unwrap_or(name);
     match name.split_once("_") {
         Some(("tree", step)) => of::<NEBTreeMap<u64, u64>, NEBTreeSet<u64>>(alloc, step, n),
         Some(("hash", step)) => of::<NEMap<u64, u64>, NESet<u64>>(alloc, step, n),
@@ -32,17 +30,36 @@ fn of<M: Table + Drop, S: Bag + Drop>(
     step: &str,
     n: NonZeroUsize,
 ) -> Result<Option<u64>, AllocError> {
-    let half = n.get() as u64 / 2;
     let checksum = match step {
         "insert" => inserted(M::singleton(alloc, (0, 0))?, alloc, n)?,
         "collect" => length(&pairs::<M>(alloc, n)?),
         "look_up" => look_up(&pairs::<M>(alloc, n)?, n),
+        "remove" => remove(pairs::<M>(alloc, n)?, n),
         "walk" => pairs::<M>(alloc, n)?.combined(),
         "maps" => mixed(
             length(&pairs::<M>(alloc, n)?),
             length(&pairs::<M>(alloc, n)?),
         ),
         "equal" => u64::from(pairs::<M>(alloc, n)? == pairs::<M>(alloc, n)?),
+        _ => return of_set::<S>(alloc, step, n),
+    };
+    Ok(Some(checksum))
+}
+
+fn of_set<S: Bag + Drop>(
+    alloc: Global,
+    step: &str,
+    n: NonZeroUsize,
+) -> Result<Option<u64>, AllocError> {
+    let half = n.get() as u64 / 2;
+    let checksum = match step {
+        "set_rising" => rising(alloc, n, 3)?
+            .into_nonempty_iter()
+            .collect::<S>(alloc)?
+            .length(),
+        "set_collect" => numbers::<S>(alloc, n, half)?.length(),
+        "set_contains" => look_up(&numbers::<S>(alloc, n, half)?, n),
+        "set_remove" => remove(numbers::<S>(alloc, n, half)?, n),
         "sets" => mixed(
             numbers::<S>(alloc, n, 0)?.length(),
             numbers::<S>(alloc, n, half)?.length(),
@@ -78,13 +95,24 @@ fn pairs<M: FromNonEmptyIterator<(u64, u64)>>(
     paired(alloc, n)?.into_nonempty_iter().collect(alloc)
 }
 
-// Looks up twice as many keys as there are, about half of them in vain.
-fn look_up<M: Table>(map: &M, n: NonZeroUsize) -> u64 {
+// Looks up as many keys as there are pairs or numbers, about half of them in vain.
+fn look_up<K: Keyed>(keys: &K, n: NonZeroUsize) -> u64 {
     let mut state = 1u64;
     let mut checksum = 0u64;
     for _ in 0..n.get() {
         state = next(state);
-        checksum = mixed(checksum, map.found((state >> 11) % n.get() as u64));
+        checksum = mixed(checksum, keys.found((state >> 11) % n.get() as u64));
+    }
+    checksum
+}
+
+// Removes the keys that `look_up` looks up.
+fn remove<K: Keyed + Drop>(mut keys: K, n: NonZeroUsize) -> u64 {
+    let mut state = 1u64;
+    let mut checksum = 0u64;
+    for _ in 0..n.get() {
+        state = next(state);
+        checksum = mixed(checksum, keys.removed((state >> 11) % n.get() as u64));
     }
     checksum
 }

@@ -5,9 +5,11 @@
 //! unused.
 #![tactic(auto)]
 
+mod chains;
 mod input;
 mod keyed;
 mod listed;
+mod passes;
 mod workloads;
 
 use std::alloc::AllocError;

@@ -1,15 +1,18 @@
 //! The workloads, each over `n` items.
-ghost use Rattle.std.specs.Iterator.{IsFiniteIterable};
 
-use crate::input::{mixed, nested, next, paired, rising, scrambled};
-use crate::{keyed, listed};
+use crate::input::{combined, mixed, nested, next, paired, rising, scrambled};
+use crate::{chains, keyed, listed, passes};
 use nonempty_collections::{IntoNonEmptyIterator, NEVec, NonEmptyIterator};
 use std::alloc::{AllocError, Global};
 use std::collections::{BTreeMap, HashMap};
 use std::num::NonZeroUsize;
 
 /// Returns what the workload of this name makes of `n` items, or `None` if none has the name.
+///
+/// With `_default` at the end of a name, the program in Rust uses its own default hasher; here it
+/// is the same.
 pub fn checksum(alloc: Global, name: &str, n: NonZeroUsize) -> Result<Option<u64>, AllocError> {
+    let name = name.strip_suffix("_default").unwrap_or(name);
     let checksum = match name {
         "scrambled" => length_and_last(&scrambled(alloc, n)?),
         "rising" => length_and_last(&rising(alloc, n, 3)?),
@@ -42,25 +45,21 @@ pub fn checksum(alloc: Global, name: &str, n: NonZeroUsize) -> Result<Option<u64
 
 // The workloads of the other modules.
 fn others(alloc: Global, name: &str, n: NonZeroUsize) -> Result<Option<u64>, AllocError> {
-    match listed::checksum(alloc, name, n)? {
+    if let Some(checksum) = chains::checksum(alloc, name, n)? {
+        return Ok(Some(checksum));
+    }
+    if let Some(checksum) = listed::checksum(alloc, name, n)? {
+        return Ok(Some(checksum));
+    }
+    match keyed::checksum(alloc, name, n)? {
         Some(checksum) => Ok(Some(checksum)),
-        None => keyed::checksum(alloc, name, n),
+        None => passes::checksum(alloc, name, n),
     }
 }
 
 // The length and the last number only, for workloads that just make the input of the others.
 fn length_and_last(items: &NEVec<u64>) -> u64 {
     mixed(items.len().get() as u64, *items.last())
-}
-
-fn combined<'a, I: IntoIterator<Item = &'a u64>>(items: I) -> u64
-    requires { IsFiniteIterable I.into_iter_gives I.IntoIter.can_next I.IntoIter.remaining items }
-{
-    let mut checksum = 0u64;
-    for x in items {
-        checksum = mixed(checksum, *x);
-    }
-    checksum
 }
 
 fn push_pop(alloc: Global, n: NonZeroUsize) -> Result<u64, AllocError> {
