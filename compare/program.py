@@ -23,7 +23,8 @@ def numbers_of(words, usage):
 
 def build(name="ne_runs", status=2):
     """Proves and builds the program of the crate of this name, and returns its path. `status` is
-    the exit status of a run without words and without input."""
+    the exit status of a run without words and without input. If rt waits for another rt that works
+    in this copy, its line that says so is printed at once."""
     crate = os.path.join(HERE, os.pardir, "crates", name)
     how = {
         "cwd": crate,
@@ -32,11 +33,15 @@ def build(name="ne_runs", status=2):
         "stderr": subprocess.PIPE,
     }
     # without words, a program that takes one prints its usage and ends with status 2
-    ran = subprocess.run(["rt", "run"], **how)
-    if ran.returncode != status or status == 2 and f"usage: {name} ".encode() not in ran.stderr:
+    said = b""
+    with subprocess.Popen(["rt", "run"], **how) as run:
+        for line in run.stderr:
+            said += line
+            if line.startswith(b"rt: waiting"):
+                print(line.decode(errors="replace"), end="", file=sys.stderr, flush=True)
+    if run.returncode != status or status == 2 and f"usage: {name} ".encode() not in said:
         sys.exit(
-            "the program is not proved, or not built:\n"
-            + ran.stderr.decode(errors="replace")[-2000:]
+            "the program is not proved, or not built:\n" + said.decode(errors="replace")[-2000:]
         )
     return os.path.abspath(os.path.join(crate, "out", name))
 
