@@ -33,6 +33,7 @@ CLAUSE = r"ensures (\w*) ?\{ (OnErr|ExtendsWithItems|IsUnchanged|IsReordered)\b"
 # have a body only in an implementation, each of which is tested.
 EXCUSED = {
     *("NESlice::clone", "Iter::clone", "NonEmptyIter::clone", "collect into ()"),
+    *(f"FromNonEmptyIterator::from_drained of {it}" for it in ("NEVec", "Vec")),
     *("FromNonEmptyIterator::from_nonempty_iter", "NonEmptyMap::put"),
 }
 
@@ -97,6 +98,8 @@ def case(head, name):
         return ITEMS.get(kind, f"{kind}::{name}")
     if trait in ("Singleton", "NonEmptyMap"):
         return f"{trait}::{name}{KINDS[kind]}"
+    if trait == "FromNonEmptyIterator" and name == "from_drained":
+        return f"{trait}::{name} of {kind}"
     if trait == "FromNonEmptyIterator":
         return "NonEmptyIterator::collect" if kind == "NEVec" else f"collect into {kind}"
     if trait == "NonEmptyArrayExt":
