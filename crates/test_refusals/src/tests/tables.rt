@@ -99,21 +99,25 @@ enum Change {
 // row tries it.
 type Row = ((Make, &'static str), (Change, &'static str));
 
+// How much memory a kind of tables takes.
+#[derive(Clone, Copy)]
+struct Needs {
+    // How many items there is room for, in a table that is made of one.
+    room: u32,
+    // A hint for which collecting requests no room: 0, or more than any memory holds.
+    hint: usize,
+    // Whether a call with an item that is there already does without memory.
+    none_again: bool,
+}
+
 // Maps and sets of items.
 trait Table: Singleton<Item = Item> + FromNonEmptyIterator<Item> + Clone + Drop {
-    // How many items there is room for, in a table that is made of one.
-    fn room() -> u32 {
-        9
-    }
-
-    // A hint for which collecting requests no room: 0, or more than any memory holds.
-    fn hint() -> usize {
-        usize::MAX
-    }
-
-    // Whether a call with an item that is there already does without memory.
-    fn takes_none_again() -> bool {
-        false
+    fn needs() -> Needs {
+        Needs {
+            room: 9,
+            hint: usize::MAX,
+            none_again: false,
+        }
     }
 
     fn make(alloc: Global, call: Make, item: Item) -> Result<Self, AllocError>;
@@ -181,8 +185,8 @@ fn changed<C: Table>(
     table: &mut C,
     change: (Change, &str),
 ) -> Result<(), Fail> {
-    let full = C::room();
-    if C::takes_none_again() && table.change(change.0, item(alloc, token, 3)?).is_err() {
+    let full = C::needs().room;
+    if C::needs().none_again && table.change(change.0, item(alloc, token, 3)?).is_err() {
         return Err(Fail::new(format_args!("{}: it is there already", change.1)));
     }
     let answer = table.change(change.0, item(alloc, token, full.wrapping_add(1))?);
@@ -200,7 +204,7 @@ fn extended<C: Table>(
     table: &mut C,
     extend: &str,
 ) -> Result<(), Fail> {
-    let full = C::room();
+    let full = C::needs().room;
     let more = Items::new(alloc, token, full.wrapping_sub(1), 4);
     let answer = table.extend_by(more);
     stands(
@@ -231,8 +235,8 @@ fn row<C: Table>(rt: &impl Print, alloc: Global, (make, call): Row) -> Result<()
     };
     let last = match call.0 {
         Change::Clone => 1,
-        Change::Extend => C::room().wrapping_sub(1),
-        _ => C::room(),
+        Change::Extend => C::needs().room.wrapping_sub(1),
+        _ => C::needs().room,
     };
     let Some(mut table) = made::<C>(rt, alloc, &token, make, last)? else {
         return tell(rt, "not reached", call.1);
@@ -249,14 +253,14 @@ fn collected<C: Table>(rt: &impl Print, alloc: Global, call: &str) -> Result<(),
     let Ok(token) = token(alloc) else {
         return tell(rt, "not reached", call);
     };
-    let mut rest = Items::new(alloc, &token, 2, C::room());
-    rest.hint = C::hint();
+    let mut rest = Items::new(alloc, &token, 2, C::needs().room);
+    rest.hint = C::needs().hint;
     let answer: Result<C, AllocError> = once(item(alloc, &token, 1)?).chain(rest).collect(alloc);
     let Ok(table) = answer else {
         owned(call, &token, 0)?;
         return tell(rt, "refused", call);
     };
-    let all = C::room().wrapping_add(1);
+    let all = C::needs().room.wrapping_add(1);
     stands(rt, call, true, &token, &table, all, all)
 }
 

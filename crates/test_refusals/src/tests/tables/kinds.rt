@@ -1,6 +1,6 @@
 //! The six types, and the rows of calls that are tried on each.
 
-use super::{Change, Item, Items, Key, Make, Owner, Row, Table, every_call};
+use super::{Change, Item, Items, Key, Make, Needs, Owner, Row, Table, every_call};
 use ne_laws::maps::NonEmptyMap;
 use nonempty_collections::{
     NEBTreeMap, NEBTreeSet, NEIndexMap, NEIndexSet, NEMap, NESet, Singleton, neim, neis, nem, nes,
@@ -72,17 +72,15 @@ macro_rules! counted_in_any_order {
 }
 
 // A node of a tree holds fifteen keys. For one more it becomes two nodes, below a third.
+const TREE: Needs = Needs {
+    room: 15,
+    hint: 0,
+    none_again: true,
+};
+
 impl Table for NEBTreeMap<Key, Owner> {
-    fn room() -> u32 {
-        15
-    }
-
-    fn hint() -> usize {
-        0
-    }
-
-    fn takes_none_again() -> bool {
-        true
+    fn needs() -> Needs {
+        TREE
     }
 
     fn make(alloc: Global, call: Make, item: Item) -> Result<Self, AllocError> {
@@ -112,16 +110,8 @@ impl Table for NEBTreeMap<Key, Owner> {
 }
 
 impl Table for NEBTreeSet<Item> {
-    fn room() -> u32 {
-        15
-    }
-
-    fn hint() -> usize {
-        0
-    }
-
-    fn takes_none_again() -> bool {
-        true
+    fn needs() -> Needs {
+        TREE
     }
 
     fn make(alloc: Global, call: Make, item: Item) -> Result<Self, AllocError> {
