@@ -1,9 +1,7 @@
 //! The examples of what can be collected, written by `.ci/examples --write`.
 ghost use Rattle.std.specs.Prelude.{◌≡◌, ◌∷◌, [], IfOk, codes, string_bytes};
 
-use nonempty_collections::{
-    FromNonEmptyIterator, IntoNonEmptyIterator, NEVec, NonEmptyIterator,
-};
+use nonempty_collections::{FromNonEmptyIterator, IntoNonEmptyIterator, NEVec, NonEmptyIterator};
 use std::alloc::{AllocError, Global};
 
 /// The example of `from_nonempty_iter`.
