@@ -16,7 +16,7 @@ README = os.path.join(os.path.dirname(os.path.abspath(__file__)), "README.md")
 # own is small. The run waits until the shell has ended, and is then a child of this process.
 START = 'exec 3<&0; (read go <&3; exec "$@" <"$0" >/dev/null 3<&-) & echo $!'
 PR_SET_CHILD_SUBREAPER = 36
-LONGEST = 20
+LONGEST = 5
 
 
 def spent(words, file):
