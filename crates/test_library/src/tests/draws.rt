@@ -94,6 +94,19 @@ fn by_peeking(rt: HostRuntime) -> Result<(), Fail> {
     is((source.next().0, draws.take()), (3, 1))
 }
 
+// The first `Err` decides, also where the values alone would have been decided before it.
+#[test]
+fn by_results_of_results(rt: HostRuntime) -> Result<(), Fail> {
+    let draws = Cell::new(0u32);
+    let late = three(&draws).map(|x| if x == 2 { Err(x) } else { Ok(Err(x)) });
+    let late: Result<Result<Vec<u32>, u32>, u32> = late.collect(rt.alloc())?;
+    is((late.err(), draws.take()), (Some(2), 2))?;
+    let none = three(&draws).map(|x| if x == 3 { Ok(Err(x)) } else { Ok(Ok(x)) });
+    let none: Result<Result<Vec<u32>, u32>, u32> = none.collect(rt.alloc())?;
+    let value = none.ok().ok_or("an error of no item")?;
+    is((value.err(), draws.get()), (Some(3), 4))
+}
+
 // An adapter draws nothing before it is called, and then no more than it has to.
 #[test]
 fn by_adapters(rt: HostRuntime) -> Result<(), Fail> {

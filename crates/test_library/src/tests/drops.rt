@@ -1,7 +1,7 @@
 //! Items that count their owners: what leaves a vector is dropped once, and nothing else is.
 
 use super::{is, of};
-use nonempty_collections::{NEVec, Singleton};
+use nonempty_collections::{IntoNonEmptyIterator, NEVec, NonEmptyIterator, Singleton};
 use std::alloc::Global;
 use std::convert::AsSlice;
 use std::rc::Rc;
@@ -142,6 +142,20 @@ fn drawn(rt: HostRuntime) -> Result<(), Fail> {
     let last = left(&token);
     drop(first);
     is([held, last, left(&token)], [4, 1, 0])
+}
+
+// An `Err` in the middle: what came before it is dropped, and so is what is not drawn.
+#[test]
+fn collected(rt: HostRuntime) -> Result<(), Fail> {
+    let token = Rc::new(rt.alloc(), 7u32)?;
+    let items = owners(rt.alloc(), &token, 5)?
+        .into_nonempty_iter()
+        .enumerate();
+    let checked = items.map(|(i, it)| if i == 2 { Err(it) } else { Ok(it) });
+    let first: Result<NEVec<Rc<u32>>, Rc<u32>> = checked.collect(rt.alloc())?;
+    let held = left(&token);
+    drop(first);
+    is([held, left(&token)], [1, 0])
 }
 
 #[test]

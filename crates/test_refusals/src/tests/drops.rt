@@ -1,8 +1,9 @@
 //! Items that count their owners: an item for which there is no room is dropped once, as are those
 //! that came before it.
 
-use super::tell;
-use nonempty_collections::{NEVec, Singleton, nev};
+use super::{Countdown, tell};
+use nonempty_collections::iter::once;
+use nonempty_collections::{NEVec, NonEmptyIterator, Singleton, nev};
 use std::alloc::{AllocError, Global};
 use std::rc::Rc;
 use std::test::Fail;
@@ -108,4 +109,16 @@ fn from_elem(rt: HostRuntime) -> Result<(), Fail> {
     drop(items);
     let answer = nev![rt.alloc(); next; 5];
     held(&rt, call, answer, &token, 5)
+}
+
+// The vector grows twice, as in the test of `collect into Result`.
+#[test]
+fn collected(rt: HostRuntime) -> Result<(), Fail> {
+    let call = "collect owners into Result";
+    let Ok(token) = Rc::new(rt.alloc(), 7) else {
+        return tell(&rt, "not reached", call);
+    };
+    let owners = once(5).chain(Countdown(5)).map(|_| token.clone());
+    let answer: Result<Result<NEVec<Rc<u32>>, AllocError>, AllocError> = owners.collect(rt.alloc());
+    held(&rt, call, answer.flatten(), &token, 6)
 }
