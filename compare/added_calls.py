@@ -11,7 +11,7 @@ from calls import ANY, CHANGES, EDGES, NONE, PURE, READS, Kind, an_item, counted
 from keyed_calls import MAPS, SETS, WALK
 
 NAME = "added"
-TWIN = "replay_added"
+REFERENCE = "replay_added"
 VECTOR = ["vector"]
 TREES = ["tree_map", "tree_set"]
 SUBJECTS = VECTOR + MAPS + SETS

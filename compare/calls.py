@@ -12,7 +12,7 @@ from program import HERE
 
 NAME = "vectors"
 # The reference implementation.
-TWIN = "replay"
+REFERENCE = "replay"
 GREATEST = 2**32 - 1
 EDGES = sorted(
     {
@@ -349,8 +349,8 @@ def long_scripts(chance):
         yield [setting(items), *a_call(chance, name, items)]
 
 
-# Worked rows of a vector's calls, at the front of the sample. Each is a small example of its call.
-ROWS = """
+# Example cases of a vector's calls, at the front of the sample.
+EXAMPLES = """
 new 7
 push 8
 from_elem 3 1
@@ -578,7 +578,7 @@ def counted(script):
 def sample():
     """Returns the example cases, then two turns of each call, and then the large calls. In a turn,
     all calls but those that make a vector are on the same vector."""
-    script = parsed(ROWS)
+    script = parsed(EXAMPLES)
     for turn, items in enumerate([(3, 1, 4, 1, 5, 9, 2, 6), (7, 7, 0, 12, 12, 35, GREATEST)]):
         is_set = False
         for name, row in CALLS.items():

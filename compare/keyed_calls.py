@@ -21,7 +21,7 @@ from calls import (
 )
 
 NAME = "keyed"
-TWIN = "replay"
+REFERENCE = "replay"
 MAPS = ["tree_map", "hashed_map", "indexed_map"]
 SETS = ["tree_set", "hashed_set", "indexed_set"]
 SUBJECTS = MAPS + SETS
@@ -320,7 +320,7 @@ def scripts(chance, count):
     }
 
 
-# Worked rows, at the front of the sample. Each is a small example of its call. Keys are even,
+# Example cases, at the front of the sample. Each is a small example of its call. Keys are even,
 # except those that equal another key by its half.
 MAP_ROWS = """
 written_two 2 10 2 12
@@ -448,7 +448,7 @@ extend 300000*7919
 
 
 def rows():
-    """Returns a script of the worked rows of each kind. For tree sets, each pair of sets of three
+    """Returns a script of the example cases of each kind. For tree sets, each pair of sets of three
     keys or fewer is compared."""
     script = []
     for subject in SUBJECTS:
@@ -519,7 +519,7 @@ def large():
 
 
 def sample():
-    """Returns the worked rows; each call on a few keys; each call on 1, 2 and 10 keys, which are in
+    """Returns the example cases; each call on a few keys; each call on 1, 2 and 10 keys, in
     scrambled order, and at last in rising and in falling order; and the large calls."""
     script = rows()
     for turn, subject in enumerate(SUBJECTS):

@@ -1,5 +1,5 @@
-"""Builds a proved program and its twin. Also holds a reference of what `ne_runs` must do, which was
-written from the description of its modes and faults alone."""
+"""Builds a proved program and its reference implementation. Also says in Python what `ne_runs` must
+do, as the description of its modes and faults has it."""
 
 import glob
 import os
@@ -46,9 +46,9 @@ def build(name="ne_runs", status=2):
     return os.path.abspath(os.path.join(crate, "out", name))
 
 
-def built_twin(folder, name):
-    """Builds a program's twin, with its modules, beside the Rust crate in this folder, and returns
-    its path."""
+def built_reference(folder, name):
+    """Builds a program's reference implementation, with its modules, beside the Rust crate in this
+    folder, and returns its path."""
     if not os.path.exists(os.path.join(folder, "Cargo.toml")):
         sys.exit(f"{folder} has no Cargo.toml: compare/README.md says how it is made")
     programs = os.path.join(folder, "src", "bin")
