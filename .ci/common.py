@@ -1,7 +1,9 @@
 """What the scripts of the gate share: reading the repository's files, making a scratch copy of
-them, checks and tests in that copy, and runs in which an allocation of what `rt ci` built fails."""
+them, checks and tests in that copy, the list of trials, and runs in which an allocation of what
+`rt ci` built fails."""
 
 import functools
+import hashlib
 import os
 import re
 import resource
@@ -21,6 +23,17 @@ CRATES = (
     *("ne_vec", "ne_iter", "ne_tree", "ne_hash", "ne_index", "ne_products"),
     *("nonempty_collections", "ne_laws"),
 )
+# The list of the trials, and its head.
+TRIED = "mutants/tried.txt"
+HEAD = """\
+# The wrong bodies that were tried last, written by `.ci/mutants` and `.ci/always-failing` after a
+# trial in which all are killed: a crate, what judges its mutants, how many there are, and the
+# checksums of what the trial read and of this with the outcomes.
+"""
+# How the line of the bodies that always report a failed allocation begins.
+PLANTED = "bodies that always fail by test_refusals"
+# Lines that are comments alone, in code, definitions and scripts of edits.
+COMMENT = re.compile(r"^ *(?://|--).*\n", re.M)
 QUIET = {
     "stdin": subprocess.DEVNULL,
     "stdout": subprocess.PIPE,
@@ -183,6 +196,41 @@ def printed(folder, script):
 def printed_by(folder, crate):
     """Returns what a program of the scratch copy prints for its stored input."""
     return printed(os.path.join(folder, "crates", crate), read(f"crates/{crate}/stdin"))
+
+
+@functools.cache
+def logic():
+    """Returns the name of the toolchain's logic."""
+    said = subprocess.run(["rt", "version"], capture_output=True, text=True, check=True).stdout
+    return re.search(r"logic \w+", said)[0]
+
+
+@functools.cache
+def texts_of(crates):
+    """Returns the texts of these crates and their files, without comments."""
+    folders = tuple(f"crates/{it}/" for it in crates)
+    found = [(it, COMMENT.sub("", read(it))) for it in files() if it.startswith(folders)]
+    return [text for pair in found for text in pair]
+
+
+def checksum(parts):
+    return hashlib.sha256("\0".join(parts).encode()).hexdigest()[:16]
+
+
+def trial(name, texts, outcomes):
+    """Returns the line of a trial that reads these texts and has these outcomes."""
+    known = checksum([logic(), *texts])
+    found = checksum([known, *outcomes])
+    return f"{name}: {len(outcomes)} killed, read {known}, outcomes {found}"
+
+
+def trials():
+    """Returns the lines of the list of the trials."""
+    return read(TRIED).splitlines() if os.path.exists(os.path.join(ROOT, TRIED)) else []
+
+
+def write_trials(lines):
+    write(os.path.join(ROOT, TRIED), HEAD + "".join(f"{it}\n" for it in lines))
 
 
 class Refusals:
