@@ -26,9 +26,9 @@ CRATES = (
 # The list of the trials, and its head.
 TRIED = "mutants/tried.txt"
 HEAD = """\
-# The wrong bodies that were tried last, written by `.ci/mutants` and `.ci/always-failing` after a
-# trial in which all are killed: a crate, what judges its mutants, how many there are, and the
-# checksums of what the trial read and of this with the outcomes.
+# The mutants that were tried last, written by `.ci/mutants` and `.ci/always-failing` after a trial
+# in which all are killed: a crate, what judges its mutants, how many there are, and the checksums
+# of what the trial read and of this with the outcomes.
 """
 # How the line of the bodies that always report a failed allocation begins.
 PLANTED = "bodies that always fail by test_refusals"
@@ -225,8 +225,9 @@ def trial(name, texts, outcomes):
 
 
 def trials():
-    """Returns the lines of the list of the trials."""
-    return read(TRIED).splitlines() if os.path.exists(os.path.join(ROOT, TRIED)) else []
+    """Returns the lines of the list of the trials, without its head."""
+    lines = read(TRIED).splitlines() if os.path.exists(os.path.join(ROOT, TRIED)) else []
+    return [it for it in lines if not it.startswith("#")]
 
 
 def write_trials(lines):
