@@ -22,7 +22,7 @@ use Rattle.indexmap.proofs.SetLemmas.{keys_insert_all}
 use Rattle.ne_index.proofs.KeyLists.{first_seen-inserts, key_list-extended, key_list-made}
 use Rattle.ne_index.proofs.KeyLists.{key_list-put}
 
--- A list is not empty if its front is not empty.
+-- A list is not empty if a prefix of it is not empty.
 longer : {K : Type 0} (ks more ls : List K) → ls ≡ ks ++ more → 0 < length ks → 0 < length ls
 longer ks more ls is some = omega (arith, some, ap length is, length-append ks more)
 

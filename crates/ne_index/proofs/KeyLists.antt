@@ -143,9 +143,9 @@ module _ {K : Type 0} (eq : K → K → Bool) where
       by false h = ap (λ l. x ∷ l) h
 
   -- The key list of a list begins with the key list of its front.
-  pub key_list-prefix : (front more : List K)
-      → key_list eq (front ++ more) ≡ key_list eq front ++ first_seen eq front more
-  key_list-prefix front more = first_seen-behind [] front more
+  pub key_list-prefix : (prefix more : List K)
+      → key_list eq (prefix ++ more) ≡ key_list eq prefix ++ first_seen eq prefix more
+  key_list-prefix prefix more = first_seen-behind [] prefix more
 
   joins : (b : Bool) (ks : List K) (k : K)
       → (if b then ks else ks ++ k ∷ []) ≡ ks ++ cond b [] (k ∷ [])

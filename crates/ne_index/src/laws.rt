@@ -82,9 +82,9 @@ pub fn index_sets_one_by_one_are_collected<T: Eq + Hash + Drop>()
 {}
 
 /// A key list holds each key of its list once and no other. The key list of a list begins with the
-/// key list of each front of the list.
+/// key list of each prefix of the list.
 pub fn key_lists_are_sets_in_order<K: Eq>()
     ensures once { (xs : List K) → IsSetOf K.eq xs (key_list K.eq xs) }
-    ensures in_order { (front more : List K) → key_list K.eq (front ++ more)
-        ≡ key_list K.eq front ++ first_seen K.eq front more }
+    ensures in_order { (prefix more : List K) → key_list K.eq (prefix ++ more)
+        ≡ key_list K.eq prefix ++ first_seen K.eq prefix more }
 {}

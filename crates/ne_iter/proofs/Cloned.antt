@@ -68,7 +68,7 @@ module _ {U V X S T : Type 0} {becomes : U → S → Type 0} {steps : S → Opti
       (map Ok xs)
   cloned_list clones infallible gives xs none same list whole ys read =
       let behind = gives whole ys read in
-      let shown = map (λ x. x.now) behind.0 in
+      let viewed = map (λ x. x.now) behind.0 in
       let all = clones_in_ok clones infallible none same behind.0 ys behind.2 in
       subst (IsPrefix whole (map Ok xs)) (sym all)
-      (map_prefix Ok whole xs shown (list whole behind.0 behind.1))
+      (map_prefix Ok whole xs viewed (list whole behind.0 behind.1))

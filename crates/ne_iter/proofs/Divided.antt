@@ -38,16 +38,16 @@ pub no_run_is_empty : {A K : Type 0} (eq : K → K → Bool) (ps : List (A × K)
 no_run_is_empty eq ps rs d = subst (AllByRecursion (λ r. r ≢ [])) (sym d.2)
     (all_some eq d.0 d.1.runs)
 
-module _ {S K A F : Type 0} (steps : S → Option A → S → Type 0) (asks : Mut F (Bor A × Unit {0}) K)
+module _ {S K A F : Type 0} (steps : S → Option A → S → Type 0) (calls : Mut F (Bor A × Unit {0}) K)
     (eq : K → K → Bool) (s : S) (f : F) where
-  pub all_drained : (rs : List (List A)) (g : Grouping S K A F) → HasRead steps asks eq s f rs g
+  pub all_drained : (rs : List (List A)) (g : Grouping S K A F) → HasRead steps calls eq s f rs g
       → IsOver g
-      → (ps : List (A × K)) × Drains steps s (items_of ps) × CallsEachAt asks f ps g.closure
+      → (ps : List (A × K)) × Drains steps s (items_of ps) × CallsEachAt calls f ps g.closure
       × DividesByKey eq ps rs
   all_drained rs g read over =
-      let stands : StandsAt steps asks eq Ended s read.drawn g.source read.runs = subst
-      (λ a. StandsAt steps asks eq a s read.drawn g.source read.runs) over read.stands in
-      (read.drawn, (g.source, stands.0), read.asked, (read.runs, stands.1, read.answered))
+      let stands : StandsAt steps calls eq Ended s read.drawn g.source read.runs = subst
+      (λ a. StandsAt steps calls eq a s read.drawn g.source read.runs) over read.stands in
+      (read.drawn, (g.source, stands.0), read.called, (read.runs, stands.1, read.returned))
 
   module _ (unique : (xs : List (A × K)) (rs others : List (List (A × K)))
       → IsDivision (by_first (same_key eq)) xs rs → IsDivision (by_first (same_key eq)) xs others
@@ -58,7 +58,7 @@ module _ {S K A F : Type 0} (steps : S → Option A → S → Type 0) (asks : Mu
       × (all ≡ rs ++ rest)) where
     -- whatever comes after the items taken, the runs returned are the first ones
     are_first : (a : Ahead K A) (t : S) (drawn : List (A × K)) (runs : List (List (A × K)))
-        (more : List (A × K)) (all : List (List (A × K))) → StandsAt steps asks eq a s drawn t runs
+        (more : List (A × K)) (all : List (List (A × K))) → StandsAt steps calls eq a s drawn t runs
         → (a ≡ Ended → more ≡ []) → IsDivision (by_first (same_key eq)) (drawn ++ more) all
         → (rest : List (List (A × K))) × (all ≡ runs ++ rest)
     are_first Unread t drawn runs more all stands none d = (all, ap (λ l. l ++ all) (sym stands.1))
@@ -70,7 +70,7 @@ module _ {S K A F : Type 0} (steps : S → Option A → S → Type 0) (asks : Mu
         ([], unique drawn all runs same stands.1 ∙ sym (append-nil runs))
 
     pub first_runs : (rs : List (List A)) (g : Grouping S K A F)
-        (read : HasRead steps asks eq s f rs g) (more : List (A × K)) (all : List (List A))
+        (read : HasRead steps calls eq s f rs g) (more : List (A × K)) (all : List (List A))
         → (IsOver g → more ≡ [])
         → DividesByKey eq (read.drawn ++ more) all → (rest : List (List A)) × (all ≡ rs ++ rest)
     first_runs rs g read more all none d =
@@ -78,10 +78,10 @@ module _ {S K A F : Type 0} (steps : S → Option A → S → Type 0) (asks : Mu
           map items_of m.0,
           d.2 ∙ (ap (map items_of) m.1
               ∙ (map-append items_of read.runs m.0
-              ∙ ap (λ l. l ++ map items_of m.0) (sym read.answered))),
+              ∙ ap (λ l. l ++ map items_of m.0) (sym read.returned))),
         )
 
-module _ {A K F : Type 0} (asks : Mut F (Bor A × Unit {0}) K) (eq : K → K → Bool) (h : A → K) where
+module _ {A K F : Type 0} (calls : Mut F (Bor A × Unit {0}) K) (eq : K → K → Bool) (h : A → K) where
   -- each item with the key that h gives for it
   abbrev pub keyed : A → A × K
   keyed x = (x, h x)
@@ -100,25 +100,26 @@ module _ {A K F : Type 0} (asks : Mut F (Bor A × Unit {0}) K) (eq : K → K →
   keyed_alike [] x = refl
   keyed_alike (y ∷ r) x = refl
 
-  pub keyed_at : (f : F) (ps : List (A × K)) (g : F) → ActsAsAt asks f h → CallsEachAt asks f ps g
+  pub keyed_at : (f : F) (ps : List (A × K)) (g : F) → ActsAsAt calls f h → CallsEachAt calls f ps g
       → ps ≡ map keyed (items_of ps)
-  keyed_at f [] g acts shown = refl
-  keyed_at f (p ∷ ps) g acts shown =
-      let one = acts p.0 p.1 shown.0 shown.1 in
+  keyed_at f [] g acts calls_made = refl
+  keyed_at f (p ∷ ps) g acts calls_made =
+      let one = acts p.0 p.1 calls_made.0 calls_made.1 in
       ap (λ k. (p.0, k) ∷ ps) one.1 ∙ ap (λ l. keyed p.0 ∷ l)
-      (keyed_at shown.0 ps g (subst (λ q. ActsAsAt asks q h) (sym one.0) acts) shown.2)
+      (keyed_at calls_made.0 ps g (subst (λ q. ActsAsAt calls q h) (sym one.0) acts) calls_made.2)
 
   pub divided_by_function : (f : F) (ps : List (A × K)) (rs : List (List A)) (g : F)
-      (others : List (List A)) → ActsAsAt asks f h → CallsEachAt asks f ps g → DividesByKey eq ps rs
+      (others : List (List A)) → ActsAsAt calls f h → CallsEachAt calls f ps g
+          → DividesByKey eq ps rs
       → IsDivision (by_first (λ a b. eq (h a) (h b))) (items_of ps) others
       → ((xs : List (A × K)) (rs others : List (List (A × K)))
       → IsDivision (by_first (same_key eq)) xs rs
       → IsDivision (by_first (same_key eq)) xs others → rs ≡ others)
       → IsDivision (by_first (same_key eq)) (map keyed (items_of ps)) (map (map keyed) others)
       → IsDivision (by_first (λ a b. eq (h a) (h b))) (items_of ps) rs
-  divided_by_function f ps rs g others acts shown d there unique mapped =
+  divided_by_function f ps rs g others acts calls_made d there unique mapped =
       let same = unique ps d.0 (map (map keyed) others) d.1
       (subst (λ l. IsDivision (by_first (same_key eq)) l (map (map keyed) others))
-      (sym (keyed_at f ps g acts shown)) mapped) in
+      (sym (keyed_at f ps g acts calls_made)) mapped) in
       subst (IsDivision (by_first (λ a b. eq (h a) (h b))) (items_of ps))
       (sym (d.2 ∙ (ap (map items_of) same ∙ runs_of_keyed others))) there

@@ -64,8 +64,8 @@ module _ {U V A S T : Type 0} {becomes : U → S → Type 0} {steps : S → Opti
     enumerate_view view xs list whole ys read =
         let behind = gives whole ys read in
         let us = behind.0 in
-        let shown = ap (map (λ p. (p.0, view p.1))) behind.2 ∙ enumerate_map view 0 us in
-        subst (IsPrefix whole (enumerate_from 0 xs)) (sym shown)
+        let viewed = ap (map (λ p. (p.0, view p.1))) behind.2 ∙ enumerate_map view 0 us in
+        subst (IsPrefix whole (enumerate_from 0 xs)) (sym viewed)
         (enumerate_prefix whole xs (map view us) (list whole us behind.1))
 
 module _ {U V A S T : Type 0} {becomes : U → S → Type 0} {steps : S → Option A → S → Type 0}
@@ -76,7 +76,7 @@ module _ {U V A S T : Type 0} {becomes : U → S → Type 0} {steps : S → Opti
       (λ view. YieldsThrough made next view.of) made next u v
   numbers_lists {next} gives = (
     (λ xs known.
-        let given = shown itself xs known in (
+        let given = viewed itself xs known in (
           triggered u xs,
           (
             read_lists made next v (enumerate_from 0 xs) (as_items (Reads made next) v
@@ -85,7 +85,7 @@ module _ {U V A S T : Type 0} {becomes : U → S → Type 0} {steps : S → Opti
           ),
         )),
     OnFalse_from view.is_itself _ (λ _ xs known.
-        let given = shown view xs known in
+        let given = viewed view xs known in
         (triggered u xs, (given, λ it m. counts_as xs it (given.1 it m)))),
   )
     where
@@ -94,9 +94,9 @@ module _ {U V A S T : Type 0} {becomes : U → S → Type 0} {steps : S → Opti
       numbers view xs known =
           enumerate_view gives view.of xs (reads_through becomes steps u view.of xs known)
 
-      shown : (view : View A) (xs : List view.Target) → Lists becomes steps view.of u xs
+      viewed : (view : View A) (xs : List view.Target) → Lists becomes steps view.of u xs
           → YieldsThrough made next (numbered view).of v (enumerate_from 0 xs)
-      shown view xs known =
+      viewed view xs known =
           through_reads made next v (numbered view).of (enumerate_from 0 xs) (numbers view xs known)
 
       -- an adapter that numbers the items of xs gives as many items

@@ -21,25 +21,26 @@ use Rattle.ne_iter.proofs.Runs.{Yields-append}
 use Rattle.ne_iter.proofs.FunctionCalls.{function_values, values_at}
 
 -- each item of xs, paired with b
-abbrev answered : {A B : Type 0} → B → List A → List (A × B)
-answered b xs = map (λ x. (x, b)) xs
+abbrev tested : {A B : Type 0} → B → List A → List (A × B)
+tested b xs = map (λ x. (x, b)) xs
 
 answered_items : {A B : Type 0} (b : B) (xs : List A) (ps : List (A × B))
-    → map (λ p. p.0) (answered b xs ++ ps) ≡ xs ++ map (λ p. p.0) ps
+    → map (λ p. p.0) (tested b xs ++ ps) ≡ xs ++ map (λ p. p.0) ps
 answered_items b [] ps = refl
 answered_items b (x ∷ xs) ps = ap (λ l. x ∷ l) (answered_items b xs ps)
 
 none_kept : {A : Type 0} (xs : List A) (ps : List (A × Bool))
-    → filter (λ p. p.1) (answered false xs ++ ps) ≡ filter (λ p. p.1) ps
+    → filter (λ p. p.1) (tested false xs ++ ps) ≡ filter (λ p. p.1) ps
 none_kept [] ps = refl
 none_kept (x ∷ xs) ps = none_kept xs ps
 
 module _ {S A F : Type 0} (steps : S → Option A → S → Type 0)
     (calls : Mut F (Bor A × Unit {0}) Bool) where
-  shown : (b : Bool) (xs : List A) (ps : List (A × Bool)) (f g h : F) → ReturnsEachAt calls b f xs g
-      → CallsEachAt calls g ps h → CallsEachAt calls f (answered b xs ++ ps) h
-  shown b [] ps f g h a c = subst (λ q. CallsEachAt calls q ps h) (sym a) c
-  shown b (x ∷ xs) ps f g h a c = (a.0, a.1, shown b xs ps a.0 g h a.2 c)
+  calls_made : (b : Bool) (xs : List A) (ps : List (A × Bool)) (f g h : F)
+      → ReturnsEachAt calls b f xs g
+      → CallsEachAt calls g ps h → CallsEachAt calls f (tested b xs ++ ps) h
+  calls_made b [] ps f g h a c = subst (λ q. CallsEachAt calls q ps h) (sym a) c
+  calls_made b (x ∷ xs) ps f g h a c = (a.0, a.1, calls_made b xs ps a.0 g h a.2 c)
 
   abbrev Sifted : Bool → Filter S F → List A → Type 0
   Sifted whole s xs = (ps : List (A × Bool)) × (g : F)
@@ -52,10 +53,10 @@ module _ {S A F : Type 0} (steps : S → Option A → S → Type 0)
       → ReturnsEachAt calls false (filter_callee s) zs f → CallsEachAt calls f ps g
       → xs ≡ map (λ p. p.0) (filter (λ p. p.1) ps) → Sifted whole s xs
   sifted_behind whole s xs zs ps f g k failed c e = (
-    answered false zs ++ ps,
+    tested false zs ++ ps,
     g,
     subst (DrainsIf steps (whole ≡ true) (filter_source s)) (sym (answered_items false zs ps)) k,
-    shown false zs ps (filter_callee s) f g failed c,
+    calls_made false zs ps (filter_callee s) f g failed c,
     e ∙ ap (map (λ p. p.0)) (sym (none_kept zs ps)),
   )
 
@@ -93,10 +94,10 @@ module _ {S A F : Type 0} (steps : S → Option A → S → Type 0)
       let p = DrainsIf-filter whole result xs
       (subst (λ q. DrainsIf (filter_steps steps calls) (whole ≡ true) q xs) h.made h.given) in
       record {
-        answered = p.0;
+        tested = p.0;
         f_then = p.1;
         read = record { it = filter_source result; made = made; given = p.2 };
-        shown = subst (λ q. CallsEachAt calls q p.0 p.1) callee p.3;
+        called = subst (λ q. CallsEachAt calls q p.0 p.1) callee p.3;
         is = p.4;
       }
 
@@ -185,7 +186,7 @@ module _ {S A B F : Type 0} (steps : S → Option A → S → Type 0)
       (subst (λ q. DrainsIf (filter_map_steps steps calls) (whole ≡ true) q ys) h.made h.given)
       in record {
         items = p.0;
-        answers = p.1;
+        results = p.1;
         f_then = p.2;
         read = record { it = filter_map_source result; made = made; given = p.3 };
         called = subst (λ q. Calls calls q p.0 p.1 p.2) callee p.4;
@@ -258,8 +259,8 @@ module _ {U V A S T : Type 0} {becomes : U → S → Type 0} {steps : S → Opti
       filter_view gives whole ys read =
           let passes : A → Bool = λ x. test (view x) in
           let parts = gives whole ys read in
-          let us = items_of parts.answered in
-          let values = values_at calls f passes parts.answered parts.f_then acts parts.shown in
+          let us = items_of parts.tested in
+          let values = values_at calls f passes parts.tested parts.f_then acts parts.called in
           let all = parts.is ∙ ap (λ ps. items_of (filter (λ p. p.1) ps)) values.0
           ∙ filter_answered passes us in
           subst (IsPrefix whole (filter test xs))
@@ -276,7 +277,7 @@ module _ {U V A S T : Type 0} {becomes : U → S → Type 0} {steps : S → Opti
         filter_mapped_view view h xs acts list whole ys read =
             let parts = gives whole ys read in
             let us = parts.items in
-            let values = function_values calls f (λ x. h (view x)) us parts.answers parts.f_then
+            let values = function_values calls f (λ x. h (view x)) us parts.results parts.f_then
             acts
             parts.called in
             let all = parts.is ∙ ap (filter_map (λ o. o)) values.0

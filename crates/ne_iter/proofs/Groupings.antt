@@ -18,11 +18,11 @@ one_more_is_some [] y = λ e. cc
 one_more_is_some (x ∷ xs) y = λ e. cc
 
 -- one item is one run
-no_later : {A : Type 0} (goes_on : List A → A → Bool) (p : A) (front : List A) (x : A)
-    (back : List A) → front ≢ [] → p ∷ [] ≡ front ++ x ∷ back → goes_on front x ≡ true
+no_later : {A : Type 0} (goes_on : List A → A → Bool) (p : A) (prefix : List A) (x : A)
+    (back : List A) → prefix ≢ [] → p ∷ [] ≡ prefix ++ x ∷ back → goes_on prefix x ≡ true
 no_later goes_on p [] x back some e = absurd (some refl)
 no_later goes_on p (y ∷ []) x back some e = cc
-no_later goes_on p (y ∷ z ∷ front) x back some e = cc
+no_later goes_on p (y ∷ z ∷ prefix) x back some e = cc
 
 pub division_of_one : {A : Type 0} (goes_on : List A → A → Bool) (p : A)
     → IsDivision goes_on (p ∷ []) ((p ∷ []) ∷ [])
@@ -35,7 +35,7 @@ division_of_one goes_on p = record {
 pub division_of_none : {A : Type 0} (goes_on : List A → A → Bool) → IsDivision goes_on [] []
 division_of_none goes_on = record { whole = refl; runs = tt; breaks = tt }
 
-module _ {S K A F : Type 0} (steps : S → Option A → S → Type 0) (asks : Mut F (Bor A × Unit {0}) K)
+module _ {S K A F : Type 0} (steps : S → Option A → S → Type 0) (calls : Mut F (Bor A × Unit {0}) K)
     (eq : K → K → Bool) where
   -- the runs that were returned, and one that was begun and has not ended yet
   pub record OpenRun (s : S) (f : F) (rs : List (List A)) (t : S) (g : F) (k : K)
@@ -44,46 +44,46 @@ module _ {S K A F : Type 0} (steps : S → Option A → S → Type 0) (asks : Mu
     pub runs : List (List (A × K))
     pub first : A
     pub later : List (A × K)
-    pub answered : rs ≡ map items_of runs
-    pub asked : CallsEachAt asks f drawn g
+    pub returned : rs ≡ map items_of runs
+    pub called : CallsEachAt calls f drawn g
     pub came : Yields steps s (items_of drawn) t
     pub division : IsDivision (by_first (same_key eq)) drawn (runs ++ ((first, k) ∷ later) ∷ [])
     pub is : run ≡ items_of ((first, k) ∷ later)
 
   module _ (s : S) (f : F) (rs : List (List A)) where
     pub open_first : (g : Grouping S K A F) (x : A) (k : K) (t : S) (f' : F)
-        → HasRead steps asks eq s f rs g → g.ahead ≡ Unread
-        → steps g.source (Some x) t → CalledAt asks g.closure x k f'
+        → HasRead steps calls eq s f rs g → g.ahead ≡ Unread
+        → steps g.source (Some x) t → CalledAt calls g.closure x k f'
         → OpenRun s f rs t f' k (x ∷ [])
     open_first g x k t f' h e step call =
-        let stands : StandsAt steps asks eq Unread s h.drawn g.source h.runs = subst
-        (λ a. StandsAt steps asks eq a s h.drawn g.source h.runs) e h.stands in
-        let fresh : CallsEachAt asks f [] g.closure = subst (λ l. CallsEachAt asks f l g.closure)
-        stands.0 h.asked in
+        let stands : StandsAt steps calls eq Unread s h.drawn g.source h.runs = subst
+        (λ a. StandsAt steps calls eq a s h.drawn g.source h.runs) e h.stands in
+        let fresh : CallsEachAt calls f [] g.closure = subst (λ l. CallsEachAt calls f l g.closure)
+        stands.0 h.called in
         record {
           drawn = (x, k) ∷ [];
           runs = [];
           first = x;
           later = [];
-          answered = h.answered ∙ ap (map items_of) stands.1;
-          asked = (f', subst (λ q. CalledAt asks q x k f') (sym fresh) call, refl);
+          returned = h.returned ∙ ap (map items_of) stands.1;
+          called = (f', subst (λ q. CalledAt calls q x k f') (sym fresh) call, refl);
           came = (t, subst (λ q. steps q (Some x) t) (sym stands.2) step, refl);
           division = division_of_one (by_first (same_key eq)) (x, k);
           is = refl;
         }
 
-    pub open_held : (g : Grouping S K A F) (x : A) (k : K) → HasRead steps asks eq s f rs g
+    pub open_held : (g : Grouping S K A F) (x : A) (k : K) → HasRead steps calls eq s f rs g
         → g.ahead ≡ Held k x → OpenRun s f rs g.source g.closure k (x ∷ [])
     open_held g x k h e =
-        let stands : StandsAt steps asks eq (Held k x) s h.drawn g.source h.runs = subst
-        (λ a. StandsAt steps asks eq a s h.drawn g.source h.runs) e h.stands in
+        let stands : StandsAt steps calls eq (Held k x) s h.drawn g.source h.runs = subst
+        (λ a. StandsAt steps calls eq a s h.drawn g.source h.runs) e h.stands in
         record {
           drawn = h.drawn;
           runs = h.runs;
           first = x;
           later = [];
-          answered = h.answered;
-          asked = h.asked;
+          returned = h.returned;
+          called = h.called;
           came = stands.1;
           division = stands.2;
           is = refl;
@@ -102,16 +102,16 @@ module _ {S K A F : Type 0} (steps : S → Option A → S → Type 0) (asks : Mu
         → IsDivision (by_first (same_key eq)) xs (runs ++ last ∷ [])
         → by_first (same_key eq) last p ≡ true
         → IsDivision (by_first (same_key eq)) (xs ++ p ∷ []) (runs ++ (last ++ p ∷ []) ∷ []))
-        → OpenRun s f rs t g k run → steps t (Some x) t' → CalledAt asks g x k' g' → eq k k' ≡ true
+        → OpenRun s f rs t g k run → steps t (Some x) t' → CalledAt calls g x k' g' → eq k k' ≡ true
         → OpenRun s f rs t' g' k (run ++ x ∷ [])
     open_more t g k run x k' t' g' goes_on o step call same = record {
       drawn = o.drawn ++ (x, k') ∷ [];
       runs = o.runs;
       first = o.first;
       later = o.later ++ (x, k') ∷ [];
-      answered = o.answered;
-      asked = FoldsTo-push {A = A × K} (λ p d q. CalledAt asks p d.0 d.1 q) f o.drawn g (x, k') g'
-          o.asked call;
+      returned = o.returned;
+      called = FoldsTo-push {A = A × K} (λ p d q. CalledAt calls p d.0 d.1 q) f o.drawn g (x, k') g'
+          o.called call;
       came = drawn_more o.drawn t x k' t' o.came step;
       division = goes_on o.drawn (x, k') o.runs ((o.first, k) ∷ o.later) o.division same;
       is = ap (λ l. l ++ x ∷ []) o.is ∙ ap (λ l. o.first ∷ l)
@@ -121,7 +121,7 @@ module _ {S K A F : Type 0} (steps : S → Option A → S → Type 0) (asks : Mu
     one_run_more : (k : K) (run : List A) (runs : List (List (A × K))) (first : A)
         (later : List (A × K)) → rs ≡ map items_of runs → run ≡ items_of ((first, k) ∷ later)
         → rs ++ run ∷ [] ≡ map items_of (runs ++ ((first, k) ∷ later) ∷ [])
-    one_run_more k run runs first later answered is = ap (λ l. l ++ run ∷ []) answered
+    one_run_more k run runs first later returned is = ap (λ l. l ++ run ∷ []) returned
         ∙ (ap (λ r. map items_of runs ++ r ∷ []) is
         ∙ sym (map-append items_of runs (((first, k) ∷ later) ∷ [])))
 
@@ -132,15 +132,15 @@ module _ {S K A F : Type 0} (steps : S → Option A → S → Type 0) (asks : Mu
         → by_first (same_key eq) last p ≡ false
         → IsDivision (by_first (same_key eq)) (xs ++ p ∷ [])
         ((runs ++ last ∷ []) ++ (p ∷ []) ∷ []))
-        → OpenRun s f rs t g k run → steps t (Some x) h.source → CalledAt asks g x k' h.closure
-        → eq k k' ≡ false → h.ahead ≡ Held k' x → HasRead steps asks eq s f (rs ++ run ∷ []) h
+        → OpenRun s f rs t g k run → steps t (Some x) h.source → CalledAt calls g x k' h.closure
+        → eq k k' ≡ false → h.ahead ≡ Held k' x → HasRead steps calls eq s f (rs ++ run ∷ []) h
     close_held t g k run x k' h breaks o step call other e = record {
       drawn = o.drawn ++ (x, k') ∷ [];
       runs = o.runs ++ ((o.first, k) ∷ o.later) ∷ [];
-      answered = one_run_more k run o.runs o.first o.later o.answered o.is;
-      asked = FoldsTo-push {A = A × K} (λ p d q. CalledAt asks p d.0 d.1 q) f o.drawn g (x, k')
-          h.closure o.asked call;
-      stands = subst (λ a. StandsAt steps asks eq a s (o.drawn ++ (x, k') ∷ []) h.source
+      returned = one_run_more k run o.runs o.first o.later o.returned o.is;
+      called = FoldsTo-push {A = A × K} (λ p d q. CalledAt calls p d.0 d.1 q) f o.drawn g (x, k')
+          h.closure o.called call;
+      stands = subst (λ a. StandsAt steps calls eq a s (o.drawn ++ (x, k') ∷ []) h.source
           (o.runs ++ ((o.first, k) ∷ o.later) ∷ [])) (sym e) (
             one_more_is_some o.runs ((o.first, k) ∷ o.later),
             drawn_more o.drawn t x k' h.source o.came step,
@@ -150,13 +150,13 @@ module _ {S K A F : Type 0} (steps : S → Option A → S → Type 0) (asks : Mu
 
     pub close_end : (t : S) (g : F) (k : K) (run : List A) (h : Grouping S K A F)
         → OpenRun s f rs t g k run → steps t None h.source → g ≡ h.closure → h.ahead ≡ Ended
-        → HasRead steps asks eq s f (rs ++ run ∷ []) h
+        → HasRead steps calls eq s f (rs ++ run ∷ []) h
     close_end t g k run h o step same e = record {
       drawn = o.drawn;
       runs = o.runs ++ ((o.first, k) ∷ o.later) ∷ [];
-      answered = one_run_more k run o.runs o.first o.later o.answered o.is;
-      asked = subst (λ q. CallsEachAt asks f o.drawn q) same o.asked;
-      stands = subst (λ a. StandsAt steps asks eq a s o.drawn h.source
+      returned = one_run_more k run o.runs o.first o.later o.returned o.is;
+      called = subst (λ q. CallsEachAt calls f o.drawn q) same o.called;
+      stands = subst (λ a. StandsAt steps calls eq a s o.drawn h.source
           (o.runs ++ ((o.first, k) ∷ o.later) ∷ [])) (sym e) ((t, o.came, step), o.division);
     }
 

@@ -39,7 +39,7 @@ module _ {S A E : Type 0} (steps : S → Option A → S → Type 0) (tries : A �
   gave : (s t : RawIntersperse S A) (x : A) (r : Option (Result A E)) → Stands s (Some x)
       → Next s r t → (r ≡ Some (Ok x)) × (drawn_from t ≡ drawn_from s) × Stands t None
   gave s t x r at st = let h = MatchOption-at_some _ _ x at.0 (MatchBool-at_false _ _ at.1 st.1) in
-      (h.answer, h.draws_none, (h.in_hand_then, h.is_on, st.0 ∙ at.2))
+      (h.returns, h.draws_none, (h.in_hand_then, h.is_on, st.0 ∙ at.2))
 
   -- no item was held
   drew : (s t : RawIntersperse S A) (r : Option (Result A E)) → Stands s None → Next s r t
@@ -170,17 +170,17 @@ module _ {A : Type 0} (E : Type 0) where
 
 module _ {A E : Type 0} (clones : A → A → Type 0) (infallible : A → Type 0) (s : A)
     (sure : infallible s) (same : (y z : A) → clones y z → z ≡ y) where
-  -- what came is the list with separators
-  all_came : (xs : List A) (zs : List (Result A E))
+  -- the items yielded are the list with separators
+  all_yielded : (xs : List A) (zs : List (Result A E))
       → Interspersed (TriesClone clones infallible s) xs zs
       → zs ≡ map Ok (interspersed s xs)
-  all_came [] zs h = h
-  all_came (x ∷ []) zs h = h
-  all_came (x ∷ y ∷ xs) zs (Ok c, more, came, is, rest) =
-      let ih = all_came (y ∷ xs) more rest in
+  all_yielded [] zs h = h
+  all_yielded (x ∷ []) zs h = h
+  all_yielded (x ∷ y ∷ xs) zs (Ok c, more, came, is, rest) =
+      let ih = all_yielded (y ∷ xs) more rest in
       let clone : c ≡ s = same s c came in
       is ∙ ap (λ d. Ok x ∷ Ok d ∷ more) clone ∙ ap (λ l. Ok x ∷ Ok s ∷ l) ih
-  all_came (x ∷ y ∷ xs) zs (Err e, more, came, is, rest) = absurd (came sure)
+  all_yielded (x ∷ y ∷ xs) zs (Err e, more, came, is, rest) = absurd (came sure)
 
 module _ {S A : Type 0} (steps : S → Option A → S → Type 0) (clones : A → A → Type 0)
     (infallible : A → Type 0) (s x : A) (rest : S) where
@@ -199,7 +199,7 @@ module _ {S A : Type 0} (steps : S → Option A → S → Type 0) (clones : A �
         λ sure same w.
             let is : zs ≡ map Ok (interspersed s (x ∷ b.0)) =
             sym (append-nil zs) ∙ ap (λ l. zs ++ l) (sym (b.4 w))
-            ∙ all_came clones infallible s sure same (x ∷ b.0) (zs ++ b.1) b.3 in (
+            ∙ all_yielded clones infallible s sure same (x ∷ b.0) (zs ++ b.1) b.3 in (
               ap (λ v. v && list_all is_ok zs) w ∙ ap (list_all is_ok) is
                   ∙ are_ok AllocError (interspersed s (x ∷ b.0)),
               is,
@@ -239,7 +239,7 @@ module _ {T E : Type 0} (came : Result T E → Type 0) (s : T)
       let whole = h.3 in
       cc
 
-  -- what came so far is a prefix of the whole list
+  -- the items yielded so far are a prefix of the whole list
   pub spaced_prefix : (whole : Bool) (xs us : List T) (more zs : List (Result T E))
       → Interspersed came us (zs ++ more) → (whole ≡ true → more ≡ [])
       → IsPrefix (whole && list_all is_ok zs) xs us

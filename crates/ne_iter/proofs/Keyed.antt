@@ -13,38 +13,41 @@ use Rattle.ne_iter.specs.Calls.{Calls, CallsEachAt}
 abbrev pub keyed : {A B : Type 0} → B × A → A × B
 keyed p = (p.1, p.0)
 
--- `asks` are the calls for the key, and `pairs` those of the closure that makes pairs. `asked`
--- gives the state of the first closure within a state of the second.
-module _ {A B F G : Type 0} (asks : Mut F (Bor A × Unit {0}) B)
-    (pairs : Mut G (A × Unit {0}) (B × A)) (asked : G → F)
+-- `key_calls` are the calls for the key, and `pairs` those of the closure that makes pairs.
+-- `key_of`
+-- returns the state of the first closure within a state of the second.
+module _ {A B F G : Type 0} (key_calls : Mut F (Bor A × Unit {0}) B)
+    (pairs : Mut G (A × Unit {0}) (B × A)) (key_of : G → F)
     (each : (f : G) (x : A) (p : B × A) (g : G) → Called pairs f (x, tt) p g
-    → (x ≡ p.1) × CalledAt asks (asked f) x p.0 (asked g)) where
+    → (x ≡ p.1) × CalledAt key_calls (key_of f) x p.0 (key_of g)) where
   -- the pairs are made of the items that came and the keys returned for them
   pub CallsEachAt-pairs : (f : G) (xs : List A) (ps : List (B × A)) (g : G) → Calls pairs f xs ps g
-      → (xs ≡ map (λ p. p.0) (map keyed ps)) × CallsEachAt asks (asked f) (map keyed ps) (asked g)
-  CallsEachAt-pairs f [] [] g e = (refl, ap asked e)
+      → (xs ≡ map (λ p. p.0) (map keyed ps))
+      × CallsEachAt key_calls (key_of f) (map keyed ps) (key_of g)
+  CallsEachAt-pairs f [] [] g e = (refl, ap key_of e)
   CallsEachAt-pairs f [] (p ∷ ps) g e = absurd e
   CallsEachAt-pairs f (x ∷ xs) [] g e = absurd e
   CallsEachAt-pairs f (x ∷ xs) (p ∷ ps) g (h, one, rest) =
       let first = each f x p h one in
       let more = CallsEachAt-pairs h xs ps g rest in
-      let at = subst (λ y. CalledAt asks (asked f) y p.0 (asked h)) first.0 first.1 in
-      ((let a = first.0 in let b = more.0 in cc), (asked h, at, more.1))
+      let at = subst (λ y. CalledAt key_calls (key_of f) y p.0 (key_of h)) first.0 first.1 in
+      ((let a = first.0 in let b = more.0 in cc), (key_of h, at, more.1))
 
-  asked_each : (f : G) (xs : List A) (g : G)
+  called_each : (f : G) (xs : List A) (g : G)
       → FoldsTo (λ p x q. (r : B × A) × Called pairs p (x, tt) r q) f xs g
-      → FoldsTo (λ p x q. (r : B) × CalledAt asks p x r q) (asked f) xs (asked g)
-  asked_each f [] g e = ap asked e
-  asked_each f (x ∷ xs) g (h, one, rest) =
-      (asked h, (one.0.0, (each f x one.0 h one.1).1), asked_each h xs g rest)
+      → FoldsTo (λ p x q. (r : B) × CalledAt key_calls p x r q) (key_of f) xs (key_of g)
+  called_each f [] g e = ap key_of e
+  called_each f (x ∷ xs) g (h, one, rest) =
+      (key_of h, (one.0.0, (each f x one.0 h one.1).1), called_each h xs g rest)
 
   -- it may be called with each item with which the key may be computed
-  pub CallableOnAll-pairs : ((f : G) (x : A) → TakesAt asks (asked f) x → Takes pairs f (x, tt))
+  pub CallableOnAll-pairs : ((f : G) (x : A)
+      → TakesAt key_calls (key_of f) x → Takes pairs f (x, tt))
       → {S : Type 0} (steps : S → Option A → S → Type 0) (it : S) (f : G)
-      → CallableOnAllAt steps asks it (asked f) → CallableOnAll steps pairs it f
+      → CallableOnAllAt steps key_calls it (key_of f) → CallableOnAll steps pairs it f
   CallableOnAll-pairs takes steps it f callable = record {
     at = λ xs t q x u run turns last.
-        takes q x (callable.at xs t (asked q) x u run (asked_each f xs q turns) last);
+        takes q x (callable.at xs t (key_of q) x u run (called_each f xs q turns) last);
   }
 
 keyed_cond : {A B : Type 0} (t : Bool) (p q : B × A)

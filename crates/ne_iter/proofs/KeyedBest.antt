@@ -26,7 +26,7 @@ use Rattle.ne_iter.proofs.Traced.{unbeaten_at, whole_run_of}
 called_at : {A B F : Type 0} (calls : Mut F (Bor A × Unit {0}) B) (f : F)
     → CallKeepsClosure calls f → (ps : List (A × B)) (g : F) → CallsEachAt calls f ps g
     → (i : ℕ) (p : A × B) → slice_get ps i ≡ Some p → CalledAt calls f p.0 p.1 f
-called_at calls f keeps [] g shown i p here = let e = here in cc
+called_at calls f keeps [] g calls_made i p here = let e = here in cc
 called_at calls f keeps ((x, y) ∷ ps) g (q, call, rest) zero p here =
     let same = keeps (call.shown, tt) y q call.called in
     subst (λ p. CalledAt calls f p.0 p.1 f) (same_Some _ _ here)
@@ -36,7 +36,7 @@ called_at calls f keeps ((x, y) ∷ ps) g (q, call, rest) (suc i) p here =
     called_at calls f keeps ps g (subst (λ q. CallsEachAt calls q ps g) same rest) i p here
 
 module _ {A B F : Type 0} (calls : Mut F (Bor A × Unit {0}) B) (f : F) (beats : B → B → Bool)
-    (ps : List (A × B)) (m : A) (k : B) (g : F) (shown : CallsEachAt calls f ps g)
+    (ps : List (A × B)) (m : A) (k : B) (g : F) (calls_made : CallsEachAt calls f ps g)
     (best : IsFirstLeast (λ p q. beats p.1 q.1) ps (m, k)) where
   is : IsBestOfList (λ p q. beats p.1 q.1) ps (m, k)
   is = best_of_list (λ p q. beats p.1 q.1) ps (m, k) best
@@ -59,7 +59,7 @@ module _ {A B F : Type 0} (calls : Mut F (Bor A × Unit {0}) B) (f : F) (beats :
     module _ (h : view.Target → B) (acts : ActsAsAt calls f (λ x. h (view.of x))) where
       -- the keys are the values of the function
       keys_are : map (λ p. p.1) ps ≡ map h zs
-      keys_are = ap (map (λ p. p.1)) (values_at calls f (λ x. h (view.of x)) ps g acts shown).0
+      keys_are = ap (map (λ p. p.1)) (values_at calls f (λ x. h (view.of x)) ps g acts calls_made).0
           ∙ map-map (λ p. p.1) (λ x. (x, h (view.of x))) (items_of ps)
           ∙ sym (map-map h view.of (items_of ps))
 
@@ -116,7 +116,7 @@ module _ {A B F : Type 0} (calls : Mut F (Bor A × Unit {0}) B) (f : F) (beats :
   at_place keeps i None here = tt
   at_place keeps i (Some p) here = (
     p.1,
-    called_at calls f keeps ps g shown i p here,
+    called_at calls f keeps ps g calls_made i p here,
     unbeaten_at (λ p q. beats p.1 q.1) ps (m, k) best.0 best.1 best.2 i (Some p) here,
   )
 
@@ -135,7 +135,7 @@ module _ {A B F : Type 0} (calls : Mut F (Bor A × Unit {0}) B) (f : F) (beats :
         ),
         λ keeps. (
           k,
-          called_at calls f keeps ps g shown best.0 (m, k) best.2,
+          called_at calls f keeps ps g calls_made best.0 (m, k) best.2,
           λ i. subst (λ o. IfSome o (λ x. (j : B) × CalledAt calls f x j f
               × (beats j k ≡ false))) (sym (slice_get-map (λ p. p.0) ps i))
               (at_place keeps i (slice_get ps i) refl),

@@ -70,8 +70,8 @@ module _ {U S A : Type 0} (becomes : U → S → Type 0) (steps : S → Option A
     peekable_list whole zs read =
         let parts = gives (peekable_first v) whole zs read in
         let same = parts.1 in
-        let front = list whole _ parts.0 in
-        (front.0, (let a = front.1 in cc), front.2)
+        let prefix = list whole _ parts.0 in
+        (prefix.0, (let a = prefix.1 in cc), prefix.2)
 
     module _ (p : Run (chain_steps once_steps steps))
         (second : chain_second p.from ≡ peekable_rest v) (fresh : chain_first_done p.from ≡ false)
@@ -85,9 +85,9 @@ module _ {U S A : Type 0} (becomes : U → S → Type 0) (steps : S → Option A
             made = (e, second, fresh, live);
             given = run_drains _ p p.from refl;
           }) in
-          let front = headed w (peekable_first v) p.whole xs p.items (list p.whole _ parts.0) in
+          let prefix = headed w (peekable_first v) p.whole xs p.items (list p.whole _ parts.0) in
           parts.1 ∙ whole_prefix (with_head w xs) (with_head w p.items)
-          (subst (λ b. IsPrefix b (with_head w xs) (with_head w p.items)) whole front)
+          (subst (λ b. IsPrefix b (with_head w xs) (with_head w p.items)) whole prefix)
 
     -- a whole run, also after the first item was changed
     pub yields_rest : YieldsRest steps (peekable_rest v) xs

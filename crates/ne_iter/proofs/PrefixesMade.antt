@@ -10,7 +10,7 @@ use Rattle.ne_iter.proofs.SourceLists.{whole_prefix}
 module _ {T V : Type 0} (collected : List T → V → Type 0) (v : V) (xs ys : List T) where
   prefix_made : (whole : Bool) → IsPrefix whole xs ys → collected ys v → MatchBool whole
       (collected xs v)
-      ((front : List T) × (more : List T) × (xs ≡ front ++ more) × collected front v)
+      ((prefix : List T) × (more : List T) × (xs ≡ prefix ++ more) × collected prefix v)
   prefix_made true f h = subst (λ l. collected l v) (whole_prefix xs ys f) h
   prefix_made false f h = (ys, f.0, f.1, h)
 

@@ -103,15 +103,15 @@ module _ {U V A S T : Type 0} {becomes : U → S → Type 0} {steps : S → Opti
         scan_view view step out xs acts list whole ys read =
             let parts = gives whole ys read in
             let us = parts.items in
-            let shown = map view us in
-            let front = list whole us parts.read in
+            let viewed = map view us in
+            let prefix = list whole us parts.read in
             let values = scanned_values calls f (λ s x. step s (view x)) (λ s x. out s (view x))
             init
             parts.state_then us ys parts.f_then acts parts.called in
             subst (IsPrefix whole (scan step out init xs))
             (sym (values.0 ∙ scan_map view step out init us))
-            (subst (λ l. IsPrefix whole (scan step out init l) (scan step out init shown))
-            (sym front.1) (scan_prefix step out init whole shown front.0 front.2))
+            (subst (λ l. IsPrefix whole (scan step out init l) (scan step out init viewed))
+            (sym prefix.1) (scan_prefix step out init whole viewed prefix.0 prefix.2))
 
 module _ {U V A S T : Type 0} {becomes : U → S → Type 0} {steps : S → Option A → S → Type 0}
     {made : V → T → Type 0} {u : U} {v : V} (view : View A) where

@@ -169,7 +169,7 @@ module _ {S A F : Type 0} (steps : S → Option A → S → Type 0)
         skipped = p.0;
         f_then = p.1;
         read = record { it = skip_while_source result; made = made; given = p.2 };
-        shown = subst (λ q. ReturnsEachAt calls true q p.0 p.1) callee p.3;
+        called = subst (λ q. ReturnsEachAt calls true q p.0 p.1) callee p.3;
         fails = p.4;
       }
 
@@ -239,12 +239,12 @@ module _ {U V A S T : Type 0} {becomes : U → S → Type 0} {steps : S → Opti
             → ReadsListThrough (Reads made next) view v (drop n xs)
         skip_view view xs list whole ys read =
             let parts = gives whole ys read in
-            let shown = map view parts.0 in
-            let front = list whole parts.0 parts.1 in
+            let viewed = map view parts.0 in
+            let prefix = list whole parts.0 parts.1 in
             subst (IsPrefix whole (drop n xs))
             (drop-map view n parts.0 ∙ sym (ap (map view) parts.2))
-            (subst (λ l. IsPrefix whole (drop n l) (drop n shown)) (sym front.1)
-            (drop_prefix n whole shown front.0 front.2))
+            (subst (λ l. IsPrefix whole (drop n l) (drop n viewed)) (sym prefix.1)
+            (drop_prefix n whole shown prefix.0 prefix.2))
 
     module _ {F : Type 0} {calls : Mut F (Bor A × Unit {0}) Bool} {f : F} {B : Type 0}
         (view : A → B) (test : B → Bool) (xs : List B)
@@ -257,7 +257,7 @@ module _ {U V A S T : Type 0} {becomes : U → S → Type 0} {steps : S → Opti
           let passes : A → Bool = λ x. test (view x) in
           let parts = gives whole ys read in
           let us = parts.skipped in
-          let passed = same_results_at calls f passes _ us parts.f_then acts parts.shown in
+          let passed = same_results_at calls f passes _ us parts.f_then acts parts.called in
           let fails = fails_test calls f passes ys acts
           (subst (λ q. FailsFirst calls q ys) passed.1 parts.fails) in
           drop_passed_prefix test whole xs (map view us) (map view ys)

@@ -154,9 +154,9 @@ pub std_yields : {T B : Type 0} {next : T → Option B → T → Type 0} (view :
     (ys : List view.Target) → ReadsListThrough (Reads (λ s it. it ≡ s) next) view.of v ys
     → StdYields next view ys v
 std_yields {next = next} view v ys list p seen from =
-    let front = list p.whole p.items
+    let prefix = list p.whole p.items
     (record { it = v; made = refl; given = run_drains next p v from }) in
-    let l = lists p view.of ys front.0 (λ w. ap length (front.2 w)) front.1 in
+    let l = lists p view.of ys prefix.0 (λ w. ap length (prefix.2 w)) prefix.1 in
     (l.4, (l.0, l.1, l.6, l.7))
 
 -- the same, if the result is an iterator of std

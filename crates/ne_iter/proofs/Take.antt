@@ -69,10 +69,10 @@ module _ {U V A S T : Type 0} {becomes : U → S → Type 0} {steps : S → Opti
             → ReadsListThrough (Reads made next) view v (take n xs)
         take_view view xs list whole ys read =
             let behind = gives whole ys read in
-            let shown = map view ys in
+            let viewed = map view ys in
             let long = sym (length-map ys view) in
-            take_prefix n whole xs shown (subst (λ len. len ≤ n) long behind.1)
-            (subst (λ len. IsPrefix (whole && ltb len n) xs shown) long (list _ ys behind.0))
+            take_prefix n whole xs viewed (subst (λ len. len ≤ n) long behind.1)
+            (subst (λ len. IsPrefix (whole && ltb len n) xs viewed) long (list _ ys behind.0))
 
 module _ {U V A S T : Type 0} {becomes : U → S → Type 0} {steps : S → Option A → S → Type 0}
     {made : V → T → Type 0} {u : U} {v : V} (view : View A) where

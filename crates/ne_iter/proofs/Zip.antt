@@ -129,9 +129,9 @@ module _ {U W V S R T A : Type 0} {becomes : U → S → Type 0} {steps : S → 
         let us = parts.items in
         let vs = parts.other_items in
         let as_many = length-map us view ∙ parts.as_many ∙ sym (length-map vs other_view) in
-        let shown = ap (map (λ p. (view p.0, other_view p.1))) parts.is
+        let viewed = ap (map (λ p. (view p.0, other_view p.1))) parts.is
         ∙ zip_map view other_view us vs in
-        subst (IsPrefix whole (zip xs ys)) (sym shown)
+        subst (IsPrefix whole (zip xs ys)) (sym viewed)
         (zip_prefix whole parts.ended parts.other_ended xs ys (map view us) (map other_view vs)
         as_many parts.one_ended (first parts.ended us parts.read)
         (second parts.other_ended vs parts.read_other))
@@ -180,15 +180,15 @@ module _ {U W V S R T A B X Y : Type 0} {becomes : U → S → Type 0}
   zips_lists view other_view = (
     pairs_of itself itself (YieldsItems made next v)
         (λ ps known. read_lists made next v ps (as_items (Reads made next) v ps known)),
-    OnFalse_from view.is_itself _ (λ _. shown view itself),
-    OnFalse_from other_view.is_itself _ (λ _. shown itself other_view),
-    OnFalse_from (view.is_itself || other_view.is_itself) _ (λ _. shown view other_view),
+    OnFalse_from view.is_itself _ (λ _. viewed view itself),
+    OnFalse_from other_view.is_itself _ (λ _. viewed itself other_view),
+    OnFalse_from (view.is_itself || other_view.is_itself) _ (λ _. viewed view other_view),
   )
     where
-      shown : (view : View A) (other_view : View B)
+      viewed : (view : View A) (other_view : View B)
           → PairsOf (Lists becomes steps view.of) (Lists meets other other_view.of)
           (BecomesList makes made' next' other_view) u w
           (YieldsThrough made next (in_pairs view other_view).of v)
-      shown view other_view = pairs_of view other_view
+      viewed view other_view = pairs_of view other_view
           (YieldsThrough made next (in_pairs view other_view).of v)
           (through_reads made next v (in_pairs view other_view).of)

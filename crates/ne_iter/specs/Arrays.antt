@@ -5,7 +5,7 @@ use Rattle.std.proofs.lemmas.List.{nil_from_length}
 use Rattle.std.specs.Array.Iter.{array_into_iter_items, array_steps}
 use Rattle.std.specs.declared.array.IntoIter.{IntoIter}
 use Rattle.ne_vec.specs.Lists.{IsPrefix, Lists, Listed}
-use Rattle.ne_vec.specs.ListLaws.{front, lists_of, triggered}
+use Rattle.ne_vec.specs.ListLaws.{is_prefix, lists_of, triggered}
 use Rattle.ne_iter.specs.declared.array.ArrayNonEmptyIterator.{ArrayNonEmptyIterator}
 
 -- the items of an array as a source
@@ -17,7 +17,7 @@ module _ {U T : Type 0} {N : ℕ} (becomes : U → IntoIter T N → Type 0) (s :
   lists : Lists becomes array_steps (λ x. x) s a
   lists = lists_of becomes array_steps s a (λ it made whole ys given.
       subst (λ l. IsPrefix whole l ys) (same it made)
-      (front array_steps array_into_iter_items (λ s t x st. st)
+      (is_prefix array_steps array_into_iter_items (λ s t x st. st)
       (λ s t st. nil_from_length (array_into_iter_items s) st.0) it ys given))
 
   pub array_gives : Listed becomes array_steps (λ x. x) s a

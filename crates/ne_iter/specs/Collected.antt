@@ -32,7 +32,7 @@ module _ {T V : Type 0} (collected : List T → V → Type 0) (is_complete : V �
   -- The items make v; if v is not complete, the first of them do.
   abbrev pub PrefixMakes : List T → V → Type 0
   PrefixMakes items v = MatchBool (is_complete v) (collected items v)
-      ((front : List T) × (more : List T) × (items ≡ front ++ more) × collected front v)
+      ((prefix : List T) × (more : List T) × (items ≡ prefix ++ more) × collected prefix v)
 
   -- The items end with the `Err`, so it is the first one of each list that begins with them.
   -- The result is `Ok` of what the values make if each item is `Ok`, and otherwise the first `Err`.

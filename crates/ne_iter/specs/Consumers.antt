@@ -76,7 +76,7 @@ pub record PicksByKey {U A K F : Type 0} (reads : Bool → U → List A → Type
   pub key : K
   pub f_then : F
   pub read : reads true source (items_of keyed)
-  pub shown : CallsEachAt calls f keyed f_then
+  pub called : CallsEachAt calls f keyed f_then
   pub is_best : best keyed (result, key)
 
 module _ {U A K F : Type 0} (reads : Bool → U → List A → Type 0)

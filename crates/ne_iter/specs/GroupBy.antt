@@ -20,8 +20,8 @@ abbrev pub and_held : {A : Type 0} → List (List A) → Option A → List (List
 and_held rs None = rs
 and_held rs (Some x) = rs ++ (x ∷ []) ∷ []
 
-module _ {U A K F : Type 0} (reads : Bool → U → List A → Type 0) (asks : Mut F (Bor A × Unit {0}) K)
-    (eq : K → K → Bool) where
+module _ {U A K F : Type 0} (reads : Bool → U → List A → Type 0)
+    (calls : Mut F (Bor A × Unit {0}) K) (eq : K → K → Bool) where
   -- f was called for the items in order, and returned their keys. If `whole` is true, the source
   -- has ended.
   -- The items taken from the source are divided by their keys into the runs rs and a held item.
@@ -31,7 +31,7 @@ module _ {U A K F : Type 0} (reads : Bool → U → List A → Type 0) (asks : M
     pub held : Option A
     pub ended : Bool
     pub read : reads ended source (items_of drawn)
-    pub asked : CallsEachAt asks f drawn closure
+    pub called : CallsEachAt calls f drawn closure
     pub divided : DividesByKey eq drawn (and_held rs held)
     -- an item is held, after a run, unless the source has ended or nothing was taken
     pub holds : MatchOption held ((ended ≡ true) ⊎ (drawn ≡ [])) (λ _. rs ≢ [])

@@ -17,7 +17,7 @@ use Rattle.ne_iter.specs.Grouping.{Grouping, Ahead, Unread, Held, Ended}
 abbrev pub IsOver : {S K A F : Type 0} → Grouping S K A F → Type 0
 IsOver g = g.ahead ≡ Ended
 
-module _ {S K A F : Type 0} (steps : S → Option A → S → Type 0) (asks : Mut F (Bor A × Unit {0}) K)
+module _ {S K A F : Type 0} (steps : S → Option A → S → Type 0) (calls : Mut F (Bor A × Unit {0}) K)
     (eq : K → K → Bool) where
   -- There are three cases: nothing was taken, or the items are divided into the runs and one more,
   -- of the item that is held, or the source has ended and the items are divided into the runs.
@@ -34,8 +34,8 @@ module _ {S K A F : Type 0} (steps : S → Option A → S → Type 0) (asks : Mu
   pub record HasRead (s : S) (f : F) (rs : List (List A)) (g : Grouping S K A F) : Type 0 where
     pub drawn : List (A × K)
     pub runs : List (List (A × K))
-    pub answered : rs ≡ map items_of runs
-    pub asked : CallsEachAt asks f drawn g.closure
+    pub returned : rs ≡ map items_of runs
+    pub called : CallsEachAt calls f drawn g.closure
     pub stands : StandsAt g.ahead s drawn g.source runs
 
   -- One call of `next` returns r, and takes the grouping from g to h.
@@ -61,13 +61,13 @@ module _ {S K A F : Type 0} (steps : S → Option A → S → Type 0) (asks : Mu
   ReturnsThen s f rs (Some (Err e) ∷ more) h = ((k : Grouping S K A F) × HasRead s f rs k)
       × IsOver h × AllByRecursion (λ a. a ≡ None) more
 
-  -- A grouping that had returned the runs `done` returned `answers` next, and is now h.
+  -- A grouping that had returned the runs `done` returned `results` next, and is now h.
   pub record ReturnsOn (s : S) (f : F) (done : List (List A))
-      (answers : List (Option (Result (List A) AllocError))) (h : Grouping S K A F) : Type 0 where
+      (results : List (Option (Result (List A) AllocError))) (h : Grouping S K A F) : Type 0 where
     pub runs : List (List A)
     -- what it returned after the runs
     pub later : List (Option (Result (List A) AllocError))
-    pub are_all : answers ≡ map (λ run. Some (Ok run)) runs ++ later
+    pub are_all : results ≡ map (λ run. Some (Ok run)) runs ++ later
     pub ended : ReturnsThen s f (done ++ runs) later h
 
 -- Unless it is over, its source can be read and ends, and its closure can be called with each item:
@@ -91,8 +91,8 @@ runs_left left g = at_most (items_ahead g.ahead (size (left g.source)))
 -- If the closure acts as a function h, g yields the runs of its source's items by h.
 abbrev pub GroupsRuns : {S K A F : Type 0} → (S → Option A → S → Type 0)
     → Mut F (Bor A × Unit {0}) K → (K → K → Bool) → Grouping S K A F → Type 0
-GroupsRuns {K = K} {A = A} steps asks eq g = EachRunFrom (GivesRun steps asks eq) g (λ p.
+GroupsRuns {K = K} {A = A} steps calls eq g = EachRunFrom (GivesRun steps calls eq) g (λ p.
     (rs : List (List A)) → p.items ≡ map Ok rs → p.whole ≡ true
     → Naming (map {B = Result (List A) AllocError} Ok rs)
     (λ _. SomeRun steps g.source (λ q. (q.whole ≡ true)
-    × ((h : A → K) → ActsAsAt asks g.closure h → IsDividedBy h eq q.items rs))))
+    × ((h : A → K) → ActsAsAt calls g.closure h → IsDividedBy h eq q.items rs))))

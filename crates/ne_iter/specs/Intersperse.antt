@@ -27,15 +27,17 @@ intersperse_rest s = s.rest
 abbrev pub intersperse_separator : {S X : Type 0} → Intersperse S X → X
 intersperse_separator s = s.separator
 
--- `came` holds for what a clone of the separator may return. zs end at the first clone that failed.
+-- `clones` holds for what a clone of the separator may return. zs end at the first clone that
+-- failed.
 -- zs are the items xs, each in `Ok`, with what cloning the separator returned between each two.
 abbrev pub Interspersed : {A E : Type 0} → (Result A E → Type 0) → List A → List (Result A E)
     → Type 0
-Interspersed came [] zs = zs ≡ []
-Interspersed came (x ∷ []) zs = zs ≡ Ok x ∷ []
-Interspersed {A} {E} came (x ∷ y ∷ xs) zs = (c : Result A E) × (more : List (Result A E)) × came c
+Interspersed clones [] zs = zs ≡ []
+Interspersed clones (x ∷ []) zs = zs ≡ Ok x ∷ []
+Interspersed {A} {E} clones (x ∷ y ∷ xs) zs = (c : Result A E) × (more : List (Result A E))
+    × clones c
     × (zs ≡ Ok x ∷ c ∷ more)
-    × MatchResult c (λ _. Interspersed came (y ∷ xs) more) (λ _. more ≡ [])
+    × MatchResult c (λ _. Interspersed clones (y ∷ xs) more) (λ _. more ≡ [])
 
 -- xs with s between each two of its items: std's `join` of lists of one item each
 abbrev pub interspersed : {A : Type 0} → A → List A → List A
@@ -90,7 +92,7 @@ module _ {S A E : Type 0} (steps : S → Option A → S → Type 0) (tries : A �
     -- The item x, which is held, is returned.
     pub record GivesHeld (s : RawIntersperse S A) (r : Option (Result A E))
         (t : RawIntersperse S A) (x : A) : Type 0 where
-      pub answer : r ≡ Some (Ok x)
+      pub returns : r ≡ Some (Ok x)
       pub draws_none : drawn_from t ≡ drawn_from s
       pub in_hand_then : in_hand t ≡ None
       pub is_on : is_over t ≡ false
@@ -136,5 +138,5 @@ module _ {S A E : Type 0} (steps : S → Option A → S → Type 0) (tries : A �
     pub HasFirst-interspersed : (s : RawIntersperse S A) (x : A) → in_hand s ≡ Some x
         → is_over s ≡ false → HasFirst (InterspersesNext steps tries) s
     HasFirst-interspersed s x hand fresh t ended =
-        let e = (MatchOption-at_some _ _ x hand (MatchBool-at_false _ _ fresh ended.1)).answer in
+        let e = (MatchOption-at_some _ _ x hand (MatchBool-at_false _ _ fresh ended.1)).returns in
         search rules

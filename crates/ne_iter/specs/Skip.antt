@@ -18,7 +18,7 @@ module _ {U A : Type 0} (reads : Bool → U → List A → Type 0) where
     pub skipped : List A
     pub f_then : F
     pub read : reads whole source (skipped ++ ys)
-    pub shown : ReturnsEachAt calls true f skipped f_then
+    pub called : ReturnsEachAt calls true f skipped f_then
     pub fails : FailsFirst calls f_then ys
 
 -- ys are the source's items but the first n.

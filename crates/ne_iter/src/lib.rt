@@ -3,9 +3,9 @@
 //! This is the part of the port of `nonempty-collections` that the crates of maps and sets build
 //! on. Its modules and the items in them have the Rust crate's names.
 //!
-//! Contracts describe a source by the items that it may give: the lists `xs` for which
-//! `reads whole source xs` holds. If `whole` is true, the source gives `xs` and ends; otherwise it
-//! may give more after `xs`. That a source gives at least one item is the law of
+//! Contracts describe a source by the items that it may yield: the lists `xs` for which
+//! `reads whole source xs` holds. If `whole` is true, the source yields `xs` and ends; otherwise it
+//! may yield more after `xs`. That a source yields at least one item is the law of
 //! [`NonEmptyIterator`].
 #![tactic(auto)]
 

@@ -11,11 +11,11 @@ use Rattle.ne_laws.specs.declared.map_calls.MapReply.{MapReply}
 
 module _ {K V : Type 0} (eq : K → K → Bool) where
   -- The call on the map es has this reply, and leaves the map fs.
-  abbrev pub Answers : List (K × V) → MapCall K V → MapReply V → List (K × V) → Type 0
-  Answers es (Insert k v) r fs = (r ≡ reply.Old (lookup (eq k) es)) × Puts eq es k v fs
-  Answers es (Write k v) r fs = (r ≡ reply.Old (lookup (eq k) es)) × Writes eq es k v fs
-  Answers es (Has k) r fs = (r ≡ reply.Has (is_some (lookup (eq k) es))) × (fs ≡ es)
-  Answers es Len r fs = (n : NonZeroUsize) × (r ≡ reply.Len n)
+  abbrev pub Replies : List (K × V) → MapCall K V → MapReply V → List (K × V) → Type 0
+  Replies es (Insert k v) r fs = (r ≡ reply.Old (lookup (eq k) es)) × Puts eq es k v fs
+  Replies es (Write k v) r fs = (r ≡ reply.Old (lookup (eq k) es)) × Writes eq es k v fs
+  Replies es (Has k) r fs = (r ≡ reply.Has (is_some (lookup (eq k) es))) × (fs ≡ es)
+  Replies es Len r fs = (n : NonZeroUsize) × (r ≡ reply.Len n)
       × (non_zero_usize_get n ≡ length es) × (fs ≡ es)
 
   -- The map es has a key, and so has each map that a call leaves.
@@ -23,7 +23,7 @@ module _ {K V : Type 0} (eq : K → K → Bool) where
   abbrev pub RunsTo : List (K × V) → List (MapCall K V) → List (MapReply V) → List (K × V) → Type 0
   RunsTo es [] rs fs = IsMap eq es × (rs ≡ []) × (fs ≡ es)
   RunsTo es (c ∷ cs) rs fs = IsMap eq es × ((r : MapReply V) × (rest : List (MapReply V))
-      × (mid : List (K × V)) × (rs ≡ r ∷ rest) × Answers es c r mid × RunsTo mid cs rest fs)
+      × (mid : List (K × V)) × (rs ≡ r ∷ rest) × Replies es c r mid × RunsTo mid cs rest fs)
 
   -- A prefix of the calls cs was made, and no others.
   abbrev pub RunsSome : List (K × V) → List (MapCall K V) → List (K × V) → Type 0

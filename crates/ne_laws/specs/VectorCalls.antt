@@ -26,16 +26,16 @@ module _ {T : Type 0} where
       × (1 < length v → length v ≤ i → (r ≡ reply.Refused) × (w ≡ v))
 
   -- The call on the list v has this reply, and leaves the list w.
-  abbrev pub Answers : List T → VecCall T → VecReply T → List T → Type 0
-  Answers v (Push x) r w = (r ≡ reply.Done) × (w ≡ v ++ x ∷ [])
-  Answers v Pop r w = Takes v r w (λ x. v ≡ w ++ x ∷ [])
-  Answers v (Remove i) r w = TakesAt v i r w (λ _. w ≡ remove v i)
-  Answers v (SwapRemove i) r w = TakesAt v i r w (λ x. w ≡ swap_remove v i x)
-  Answers v (Insert i x) r w = (i ≤ length v → (r ≡ reply.Done) × (w ≡ insert v i x))
+  abbrev pub Replies : List T → VecCall T → VecReply T → List T → Type 0
+  Replies v (Push x) r w = (r ≡ reply.Done) × (w ≡ v ++ x ∷ [])
+  Replies v Pop r w = Takes v r w (λ x. v ≡ w ++ x ∷ [])
+  Replies v (Remove i) r w = TakesAt v i r w (λ _. w ≡ remove v i)
+  Replies v (SwapRemove i) r w = TakesAt v i r w (λ x. w ≡ swap_remove v i x)
+  Replies v (Insert i x) r w = (i ≤ length v → (r ≡ reply.Done) × (w ≡ insert v i x))
       × (length v < i → (r ≡ reply.Refused) × (w ≡ v))
-  Answers v (Truncate n) r w = (r ≡ reply.Done) × (w ≡ take (non_zero_usize_get n) v)
-  Answers v Reverse r w = (r ≡ reply.Done) × (w ≡ reverse v)
-  Answers v Len r w = (n : NonZeroUsize) × (r ≡ reply.Len n)
+  Replies v (Truncate n) r w = (r ≡ reply.Done) × (w ≡ take (non_zero_usize_get n) v)
+  Replies v Reverse r w = (r ≡ reply.Done) × (w ≡ reverse v)
+  Replies v Len r w = (n : NonZeroUsize) × (r ≡ reply.Len n)
       × (non_zero_usize_get n ≡ length v) × (w ≡ v)
 
   -- The list v has an item, and so has each list that a call leaves.
@@ -43,7 +43,7 @@ module _ {T : Type 0} where
   abbrev pub RunsTo : List T → List (VecCall T) → List (VecReply T) → List T → Type 0
   RunsTo v [] rs w = (0 < length v) × (rs ≡ []) × (w ≡ v)
   RunsTo v (c ∷ cs) rs w = (0 < length v) × ((r : VecReply T) × (rest : List (VecReply T))
-      × (mid : List T) × (rs ≡ r ∷ rest) × Answers v c r mid × RunsTo mid cs rest w)
+      × (mid : List T) × (rs ≡ r ∷ rest) × Replies v c r mid × RunsTo mid cs rest w)
 
   -- A prefix of the calls cs was made, and no others.
   abbrev pub RunsSome : List T → List (VecCall T) → List T → Type 0

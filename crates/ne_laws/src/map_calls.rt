@@ -1,6 +1,6 @@
 //! A list of calls on a map, made one after another.
 ghost use Rattle.std.specs.Prelude.{◌≡◌, length, IfOk, OnErr};
-ghost use Rattle.ne_laws.specs.MapCalls.{Answers, RunsSome, RunsTo};
+ghost use Rattle.ne_laws.specs.MapCalls.{Replies, RunsSome, RunsTo};
 ghost use Rattle.ne_laws.specs.Maps.{IsMap};
 
 use crate::maps::NonEmptyMap;
@@ -34,8 +34,8 @@ pub enum MapReply<V> {
 /// Makes the calls in order, and returns a reply for each. The map has a key before and after each
 /// call, whatever the calls are.
 ///
-/// Returns `AllocError` if an allocation for a key or for the replies fails. Only the calls at the
-/// front were then made; the other calls and the replies are dropped.
+/// Returns `AllocError` if an allocation for a key or for the replies fails. Only the first calls
+/// were then made; the other calls and the replies are dropped.
 ///
 /// On `{1: 'a'}`, the calls `Insert(2, 'b')`, `Write(1, 'c')` and `Write(3, 'z')` have the replies
 /// `Old(None)`, `Old(Some('a'))` and `Old(None)`, and leave `{1: 'c', 2: 'b'}`.
@@ -63,19 +63,19 @@ pub fn run_map<K: Eq + Drop, V: Drop, M: NonEmptyMap<K, V>>(
     let _size = m.size();
     let mut replies = Vec::new(alloc);
     for call in calls {
-        let reply = answer(m, call)?;
+        let reply = reply_to(m, call)?;
         replies.push(reply)?;
     }
     Ok(replies)
 }
 
 // Makes one call.
-fn answer<K: Eq + Drop, V: Drop, M: NonEmptyMap<K, V>>(
+fn reply_to<K: Eq + Drop, V: Drop, M: NonEmptyMap<K, V>>(
     m: &mut M,
     call: MapCall<K, V>,
 ) -> Result<MapReply<V>, AllocError>
     requires { IsMap K.eq (M.entries m.old) }
-    ensures step { IfOk result (λ reply. Answers K.eq (M.entries m.old) call reply
+    ensures step { IfOk result (λ reply. Replies K.eq (M.entries m.old) call reply
         (M.entries m.new)) }
     ensures unchanged { OnErr result (M.entries m.new ≡ M.entries m.old) }
     ensures map { IsMap K.eq (M.entries m.new) }

@@ -9,9 +9,9 @@ use nonempty_collections::laws::groupings_stand_at_any_moment;
 use nonempty_collections::{NEVec, NonEmptyIterator};
 use std::alloc::{AllocError, Global};
 
-/// Returns the first `k` runs of `iter` by the keys that `key` returns, and the reader, which gives
-/// the runs that follow. If there are fewer runs, all of them are returned, and the reader returns
-/// `None` from then on.
+/// Returns the first `k` runs of `iter` by the keys that `key` returns, and the reader, which
+/// yields the runs that follow. If there are fewer runs, all of them are returned, and the reader
+/// returns `None` from then on.
 ///
 /// The runs are those of [`group_by`](NonEmptyIterator::group_by): an item continues a run if its
 /// key equals that of the run's first item. `key` is called once for each item that is drawn, in

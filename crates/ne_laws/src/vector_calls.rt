@@ -1,6 +1,6 @@
 //! A list of calls on a vector, made one after another.
 ghost use Rattle.std.specs.Prelude.{◌≡◌, ◌<◌, length, IfOk, OnErr};
-ghost use Rattle.ne_laws.specs.VectorCalls.{Answers, RunsSome, RunsTo};
+ghost use Rattle.ne_laws.specs.VectorCalls.{Replies, RunsSome, RunsTo};
 
 use nonempty_collections::NEVec;
 use std::alloc::{AllocError, Global};
@@ -44,8 +44,8 @@ pub enum VecReply<T> {
 /// Makes the calls in order, and returns a reply for each. The vector has an item before and after
 /// each call, whatever the calls are.
 ///
-/// Returns `AllocError` if an allocation for an item or for the replies fails. Only the calls at
-/// the front were then made; the other calls and the replies are dropped.
+/// Returns `AllocError` if an allocation for an item or for the replies fails. Only the first calls
+/// were then made; the other calls and the replies are dropped.
 ///
 /// On `[1]`, the calls `Pop`, `Push(2)` and `Remove(0)` have the replies `Taken(None)`, `Done` and
 /// `Taken(Some(1))`, and leave `[2]`.
@@ -71,7 +71,7 @@ pub fn run_vec<T: Drop>(
     let _before = v.is_empty();
     let mut replies = Vec::new(alloc);
     for call in calls {
-        let reply = answer(v, call)?;
+        let reply = reply_to(v, call)?;
         let _after = v.is_empty();
         replies.push(reply)?;
     }
@@ -79,8 +79,8 @@ pub fn run_vec<T: Drop>(
 }
 
 // Makes one call.
-fn answer<T: Drop>(v: &mut NEVec<T>, call: VecCall<T>) -> Result<VecReply<T>, AllocError>
-    ensures step { IfOk result (λ reply. Answers v.old call reply v.new) }
+fn reply_to<T: Drop>(v: &mut NEVec<T>, call: VecCall<T>) -> Result<VecReply<T>, AllocError>
+    ensures step { IfOk result (λ reply. Replies v.old call reply v.new) }
     ensures unchanged { OnErr result (v.new ≡ v.old) }
 {
     match call {

@@ -67,16 +67,16 @@ module _ {A B E : Type 0} (clones : A → A → Type 0) (infallible : A → Type
       → ClonedPairs clones infallible refused (cartesian_product us ys) zs
       → ((whole && list_all is_ok zs) ≡ true → length zs ≡ length (cartesian_product us ys))
       → IsPrefix whole (map Ok (cartesian_product xs ys)) zs
-  product_prefix whole xs us ys zs exact front paired all =
+  product_prefix whole xs us ys zs exact prefix paired all =
       let ps = cartesian_product us ys in
       let exact_pairs = pairs_exact clones infallible us ys (λ z among. exact z
-      (subst (λ l. Contains l z) (sym front.1) (Contains-append_left us front.0 z among))) in
+      (subst (λ l. Contains l z) (sym prefix.1) (Contains-append_left us prefix.0 z among))) in
       let rest = in_ok ps zs exact_pairs paired in
-      let later = map Ok (cartesian_product front.0 ys) in (
+      let later = map Ok (cartesian_product prefix.0 ys) in (
         rest.0 ++ later,
-        ap (λ l. map Ok (cartesian_product l ys)) front.1
-            ∙ ap (map Ok) (flat_map-append (λ x. map (λ y. (x, y)) ys) us front.0)
-            ∙ map-append Ok ps (cartesian_product front.0 ys)
+        ap (λ l. map Ok (cartesian_product l ys)) prefix.1
+            ∙ ap (map Ok) (flat_map-append (λ x. map (λ y. (x, y)) ys) us prefix.0)
+            ∙ map-append Ok ps (cartesian_product prefix.0 ys)
             ∙ ap (λ l. l ++ later) rest.1 ∙ append_assoc zs rest.0 later,
         λ w.
             let both : (whole && list_all is_ok zs) ≡ true = rw (w, rest.2) refl in
@@ -89,6 +89,6 @@ module _ {A B E : Type 0} (clones : A → A → Type 0) (infallible : A → Type
               length-append zs rest.0,
               all both,
             )) in
-            ap (λ l. rest.0 ++ map Ok (cartesian_product l ys)) (front.2 both)
+            ap (λ l. rest.0 ++ map Ok (cartesian_product l ys)) (prefix.2 both)
             ∙ ap (λ l. l ++ []) none,
       )

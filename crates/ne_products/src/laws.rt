@@ -14,11 +14,11 @@ use crate::sides::NEEither;
 use ne_iter::iter::Source;
 use ne_iter::{IntoNonEmptyIterator, NonEmptyIterator};
 
-/// `cartesian_product` gives each item of its source with each item of the other, each pair in
+/// `cartesian_product` yields each item of its source with each item of the other, each pair in
 /// `Ok`, one row of pairs for each item of its source.
 ///
 /// This holds if clones of the source's items never fail and equal their originals, and if clones
-/// of the iterator that the other becomes never fail and give what it gives.
+/// of the iterator that the other becomes never fail and yield what it yields.
 pub fn list_of_cartesian_product<S: NonEmptyIterator, U: IntoNonEmptyIterator>(
     source: &S,
     other: &U,
@@ -66,7 +66,7 @@ pub fn products_have_their_places<A, B>()
 {}
 
 /// `cartesian_product` ends if both its sources end, and if clones of the other side's iterator
-/// give what it gives.
+/// yield what it yields.
 pub fn cartesian_product_ends<S: NonEmptyIterator, U: NonEmptyIterator>()
 where
     S::Item: Clone + Drop,

@@ -12,7 +12,7 @@ use ne_iter::{IntoNonEmptyIterator, NonEmptyIterator};
 /// One of two values.
 ///
 /// If both sides are non-empty iterators with items of one type, it is a non-empty iterator too,
-/// and gives the items of the side that is there.
+/// and yields the items of the side that is there.
 ///
 /// ```
 /// let right: NEEither<[u32; 1], [u32; 3]> = NEEither::Right([2, 1, 4]);

@@ -35,15 +35,16 @@ lines_of-all_ended (line ∷ lines) free =
     )
 
 -- The lines of a text in which the last line is open.
-lines_of-open : (front : List (List ℕ)) (last : List ℕ) → AllByRecursion NoFeed (front ++ last ∷ [])
-    → last ≢ [] → lines_of (flat_map ended front ++ last) ≡ front ++ last ∷ []
+lines_of-open : (prefix : List (List ℕ)) (last : List ℕ)
+    → AllByRecursion NoFeed (prefix ++ last ∷ [])
+    → last ≢ [] → lines_of (flat_map ended prefix ++ last) ≡ prefix ++ last ∷ []
 lines_of-open [] last free some = lines_of-single last free.0 some
-lines_of-open (line ∷ front) last free some =
+lines_of-open (line ∷ prefix) last free some =
     rw (
-      append_assoc line (10 ∷ []) (flat_map ended front),
-      append_assoc line (10 ∷ flat_map ended front) last,
-      lines_of-ended line (flat_map ended front ++ last) free.0,
-      lines_of-open front last free.1 some,
+      append_assoc line (10 ∷ []) (flat_map ended prefix),
+      append_assoc line (10 ∷ flat_map ended prefix) last,
+      lines_of-ended line (flat_map ended prefix ++ last) free.0,
+      lines_of-open prefix last free.1 some,
     )
 
 pub only_lines : (text : List ℕ) (lines : List (List ℕ)) → AreLines text lines
@@ -52,10 +53,10 @@ only_lines text lines are =
     elim are.joined [
       | inl whole ↦ sym (rw whole (lines_of-all_ended lines are.no_feed))
       | inr open_end ↦
-          let free : AllByRecursion NoFeed (open_end.front ++ open_end.last ∷ []) = rw
+          let free : AllByRecursion NoFeed (open_end.prefix ++ open_end.last ∷ []) = rw
           open_end.parts at are.no_feed in
           rw (open_end.joined, open_end.parts)
-          (sym (lines_of-open open_end.front open_end.last free open_end.not_empty))
+          (sym (lines_of-open open_end.prefix open_end.last free open_end.not_empty))
     ]
 
 -- A line feed in front adds an empty line.
@@ -66,7 +67,7 @@ with_feed text lines are = record {
   joined = elim are.joined [
     | inl whole ↦ inl (ap (λ t. 10 ∷ t) whole)
     | inr open_end ↦ inr (record {
-      front = [] ∷ open_end.front;
+      prefix = [] ∷ open_end.prefix;
       last = open_end.last;
       parts = ap (λ ls. [] ∷ ls) open_end.parts;
       not_empty = open_end.not_empty;
@@ -76,30 +77,30 @@ with_feed text lines are = record {
 }
 
 -- A list with a last item is not empty.
-no_last : {X : Type 0} (front : List X) (last : X) → [] ≡ front ++ last ∷ [] → ⊥
+no_last : {X : Type 0} (prefix : List X) (last : X) → [] ≡ prefix ++ last ∷ [] → ⊥
 no_last [] last e = cc
-no_last (x ∷ front) last e = cc
+no_last (x ∷ prefix) last e = cc
 
 alone : (byte : ℕ) (text : List ℕ) → AreLines text [] → byte ∷ text ≡ byte ∷ []
 alone byte text are =
     elim are.joined [
       | inl whole ↦ ap (λ t. byte ∷ t) whole
-      | inr open_end ↦ absurd (no_last open_end.front open_end.last open_end.parts)
+      | inr open_end ↦ absurd (no_last open_end.prefix open_end.last open_end.parts)
     ]
 
 -- A byte in front of lines of which the last is open.
-onto_open : (byte : ℕ) (front : List (List ℕ)) (last line : List ℕ) (lines : List (List ℕ))
-    (text : List ℕ) → line ∷ lines ≡ front ++ last ∷ [] → last ≢ []
-    → text ≡ flat_map ended front ++ last → EndsOpen (byte ∷ text) ((byte ∷ line) ∷ lines)
+onto_open : (byte : ℕ) (prefix : List (List ℕ)) (last line : List ℕ) (lines : List (List ℕ))
+    (text : List ℕ) → line ∷ lines ≡ prefix ++ last ∷ [] → last ≢ []
+    → text ≡ flat_map ended prefix ++ last → EndsOpen (byte ∷ text) ((byte ∷ line) ∷ lines)
 onto_open byte [] last line lines text parts some joined = record {
-  front = [];
+  prefix = [];
   last = byte ∷ last;
   parts = cc;
   not_empty = λ e. cc;
   joined = ap (λ t. byte ∷ t) joined;
 }
-onto_open byte (first ∷ front) last line lines text parts some joined = record {
-  front = (byte ∷ first) ∷ front;
+onto_open byte (first ∷ prefix) last line lines text parts some joined = record {
+  prefix = (byte ∷ first) ∷ prefix;
   last = last;
   parts = cc;
   not_empty = some;
@@ -112,7 +113,7 @@ with_byte : (byte : ℕ) → byte ≢ 10 → (text : List ℕ) (lines : List (Li
 with_byte byte other text [] are = record {
   no_feed = ((other, tt), tt);
   joined = inr (record {
-    front = [];
+    prefix = [];
     last = byte ∷ [];
     parts = refl;
     not_empty = λ e. cc;
@@ -123,7 +124,8 @@ with_byte byte other text (line ∷ lines) are = record {
   no_feed = ((other, are.no_feed.0), are.no_feed.1);
   joined = elim are.joined [
     | inl whole ↦ inl (ap (λ t. byte ∷ t) whole)
-    | inr open_end ↦ inr (onto_open byte open_end.front open_end.last line lines text open_end.parts
+    | inr open_end ↦ inr (onto_open byte open_end.prefix open_end.last line lines text
+        open_end.parts
         open_end.not_empty open_end.joined)
   ];
 }

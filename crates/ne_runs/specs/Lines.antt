@@ -12,11 +12,11 @@ ended line = line ++ 10 ∷ []
 
 -- The text consists of these lines. Each line but the last is ended, and the last is not empty.
 pub record EndsOpen (text : List ℕ) (lines : List (List ℕ)) : Type 0 where
-  pub front : List (List ℕ)
+  pub prefix : List (List ℕ)
   pub last : List ℕ
-  pub parts : lines ≡ front ++ last ∷ []
+  pub parts : lines ≡ prefix ++ last ∷ []
   pub not_empty : last ≢ []
-  pub joined : text ≡ flat_map ended front ++ last
+  pub joined : text ≡ flat_map ended prefix ++ last
 
 -- No line holds a line feed. Each line is ended, except perhaps a last one that is not empty.
 -- The text consists of these lines.

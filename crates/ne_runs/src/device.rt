@@ -19,7 +19,7 @@ pub trait Source {
     /// Whether a call has failed. Once a call has failed, it stays true.
     ghost has_failed: { Self → Bool };
 
-    /// Reads into the front of `buffer`, and returns how many bytes were read.
+    /// Reads into the first bytes of `buffer`, and returns how many bytes were read.
     ///
     /// Returns `Ok(0)` with room in the buffer only at the end. Returns `Err` if and only if the
     /// call failed; no byte was then read.
@@ -40,8 +40,8 @@ pub trait Sink {
     /// Whether all that was taken was flushed.
     ghost is_flushed: { Self → Bool };
 
-    /// Writes from the front of `text`, and returns how many bytes were taken: at least one, if the
-    /// text is not empty.
+    /// Writes the first bytes of `text`, and returns how many bytes were taken: at least one, if
+    /// the text is not empty.
     ///
     /// Returns `Err` if and only if the call failed; no byte was then taken.
     fn write(&mut self, text: &[u8]) -> Result<usize, ()>

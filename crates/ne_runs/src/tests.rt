@@ -1,4 +1,4 @@
-//! Runs over readers and writers in memory: the worked rows, odd inputs, and each read and write
+//! Runs over readers and writers in memory: the example cases, odd inputs, and each read and write
 //! failing in turn.
 
 mod fakes;
@@ -21,17 +21,17 @@ fn is<T: PartialEq + Debug + Drop>(given: T, wanted: T) -> Result<(), Fail> {
 }
 
 // Runs a mode over each input, with a reader and a writer that move 1 byte per call, or 2, or all.
-fn check_rows(
+fn check_cases(
     alloc: Global,
     mode: &str,
-    rows: &[(&[u8], Result<(), Fault>, &[u8])],
+    cases: &[(&[u8], Result<(), Fault>, &[u8])],
 ) -> Result<(), Fail> {
-    for (input, answer, text) in rows {
+    for (input, wanted, text) in cases {
         for step in [1, 2, usize::MAX] {
             let mut reader = reader_of(input, step);
             let mut writer = empty_tape(alloc, step);
-            let answered = run(alloc, mode, &mut reader, &mut writer);
-            is((*input, answered), (*input, *answer))?;
+            let result = run(alloc, mode, &mut reader, &mut writer);
+            is((*input, result), (*input, *wanted))?;
             is((writer.text.as_slice(), writer.flushed), (*text, true))?;
         }
     }
@@ -39,8 +39,8 @@ fn check_rows(
 }
 
 #[test]
-fn rows_of_ends(rt: HostRuntime) -> Result<(), Fail> {
-    let rows: [(&[u8], Result<(), Fault>, &[u8]); 17] = [
+fn cases_of_ends(rt: HostRuntime) -> Result<(), Fail> {
+    let cases: [(&[u8], Result<(), Fault>, &[u8]); 17] = [
         (b"3\n1\n2\n", Ok(()), b"3 3 2\n"),
         (b"1\n", Ok(()), b"1 1 1\n"),
         (b"007", Ok(()), b"1 7 7\n"),
@@ -59,12 +59,12 @@ fn rows_of_ends(rt: HostRuntime) -> Result<(), Fail> {
         (b"1\n\n", Err(Fault::BadLine(2)), b""),
         (b"1\n2\n\n4\nx\n", Err(Fault::BadLine(3)), b""),
     ];
-    check_rows(rt.alloc(), "ends", &rows)
+    check_cases(rt.alloc(), "ends", &cases)
 }
 
 #[test]
-fn rows_of_stats(rt: HostRuntime) -> Result<(), Fail> {
-    let rows: [(&[u8], Result<(), Fault>, &[u8]); 8] = [
+fn cases_of_stats(rt: HostRuntime) -> Result<(), Fail> {
+    let cases: [(&[u8], Result<(), Fault>, &[u8]); 8] = [
         (b"5\n1\n5\n", Ok(()), b"1 5 11\n"),
         (b"0", Ok(()), b"0 0 0\n"),
         (b"007\n3\n", Ok(()), b"3 7 10\n"),
@@ -78,12 +78,12 @@ fn rows_of_stats(rt: HostRuntime) -> Result<(), Fail> {
         (b"1\n\n", Err(Fault::BadLine(2)), b""),
         (b"", Err(Fault::Empty), b""),
     ];
-    check_rows(rt.alloc(), "stats", &rows)
+    check_cases(rt.alloc(), "stats", &cases)
 }
 
 #[test]
-fn rows_of_equal_runs(rt: HostRuntime) -> Result<(), Fail> {
-    let rows: [(&[u8], Result<(), Fault>, &[u8]); 7] = [
+fn cases_of_equal_runs(rt: HostRuntime) -> Result<(), Fail> {
+    let cases: [(&[u8], Result<(), Fault>, &[u8]); 7] = [
         (b"1\n1\n2\n3\n3\n", Ok(()), b"1 1\n2\n3 3\n"),
         (b"7", Ok(()), b"7\n"),
         (b"5\n05\n5\n", Ok(()), b"5 5 5\n"),
@@ -92,12 +92,12 @@ fn rows_of_equal_runs(rt: HostRuntime) -> Result<(), Fail> {
         (b"1\n1\nx\n", Err(Fault::BadLine(3)), b""),
         (b"", Err(Fault::Empty), b""),
     ];
-    check_rows(rt.alloc(), "equal", &rows)
+    check_cases(rt.alloc(), "equal", &cases)
 }
 
 #[test]
-fn rows_of_parity_runs(rt: HostRuntime) -> Result<(), Fail> {
-    let rows: [(&[u8], Result<(), Fault>, &[u8]); 3] = [
+fn cases_of_parity_runs(rt: HostRuntime) -> Result<(), Fail> {
+    let cases: [(&[u8], Result<(), Fault>, &[u8]); 3] = [
         (
             b"2\n4\n6\n7\n9\n1\n2\n4\n6\n3\n",
             Ok(()),
@@ -106,12 +106,12 @@ fn rows_of_parity_runs(rt: HostRuntime) -> Result<(), Fail> {
         (b"1\n1\n", Ok(()), b"1 1\n"),
         (b"0\n1234567890\n", Err(Fault::BadLine(2)), b""),
     ];
-    check_rows(rt.alloc(), "parity", &rows)
+    check_cases(rt.alloc(), "parity", &cases)
 }
 
 #[test]
-fn rows_of_distinct_numbers(rt: HostRuntime) -> Result<(), Fail> {
-    let rows: [(&[u8], Result<(), Fault>, &[u8]); 8] = [
+fn cases_of_distinct_numbers(rt: HostRuntime) -> Result<(), Fail> {
+    let cases: [(&[u8], Result<(), Fault>, &[u8]); 8] = [
         (b"3\n1\n3\n2\n1\n", Ok(()), b"3 1 2\n"),
         (b"5\n4\n3\n", Ok(()), b"5 4 3\n"),
         (b"1\n1\n1\n", Ok(()), b"1\n"),
@@ -121,12 +121,12 @@ fn rows_of_distinct_numbers(rt: HostRuntime) -> Result<(), Fail> {
         (b"1\n1\nx\n", Err(Fault::BadLine(3)), b""),
         (b"", Err(Fault::Empty), b""),
     ];
-    check_rows(rt.alloc(), "distinct", &rows)
+    check_cases(rt.alloc(), "distinct", &cases)
 }
 
 #[test]
-fn rows_of_near_runs(rt: HostRuntime) -> Result<(), Fail> {
-    let rows: [(&[u8], Result<(), Fault>, &[u8]); 8] = [
+fn cases_of_near_runs(rt: HostRuntime) -> Result<(), Fail> {
+    let cases: [(&[u8], Result<(), Fault>, &[u8]); 8] = [
         (b"1\n2\n3\n", Ok(()), b"1 2\n3\n"),
         (b"1\n2\n3\n4\n5\n", Ok(()), b"1 2\n3 4\n5\n"),
         (b"3\n2\n1\n", Ok(()), b"3 2\n1\n"),
@@ -136,12 +136,12 @@ fn rows_of_near_runs(rt: HostRuntime) -> Result<(), Fail> {
         (b"1\n2\nx\n", Err(Fault::BadLine(3)), b""),
         (b"", Err(Fault::Empty), b""),
     ];
-    check_rows(rt.alloc(), "near", &rows)
+    check_cases(rt.alloc(), "near", &cases)
 }
 
 #[test]
-fn rows_of_chain_runs(rt: HostRuntime) -> Result<(), Fail> {
-    let rows: [(&[u8], Result<(), Fault>, &[u8]); 8] = [
+fn cases_of_chain_runs(rt: HostRuntime) -> Result<(), Fail> {
+    let cases: [(&[u8], Result<(), Fault>, &[u8]); 8] = [
         (b"1\n2\n3\n", Ok(()), b"1 2 3\n"),
         (b"1\n2\n3\n4\n5\n", Ok(()), b"1 2 3 4 5\n"),
         (b"3\n2\n1\n", Ok(()), b"3 2 1\n"),
@@ -151,7 +151,7 @@ fn rows_of_chain_runs(rt: HostRuntime) -> Result<(), Fail> {
         (b"1\n2\nx\n", Err(Fault::BadLine(3)), b""),
         (b"", Err(Fault::Empty), b""),
     ];
-    check_rows(rt.alloc(), "chain", &rows)
+    check_cases(rt.alloc(), "chain", &cases)
 }
 
 #[test]
@@ -178,8 +178,8 @@ fn words_that_name_no_mode(rt: HostRuntime) -> Result<(), Fail> {
     ] {
         let mut reader = reader_of(b"1\n", 1);
         let mut writer = empty_tape(rt.alloc(), 1);
-        let answered = run(rt.alloc(), word, &mut reader, &mut writer);
-        is((word, answered), (word, Err(Fault::Usage)))?;
+        let result = run(rt.alloc(), word, &mut reader, &mut writer);
+        is((word, result), (word, Err(Fault::Usage)))?;
         is((word, reader.turns, writer.calls), (word, 0, 0))?;
     }
     Ok(())
@@ -200,23 +200,23 @@ fn longest_input(rt: HostRuntime) -> Result<(), Fail> {
     for (step, turns) in [(usize::MAX, 65), (1, 1_048_577)] {
         let mut reader = reader_of(input.as_slice(), step);
         let mut writer = empty_tape(rt.alloc(), usize::MAX);
-        let answered = run(rt.alloc(), "ends", &mut reader, &mut writer);
-        is((answered, reader.turns), (Ok(()), turns))?;
+        let result = run(rt.alloc(), "ends", &mut reader, &mut writer);
+        is((result, reader.turns), (Ok(()), turns))?;
         is(writer.text.as_slice(), b"524288 1 1\n".as_slice())?;
     }
     input.push(b'1')?;
     for step in [usize::MAX, 1] {
         let mut reader = reader_of(input.as_slice(), step);
         let mut writer = empty_tape(rt.alloc(), usize::MAX);
-        let answered = run(rt.alloc(), "ends", &mut reader, &mut writer);
-        is((answered, writer.calls), (Err(Fault::TooLong), 0))?;
+        let result = run(rt.alloc(), "ends", &mut reader, &mut writer);
+        is((result, writer.calls), (Err(Fault::TooLong), 0))?;
     }
     Ok(())
 }
 
 #[test]
 fn greatest_sums(rt: HostRuntime) -> Result<(), Fail> {
-    let rows: [(&[u8], usize, &[u8]); 2] = [
+    let cases: [(&[u8], usize, &[u8]); 2] = [
         (
             b"999999999\n",
             104_857,
@@ -224,12 +224,12 @@ fn greatest_sums(rt: HostRuntime) -> Result<(), Fail> {
         ),
         (b"9\n", 524_288, b"9 9 4718592\n"),
     ];
-    for (line, count, text) in rows {
+    for (line, count, text) in cases {
         let input = repeated(rt.alloc(), line, count)?;
         let mut reader = reader_of(input.as_slice(), usize::MAX);
         let mut writer = empty_tape(rt.alloc(), usize::MAX);
-        let answered = run(rt.alloc(), "stats", &mut reader, &mut writer);
-        is((answered, writer.text.as_slice()), (Ok(()), text))?;
+        let result = run(rt.alloc(), "stats", &mut reader, &mut writer);
+        is((result, writer.text.as_slice()), (Ok(()), text))?;
     }
     Ok(())
 }
@@ -238,8 +238,8 @@ fn greatest_sums(rt: HostRuntime) -> Result<(), Fail> {
 fn endless_input(rt: HostRuntime) -> Result<(), Fail> {
     let mut reader = Endless { turns: 0 };
     let mut writer = empty_tape(rt.alloc(), usize::MAX);
-    let answered = run(rt.alloc(), "ends", &mut reader, &mut writer);
-    is((answered, reader.turns), (Err(Fault::TooLong), 1_048_577))?;
+    let result = run(rt.alloc(), "ends", &mut reader, &mut writer);
+    is((result, reader.turns), (Err(Fault::TooLong), 1_048_577))?;
     is(writer.calls, 0)
 }
 
@@ -250,8 +250,8 @@ fn each_read_failed(rt: HostRuntime) -> Result<(), Fail> {
             let mut reader = reader_of(input, 1);
             reader.fails_at = turn;
             let mut writer = empty_tape(rt.alloc(), usize::MAX);
-            let answered = run(rt.alloc(), "ends", &mut reader, &mut writer);
-            is((input, turn, answered), (input, turn, Err(Fault::Read)))?;
+            let result = run(rt.alloc(), "ends", &mut reader, &mut writer);
+            is((input, turn, result), (input, turn, Err(Fault::Read)))?;
             is(writer.calls, 0)?;
         }
     }
@@ -263,8 +263,8 @@ fn read_failed_after_a_line(rt: HostRuntime) -> Result<(), Fail> {
     let mut reader = reader_of(b"1\n", usize::MAX);
     reader.fails_at = 1;
     let mut writer = empty_tape(rt.alloc(), usize::MAX);
-    let answered = run(rt.alloc(), "equal", &mut reader, &mut writer);
-    is((answered, reader.turns), (Err(Fault::Read), 2))?;
+    let result = run(rt.alloc(), "equal", &mut reader, &mut writer);
+    is((result, reader.turns), (Err(Fault::Read), 2))?;
     is(writer.calls, 0)
 }
 
@@ -274,45 +274,45 @@ fn each_write_failed(rt: HostRuntime) -> Result<(), Fail> {
     for call in 0..6 {
         let mut writer = empty_tape(rt.alloc(), 1);
         writer.fails_at = call;
-        let answered = run(rt.alloc(), "ends", &mut reader_of(b"1\n", 1), &mut writer);
-        is((call, answered), (call, Err(Fault::Write)))?;
+        let result = run(rt.alloc(), "ends", &mut reader_of(b"1\n", 1), &mut writer);
+        is((call, result), (call, Err(Fault::Write)))?;
         is(writer.text.as_slice(), &b"1 1 1\n"[..call])?;
     }
     let mut writer = empty_tape(rt.alloc(), 1);
     writer.flush_fails = true;
-    let answered = run(rt.alloc(), "ends", &mut reader_of(b"1\n", 1), &mut writer);
-    is(answered, Err(Fault::Write))
+    let result = run(rt.alloc(), "ends", &mut reader_of(b"1\n", 1), &mut writer);
+    is(result, Err(Fault::Write))
 }
 
 #[test]
 fn read_by_std(rt: HostRuntime) -> Result<(), Fail> {
     let mut reader = StdIo::new(b"4\n5".as_slice());
     let mut writer = empty_tape(rt.alloc(), usize::MAX);
-    let answered = run(rt.alloc(), "ends", &mut reader, &mut writer);
-    is(answered, Ok(()))?;
+    let result = run(rt.alloc(), "ends", &mut reader, &mut writer);
+    is(result, Ok(()))?;
     is(writer.text.as_slice(), b"2 4 5\n".as_slice())
 }
 
 #[test]
 fn written_by_std(rt: HostRuntime) -> Result<(), Fail> {
     let mut writer = StdIo::new(Vec::new(rt.alloc()));
-    let answered = run(rt.alloc(), "ends", &mut reader_of(b"4\n5", 1), &mut writer);
-    is(answered, Ok(()))?;
+    let result = run(rt.alloc(), "ends", &mut reader_of(b"4\n5", 1), &mut writer);
+    is(result, Ok(()))?;
     is(writer.into_inner().as_slice(), b"2 4 5\n".as_slice())
 }
 
 #[test]
 fn std_writes_failed(rt: HostRuntime) -> Result<(), Fail> {
     let mut closed = StdIo::new(Closed);
-    let answered = run(rt.alloc(), "ends", &mut reader_of(b"4\n", 1), &mut closed);
-    is(answered, Err(Fault::Write))?;
+    let result = run(rt.alloc(), "ends", &mut reader_of(b"4\n", 1), &mut closed);
+    is(result, Err(Fault::Write))?;
     for (write_fails, flushes) in [(true, 0), (false, 1)] {
         let mut clogged = StdIo::new(Clogged {
             write_fails,
             flushes: 0,
         });
-        let answered = run(rt.alloc(), "ends", &mut reader_of(b"4\n", 1), &mut clogged);
-        is(answered, Err(Fault::Write))?;
+        let result = run(rt.alloc(), "ends", &mut reader_of(b"4\n", 1), &mut clogged);
+        is(result, Err(Fault::Write))?;
         is(clogged.into_inner().flushes, flushes)?;
     }
     Ok(())
@@ -322,8 +322,8 @@ fn std_writes_failed(rt: HostRuntime) -> Result<(), Fail> {
 fn std_reads_failed(rt: HostRuntime) -> Result<(), Fail> {
     let mut broken = StdIo::new(Broken { line: b"4\n" });
     let mut writer = empty_tape(rt.alloc(), usize::MAX);
-    let answered = run(rt.alloc(), "ends", &mut broken, &mut writer);
-    is((answered, writer.calls), (Err(Fault::Read), 0))
+    let result = run(rt.alloc(), "ends", &mut broken, &mut writer);
+    is((result, writer.calls), (Err(Fault::Read), 0))
 }
 
 #[test]
@@ -347,8 +347,8 @@ fn texts_and_statuses(rt: HostRuntime) -> Result<(), Fail> {
         (Fault::Write, "write failed", 3),
         (Fault::Memory, "out of memory", 4),
     ] {
-        let told = fault.to_string(rt.alloc())?;
-        is((told.as_str(), fault.status()), (text, status))?;
+        let text_of_fault = fault.to_string(rt.alloc())?;
+        is((text_of_fault.as_str(), fault.status()), (text, status))?;
     }
     Ok(())
 }

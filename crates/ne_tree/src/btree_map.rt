@@ -153,7 +153,7 @@ impl<K: Ord, V> NEBTreeMap<K, V> {
         ensures values_run { LendsValuesInOrder (iter_mut_rest {K = K} {X = V}) }
         ensures nonempty { 0 < btree_map_len self.old }
     {
-        walk(&mut self.inner)
+        inner_iter_mut(&mut self.inner)
     }
 
     /// Returns a non-empty iterator over the pairs, in ascending order of the keys.
@@ -390,7 +390,7 @@ impl<K: Ord, V> NEBTreeMap<K, V> {
 }
 
 // Lends the values of the inner map.
-fn walk<'a, K: Ord, V>(map: &'a mut BTreeMap<K, V>) -> btree_map::IterMut<'a, K, V>
+fn inner_iter_mut<'a, K: Ord, V>(map: &'a mut BTreeMap<K, V>) -> btree_map::IterMut<'a, K, V>
     ensures* writes_back { sem 𝓛 (LendsValuesInside K.row V.row K.Ord map.entry result) }
     ensures keeps { KeepsKeys map.old 0 }
     ensures ready { IterMutCanStep result }

@@ -111,7 +111,7 @@ pub first_chunk : {X : Type 0} (n m : ℕ) (xs part left : List X) → 0 < n →
     → xs ≡ part ++ left → length part ≡ min n (length xs) → chunks n xs ≡ part ∷ chunks m left
 first_chunk n m xs part left p same q e l =
     let lens : length xs ≡ length part + length left = ap length e ∙ length-append part left in
-    let front : take n xs ≡ part =
+    let prefix : take n xs ≡ part =
     elim (cases_lt (length xs) n) [
       | inl h ↦ whole n xs (Prim.omega (arith, h)) ∙ e
           ∙ ap (λ ys. part ++ ys) (no_items left (Prim.omega (arith, l, h, lens))) ∙ append-nil part
@@ -125,7 +125,7 @@ first_chunk n m xs part left p same q e l =
       | inr h ↦ ap (drop n) e ∙ ap (λ k. drop k (part ++ left)) (Prim.omega (arith, l, h))
           ∙ drop-append_seam part left
     ] in
-    chunks_step n xs p q ∙ ap (λ y. y ∷ chunks n (drop n xs)) front
+    chunks_step n xs p q ∙ ap (λ y. y ∷ chunks n (drop n xs)) prefix
     ∙ ap (λ ys. part ∷ chunks n ys) back ∙ ap (λ k. part ∷ chunks k left) (sym same)
 
 -- ---- all of them
@@ -144,34 +144,35 @@ pub chunks_joined : {X : Type 0} (n : ℕ) (xs : List X) → 0 < n → concat (c
 chunks_joined n xs p = joined_up_to (length xs) n xs p (Prim.omega arith)
 
 abbrev Fits : {X : Type 0} → ℕ → List (List X) → List X → Type 0
-Fits n front last = AllByRecursion (λ c. length c ≡ n) front × (0 < length last) × (length last ≤ n)
+Fits n prefix last = AllByRecursion (λ c. length c ≡ n) prefix × (0 < length last)
+    × (length last ≤ n)
 
-fits_up_to : {X : Type 0} (m n : ℕ) (xs : List X) (front : List (List X)) (last : List X) → 0 < n
-    → length xs ≤ m → chunks n xs ≡ front ++ last ∷ [] → Fits n front last
-fits_up_to m n [] front last p h e = absurd (nil_is_no_append front last []
+fits_up_to : {X : Type 0} (m n : ℕ) (xs : List X) (prefix : List (List X)) (last : List X) → 0 < n
+    → length xs ≤ m → chunks n xs ≡ prefix ++ last ∷ [] → Fits n prefix last
+fits_up_to m n [] prefix last p h e = absurd (nil_is_no_append prefix last []
     (sym (chunks_none n [] p refl) ∙ e))
-fits_up_to zero n (x ∷ xs) front last p h e = absurd (Prim.omega (arith, h))
+fits_up_to zero n (x ∷ xs) prefix last p h e = absurd (Prim.omega (arith, h))
 fits_up_to (suc m) n (x ∷ xs) [] last p h e =
     let first : take n (x ∷ xs) ≡ last = head_is
     (sym (chunks_step n (x ∷ xs) p (Prim.omega arith)) ∙ e) in
     let len : length last ≡ min n (suc (length xs)) = ap length (sym first)
     ∙ length-take n (x ∷ xs) in
     (tt, Prim.omega (arith, len, p), Prim.omega (arith, len))
-fits_up_to (suc m) n (x ∷ xs) (c ∷ front) last p h e =
+fits_up_to (suc m) n (x ∷ xs) (c ∷ prefix) last p h e =
     let both = sym (chunks_step n (x ∷ xs) p (Prim.omega arith)) ∙ e in
-    let rest : chunks n (drop n (x ∷ xs)) ≡ front ++ last ∷ [] = tail_is both in
-    let later : Fits n front last = fits_up_to m n (drop n (x ∷ xs)) front last p
+    let rest : chunks n (drop n (x ∷ xs)) ≡ prefix ++ last ∷ [] = tail_is both in
+    let later : Fits n prefix last = fits_up_to m n (drop n (x ∷ xs)) prefix last p
     (Prim.omega (arith, length-drop n (x ∷ xs), h, p)) rest in
     let some : 0 < length (drop n (x ∷ xs)) =
     elim (cases_lt 0 (length (drop n (x ∷ xs)))) [
       | inl k ↦ k
-      | inr k ↦ absurd (nil_is_no_append front last []
+      | inr k ↦ absurd (nil_is_no_append prefix last []
           (sym (chunks_none n (drop n (x ∷ xs)) p (Prim.omega (arith, k))) ∙ rest))
     ] in
     let len : length c ≡ min n (suc (length xs)) = ap length (sym (head_is both))
     ∙ length-take n (x ∷ xs) in
     ((Prim.omega (arith, len, some, length-drop n (x ∷ xs)), later.0), later.1, later.2)
 
-pub chunks_fit : {X : Type 0} (n : ℕ) (xs : List X) (front : List (List X)) (last : List X) → 0 < n
-    → chunks n xs ≡ front ++ last ∷ [] → Fits n front last
-chunks_fit n xs front last p e = fits_up_to (length xs) n xs front last p (Prim.omega arith) e
+pub chunks_fit : {X : Type 0} (n : ℕ) (xs : List X) (prefix : List (List X)) (last : List X) → 0 < n
+    → chunks n xs ≡ prefix ++ last ∷ [] → Fits n prefix last
+chunks_fit n xs prefix last p e = fits_up_to (length xs) n xs prefix last p (Prim.omega arith) e

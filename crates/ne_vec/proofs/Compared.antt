@@ -46,34 +46,34 @@ module _ {A : Type 0} (cmp : A → A → Ordering) where
       → slice_cmp cmp (x ∷ v) (y ∷ w) ≡ slice_cmp cmp v w
   step x y v w e = ap (λ o. ordering_then o (slice_cmp cmp v w)) e
 
-  past_ties : (front other v w : List A) → Tie front other
-      → slice_cmp cmp (front ++ v) (other ++ w) ≡ slice_cmp cmp v w
+  past_ties : (prefix other v w : List A) → Tie prefix other
+      → slice_cmp cmp (prefix ++ v) (other ++ w) ≡ slice_cmp cmp v w
   past_ties [] [] v w h = refl
   past_ties [] (y ∷ other) v w h = absurd h
-  past_ties (x ∷ front) [] v w h = absurd h
-  past_ties (x ∷ front) (y ∷ other) v w h =
-      step x y (front ++ v) (other ++ w) h.0 ∙ past_ties front other v w h.1
+  past_ties (x ∷ prefix) [] v w h = absurd h
+  past_ties (x ∷ prefix) (y ∷ other) v w h =
+      step x y (prefix ++ v) (other ++ w) h.0 ∙ past_ties prefix other v w h.1
 
-  pub ties_differ : (front other v w : List A) (x y : A) → Tie front other → cmp x y ≢ Equal
-      → slice_cmp cmp (front ++ x ∷ v) (other ++ y ∷ w) ≡ cmp x y
-  ties_differ front other v w x y h n =
-      past_ties front other (x ∷ v) (y ∷ w) h ∙ decided (cmp x y) (slice_cmp cmp v w) n
+  pub ties_differ : (prefix other v w : List A) (x y : A) → Tie prefix other → cmp x y ≢ Equal
+      → slice_cmp cmp (prefix ++ x ∷ v) (other ++ y ∷ w) ≡ cmp x y
+  ties_differ prefix other v w x y h n =
+      past_ties prefix other (x ∷ v) (y ∷ w) h ∙ decided (cmp x y) (slice_cmp cmp v w) n
 
-  pub ties_shorter : (front other w : List A) (y : A) → Tie front other
-      → slice_cmp cmp front (other ++ y ∷ w) ≡ Less
+  pub ties_shorter : (prefix other w : List A) (y : A) → Tie prefix other
+      → slice_cmp cmp prefix (other ++ y ∷ w) ≡ Less
   ties_shorter [] [] w y h = refl
   ties_shorter [] (z ∷ other) w y h = absurd h
-  ties_shorter (x ∷ front) [] w y h = absurd h
-  ties_shorter (x ∷ front) (z ∷ other) w y h =
-      step x z front (other ++ y ∷ w) h.0 ∙ ties_shorter front other w y h.1
+  ties_shorter (x ∷ prefix) [] w y h = absurd h
+  ties_shorter (x ∷ prefix) (z ∷ other) w y h =
+      step x z prefix (other ++ y ∷ w) h.0 ∙ ties_shorter prefix other w y h.1
 
-  pub ties_longer : (front other v : List A) (x : A) → Tie front other
-      → slice_cmp cmp (front ++ x ∷ v) other ≡ Greater
+  pub ties_longer : (prefix other v : List A) (x : A) → Tie prefix other
+      → slice_cmp cmp (prefix ++ x ∷ v) other ≡ Greater
   ties_longer [] [] v x h = refl
   ties_longer [] (z ∷ other) v x h = absurd h
-  ties_longer (y ∷ front) [] v x h = absurd h
-  ties_longer (y ∷ front) (z ∷ other) v x h =
-      step y z (front ++ x ∷ v) other h.0 ∙ ties_longer front other v x h.1
+  ties_longer (y ∷ prefix) [] v x h = absurd h
+  ties_longer (y ∷ prefix) (z ∷ other) v x h =
+      step y z (prefix ++ x ∷ v) other h.0 ∙ ties_longer prefix other v x h.1
 
   ties_from : (v w : List A) → slice_cmp cmp v w ≡ Equal → Tie v w
   ties_from [] [] e = tt
@@ -100,35 +100,35 @@ module _ {A : Type 0} (cmp : A → A → Option Ordering) where
       → slice_partial_cmp cmp (x ∷ v) (y ∷ w) ≡ slice_partial_cmp cmp v w
   step_partly x y v w e = ap (λ o. partial_ordering_then o (slice_partial_cmp cmp v w)) e
 
-  past_partial_ties : (front other v w : List A) → PartlyTie front other
-      → slice_partial_cmp cmp (front ++ v) (other ++ w) ≡ slice_partial_cmp cmp v w
+  past_partial_ties : (prefix other v w : List A) → PartlyTie prefix other
+      → slice_partial_cmp cmp (prefix ++ v) (other ++ w) ≡ slice_partial_cmp cmp v w
   past_partial_ties [] [] v w h = refl
   past_partial_ties [] (y ∷ other) v w h = absurd h
-  past_partial_ties (x ∷ front) [] v w h = absurd h
-  past_partial_ties (x ∷ front) (y ∷ other) v w h =
-      step_partly x y (front ++ v) (other ++ w) h.0 ∙ past_partial_ties front other v w h.1
+  past_partial_ties (x ∷ prefix) [] v w h = absurd h
+  past_partial_ties (x ∷ prefix) (y ∷ other) v w h =
+      step_partly x y (prefix ++ v) (other ++ w) h.0 ∙ past_partial_ties prefix other v w h.1
 
-  pub partial_ties_differ : (front other v w : List A) (x y : A) → PartlyTie front other
-      → cmp x y ≢ Some Equal → slice_partial_cmp cmp (front ++ x ∷ v) (other ++ y ∷ w) ≡ cmp x y
-  partial_ties_differ front other v w x y h n =
-      past_partial_ties front other (x ∷ v) (y ∷ w) h
+  pub partial_ties_differ : (prefix other v w : List A) (x y : A) → PartlyTie prefix other
+      → cmp x y ≢ Some Equal → slice_partial_cmp cmp (prefix ++ x ∷ v) (other ++ y ∷ w) ≡ cmp x y
+  partial_ties_differ prefix other v w x y h n =
+      past_partial_ties prefix other (x ∷ v) (y ∷ w) h
       ∙ partly_decided (cmp x y) (slice_partial_cmp cmp v w) n
 
-  pub partial_ties_shorter : (front other w : List A) (y : A) → PartlyTie front other
-      → slice_partial_cmp cmp front (other ++ y ∷ w) ≡ Some Less
+  pub partial_ties_shorter : (prefix other w : List A) (y : A) → PartlyTie prefix other
+      → slice_partial_cmp cmp prefix (other ++ y ∷ w) ≡ Some Less
   partial_ties_shorter [] [] w y h = refl
   partial_ties_shorter [] (z ∷ other) w y h = absurd h
-  partial_ties_shorter (x ∷ front) [] w y h = absurd h
-  partial_ties_shorter (x ∷ front) (z ∷ other) w y h =
-      step_partly x z front (other ++ y ∷ w) h.0 ∙ partial_ties_shorter front other w y h.1
+  partial_ties_shorter (x ∷ prefix) [] w y h = absurd h
+  partial_ties_shorter (x ∷ prefix) (z ∷ other) w y h =
+      step_partly x z prefix (other ++ y ∷ w) h.0 ∙ partial_ties_shorter prefix other w y h.1
 
-  pub partial_ties_longer : (front other v : List A) (x : A) → PartlyTie front other
-      → slice_partial_cmp cmp (front ++ x ∷ v) other ≡ Some Greater
+  pub partial_ties_longer : (prefix other v : List A) (x : A) → PartlyTie prefix other
+      → slice_partial_cmp cmp (prefix ++ x ∷ v) other ≡ Some Greater
   partial_ties_longer [] [] v x h = refl
   partial_ties_longer [] (z ∷ other) v x h = absurd h
-  partial_ties_longer (y ∷ front) [] v x h = absurd h
-  partial_ties_longer (y ∷ front) (z ∷ other) v x h =
-      step_partly y z (front ++ x ∷ v) other h.0 ∙ partial_ties_longer front other v x h.1
+  partial_ties_longer (y ∷ prefix) [] v x h = absurd h
+  partial_ties_longer (y ∷ prefix) (z ∷ other) v x h =
+      step_partly y z (prefix ++ x ∷ v) other h.0 ∙ partial_ties_longer prefix other v x h.1
 
   partial_ties_from : (v w : List A) → slice_partial_cmp cmp v w ≡ Some Equal → PartlyTie v w
   partial_ties_from [] [] e = tt
@@ -153,15 +153,15 @@ module _ {A : Type 0} (cmp : A → A → Ordering) (total : IsTotalOrder cmp) wh
   itself [] = tt
   itself (x ∷ v) = (own_reverse (cmp x x) (total.antisymm x x), itself v)
 
-  pub differs : (front v w : List A) (x y : A) → cmp x y ≢ Equal
-      → slice_cmp cmp (front ++ x ∷ v) (front ++ y ∷ w) ≡ cmp x y
-  differs front v w x y = ties_differ cmp front front v w x y (itself front)
+  pub differs : (prefix v w : List A) (x y : A) → cmp x y ≢ Equal
+      → slice_cmp cmp (prefix ++ x ∷ v) (prefix ++ y ∷ w) ≡ cmp x y
+  differs prefix v w x y = ties_differ cmp prefix prefix v w x y (itself prefix)
 
-  pub shorter : (front w : List A) (y : A) → slice_cmp cmp front (front ++ y ∷ w) ≡ Less
-  shorter front w y = ties_shorter cmp front front w y (itself front)
+  pub shorter : (prefix w : List A) (y : A) → slice_cmp cmp prefix (prefix ++ y ∷ w) ≡ Less
+  shorter prefix w y = ties_shorter cmp prefix prefix w y (itself prefix)
 
-  pub longer : (front v : List A) (x : A) → slice_cmp cmp (front ++ x ∷ v) front ≡ Greater
-  longer front v x = ties_longer cmp front front v x (itself front)
+  pub longer : (prefix v : List A) (x : A) → slice_cmp cmp (prefix ++ x ∷ v) prefix ≡ Greater
+  longer prefix v x = ties_longer cmp prefix prefix v x (itself prefix)
 
   pub same_list : (v : List A) → slice_cmp cmp v v ≡ Equal
   same_list v = ties_to cmp v v (itself v)

@@ -6,17 +6,17 @@ use Rattle.ne_vec.specs.Divisions.{concat, Adjacent, IsRun, Breaks, IsDivision, 
 use Rattle.ne_vec.proofs.Lists.{nil_is_no_append, head_is, tail_is}
 
 -- where the last item of a list is in a split of it
-split_last : {A : Type 0} (r front : List A) (x y : A) (back : List A)
-    → r ++ x ∷ [] ≡ front ++ y ∷ back → ((front ≡ r) × (y ≡ x))
-    ⊎ ((inner : List A) × (r ≡ front ++ y ∷ inner))
+split_last : {A : Type 0} (r prefix : List A) (x y : A) (back : List A)
+    → r ++ x ∷ [] ≡ prefix ++ y ∷ back → ((prefix ≡ r) × (y ≡ x))
+    ⊎ ((inner : List A) × (r ≡ prefix ++ y ∷ inner))
 split_last [] [] x y back e = inl (refl, sym (head_is e))
-split_last [] (f ∷ front) x y back e = absurd (nil_is_no_append front y back (tail_is e))
+split_last [] (f ∷ prefix) x y back e = absurd (nil_is_no_append prefix y back (tail_is e))
 split_last (a ∷ r) [] x y back e = inr (r, ap (λ v. v ∷ r) (head_is e))
-split_last (a ∷ r) (f ∷ front) x y back e = elim (split_last r front x y back (tail_is e)) [
-  | inl h ↦ inl (subst (λ v. f ∷ front ≡ v ∷ r) (sym (head_is e)) (ap (λ l. f ∷ l) h.0), h.1)
+split_last (a ∷ r) (f ∷ prefix) x y back e = elim (split_last r prefix x y back (tail_is e)) [
+  | inl h ↦ inl (subst (λ v. f ∷ prefix ≡ v ∷ r) (sym (head_is e)) (ap (λ l. f ∷ l) h.0), h.1)
   | inr h ↦ inr (
     h.0,
-    subst (λ v. v ∷ r ≡ f ∷ (front ++ y ∷ h.0)) (sym (head_is e))
+    subst (λ v. v ∷ r ≡ f ∷ (prefix ++ y ∷ h.0)) (sym (head_is e))
         (ap (λ l. f ∷ l) h.1),
   )
 ]
@@ -39,7 +39,7 @@ module _ {A : Type 0} (goes_on : List A → A → Bool) where
   pub run_one : (x : A) → IsRun goes_on (x ∷ [])
   run_one x = record {
     some = λ e. cc;
-    inside = λ front y back ne e. elim front as
+    inside = λ prefix y back ne e. elim prefix as
         (λ f. f ≢ [] → x ∷ [] ≡ f ++ y ∷ back → goes_on f y ≡ true) [
           | [] ↦ λ k _. absurd (k refl)
           | f ∷ fs ↦ λ _ h. absurd (nil_is_no_append fs y back (tail_is h))
@@ -50,9 +50,9 @@ module _ {A : Type 0} (goes_on : List A → A → Bool) where
       → IsRun goes_on (r ++ x ∷ [])
   run_more r x h on = record {
     some = λ e. nil_is_no_append r x [] (sym e);
-    inside = λ front y back ne e. elim (split_last r front x y back e) [
+    inside = λ prefix y back ne e. elim (split_last r prefix x y back e) [
       | inl k ↦ rw (k.0, k.1) on
-      | inr k ↦ h.inside front y k.0 ne k.1
+      | inr k ↦ h.inside prefix y k.0 ne k.1
     ];
   }
 

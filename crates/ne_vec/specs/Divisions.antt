@@ -28,8 +28,8 @@ module _ {A : Type 0} (goes_on : List A → A → Bool) where
   -- r is not empty, and each later item continues the part of r before it
   pub record IsRun (r : List A) : Type 0 where
     pub some : r ≢ []
-    pub inside : (front : List A) (x : A) (back : List A) → front ≢ [] → r ≡ front ++ x ∷ back
-        → goes_on front x ≡ true
+    pub inside : (prefix : List A) (x : A) (back : List A) → prefix ≢ [] → r ≡ prefix ++ x ∷ back
+        → goes_on prefix x ≡ true
 
   -- the first item of s, if there is one, doesn't continue r
   abbrev pub Breaks : List A → List A → Type 0

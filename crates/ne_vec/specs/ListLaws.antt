@@ -24,11 +24,11 @@ module _ {S A B : Type 0} (steps : S → Option A → S → Type 0) (view : A �
       (m.0, took s j y st ∙ ap (λ l. view y ∷ l) m.1, m.2)
 
 -- the same, if the items are those of the list, without a view
-pub front : {S A W : Type 0} (steps : S → Option A → S → Type 0) (rest : S → List A)
+pub is_prefix : {S A W : Type 0} (steps : S → Option A → S → Type 0) (rest : S → List A)
     → ((s t : S) (x : A) → steps s (Some x) t → rest s ≡ x ∷ rest t)
     → ((s t : S) → steps s None t → rest s ≡ []) → (s : S) (ys : List A) → DrainsIf steps W s ys
     → (more : List A) × (rest s ≡ ys ++ more) × (W → more ≡ [])
-front steps rest took ended s ys run =
+is_prefix steps rest took ended s ys run =
     let m = viewed_prefix steps (λ x. x) rest took ended s ys run in
     (m.0, subst (λ l. rest s ≡ l ++ m.0) (map-id ys) m.1, m.2)
 
@@ -42,7 +42,8 @@ referenced_prefix s ys run = viewed_prefix iter_steps (λ y. y.now) iter_rest (�
 pub first_prefix : {S T W : Type 0} (rest : S → List T) (s : S) (ys : List T)
     → DrainsIf (YieldsFirst rest) W s ys
     → (more : List T) × (rest s ≡ ys ++ more) × (W → more ≡ [])
-first_prefix rest s ys run = front (YieldsFirst rest) rest (λ s t x st. st) (λ s t st. st.0) s ys
+first_prefix rest s ys run = is_prefix (YieldsFirst rest) rest (λ s t x st. st) (λ s t st. st.0) s
+    ys
     run
 
 -- for vectors by value, whose iterator counts its items

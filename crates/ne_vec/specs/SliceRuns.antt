@@ -1,4 +1,4 @@
--- The runs of a slice, taken one after another from its front, as a closure compares the items.
+-- The runs of a slice, taken in order, as a closure compares the items.
 use Rattle.std.specs.Prelude.{◌≡◌, ◌≢◌, ℕ, ◌<◌, length, Bool, List, [], ◌++◌, take, drop, Option}
 use Rattle.std.specs.Prelude.{MatchOption, All}
 use Rattle.std.specs.Borrow.{Bor}

@@ -100,8 +100,8 @@ pub fn chunks_make_the_whole<T>()
     ensures each { (size : ℕ) (xs : List T) (j : ℕ) → j < length (chunks size xs)
         → slice_get (chunks size xs) j ≡ Some (take size (drop (j * size) xs)) }
     ensures whole { (size : ℕ) (xs : List T) → 0 < size → concat (chunks size xs) ≡ xs }
-    ensures sizes { (size : ℕ) (xs : List T) (front : List (List T)) (last : List T) → 0 < size
-        → chunks size xs ≡ front ++ last ∷ [] → AllByRecursion (λ c. length c ≡ size) front
+    ensures sizes { (size : ℕ) (xs : List T) (prefix : List (List T)) (last : List T) → 0 < size
+        → chunks size xs ≡ prefix ++ last ∷ [] → AllByRecursion (λ c. length c ≡ size) prefix
         × (0 < length last) × (length last ≤ size) }
 {}
 
@@ -139,29 +139,30 @@ pub fn slices_compare_as_lists<'a, T: Ord + Hash + 'a>()
 /// The order of lists is the lexicographic one: the first index at which they differ decides, and
 /// if one list is the beginning of the other, the shorter one is less.
 pub fn lists_are_in_lexicographic_order<T: Ord>()
-    ensures differs { (front v w : List T) (x y : T) → T.cmp x y ≢ Equal
-        → slice_cmp T.cmp (front ++ x ∷ v) (front ++ y ∷ w) ≡ T.cmp x y }
-    ensures shorter { (front w : List T) (y : T) → slice_cmp T.cmp front (front ++ y ∷ w) ≡ Less }
-    ensures longer { (front v : List T) (x : T)
-        → slice_cmp T.cmp (front ++ x ∷ v) front ≡ Greater }
+    ensures differs { (prefix v w : List T) (x y : T) → T.cmp x y ≢ Equal
+        → slice_cmp T.cmp (prefix ++ x ∷ v) (prefix ++ y ∷ w) ≡ T.cmp x y }
+    ensures shorter { (prefix w : List T) (y : T)
+        → slice_cmp T.cmp prefix (prefix ++ y ∷ w) ≡ Less }
+    ensures longer { (prefix v : List T) (x : T)
+        → slice_cmp T.cmp (prefix ++ x ∷ v) prefix ≡ Greater }
     ensures same { (v : List T) → slice_cmp T.cmp v v ≡ Equal }
 {}
 
 /// The order of lists is also lexicographic if items can compare as equal without being the same.
-/// Two items tie if they compare as equal; `front` and `other` have the same length and tie at each
-/// index. The first index at which two lists don't tie decides. If all items of one list tie with
-/// the first items of the other, the shorter list is less and the longer one greater. Lists compare
-/// as equal if and only if they have the same length and tie at each index.
+/// Two items tie if they compare as equal; `prefix` and `other` have the same length and tie at
+/// each index. The first index at which two lists don't tie decides. If all items of one list tie
+/// with the first items of the other, the shorter list is less and the longer one greater. Lists
+/// compare as equal if and only if they have the same length and tie at each index.
 pub fn ties_are_passed_over<T: Ord>()
-    ensures differs { (front other v w : List T) (x y : T)
-        → AllZip (λ a b. T.cmp a b ≡ Equal) front other → T.cmp x y ≢ Equal
-        → slice_cmp T.cmp (front ++ x ∷ v) (other ++ y ∷ w) ≡ T.cmp x y }
-    ensures shorter { (front other w : List T) (y : T)
-        → AllZip (λ a b. T.cmp a b ≡ Equal) front other
-        → slice_cmp T.cmp front (other ++ y ∷ w) ≡ Less }
-    ensures longer { (front other v : List T) (x : T)
-        → AllZip (λ a b. T.cmp a b ≡ Equal) front other
-        → slice_cmp T.cmp (front ++ x ∷ v) other ≡ Greater }
+    ensures differs { (prefix other v w : List T) (x y : T)
+        → AllZip (λ a b. T.cmp a b ≡ Equal) prefix other → T.cmp x y ≢ Equal
+        → slice_cmp T.cmp (prefix ++ x ∷ v) (other ++ y ∷ w) ≡ T.cmp x y }
+    ensures shorter { (prefix other w : List T) (y : T)
+        → AllZip (λ a b. T.cmp a b ≡ Equal) prefix other
+        → slice_cmp T.cmp prefix (other ++ y ∷ w) ≡ Less }
+    ensures longer { (prefix other v : List T) (x : T)
+        → AllZip (λ a b. T.cmp a b ≡ Equal) prefix other
+        → slice_cmp T.cmp (prefix ++ x ∷ v) other ≡ Greater }
     ensures equal { (v w : List T)
         → ((slice_cmp T.cmp v w ≡ Equal) ↔ AllZip (λ a b. T.cmp a b ≡ Equal) v w) }
 {}
@@ -169,16 +170,16 @@ pub fn ties_are_passed_over<T: Ord>()
 /// Lists compare lexicographically by `partial_cmp` too. The result at the first index at which the
 /// lists don't tie decides; if it is `None`, the lists have no order either.
 pub fn partial_ties_are_passed_over<T: PartialOrd>()
-    ensures differs { (front other v w : List T) (x y : T)
-        → AllZip (λ a b. T.partial_cmp a b ≡ Some Equal) front other
+    ensures differs { (prefix other v w : List T) (x y : T)
+        → AllZip (λ a b. T.partial_cmp a b ≡ Some Equal) prefix other
         → T.partial_cmp x y ≢ Some Equal
-        → slice_partial_cmp T.partial_cmp (front ++ x ∷ v) (other ++ y ∷ w) ≡ T.partial_cmp x y }
-    ensures shorter { (front other w : List T) (y : T)
-        → AllZip (λ a b. T.partial_cmp a b ≡ Some Equal) front other
-        → slice_partial_cmp T.partial_cmp front (other ++ y ∷ w) ≡ Some Less }
-    ensures longer { (front other v : List T) (x : T)
-        → AllZip (λ a b. T.partial_cmp a b ≡ Some Equal) front other
-        → slice_partial_cmp T.partial_cmp (front ++ x ∷ v) other ≡ Some Greater }
+        → slice_partial_cmp T.partial_cmp (prefix ++ x ∷ v) (other ++ y ∷ w) ≡ T.partial_cmp x y }
+    ensures shorter { (prefix other w : List T) (y : T)
+        → AllZip (λ a b. T.partial_cmp a b ≡ Some Equal) prefix other
+        → slice_partial_cmp T.partial_cmp prefix (other ++ y ∷ w) ≡ Some Less }
+    ensures longer { (prefix other v : List T) (x : T)
+        → AllZip (λ a b. T.partial_cmp a b ≡ Some Equal) prefix other
+        → slice_partial_cmp T.partial_cmp (prefix ++ x ∷ v) other ≡ Some Greater }
     ensures equal { (v w : List T)
         → ((slice_partial_cmp T.partial_cmp v w ≡ Some Equal)
         ↔ AllZip (λ a b. T.partial_cmp a b ≡ Some Equal) v w) }
@@ -190,8 +191,8 @@ pub fn always_callable_is_callable_at_items<T, R, F: FnMut(&T) -> R>()
     ensures { (f : F) (xs : List T) → F.IsAlwaysCallable f → CallableAtItems F.FnMut f xs }
 {}
 
-/// The runs that were taken from the front of a slice, followed by the runs of the items that are
-/// left, are the runs of the slice, if the closure acts as a test of two items. This holds for both
+/// The runs that were taken of a slice, in order, followed by the runs of the items that are left,
+/// are the runs of the slice, if the closure acts as a test of two items. This holds for both
 /// `by_first` and `by_previous`, and at any moment. Once no item is left, the runs that were taken
 /// are all runs of the slice.
 pub fn runs_taken_are_the_first_runs<T, F: Fn(&T, &T) -> bool>()

@@ -161,7 +161,7 @@ impl<'a, T> NESlice<'a, T> {
     /// item is compared with the one before it; [`adjacent_runs`](Self::adjacent_runs) does that.
     ///
     /// Each run is a part of the slice, so nothing is copied and nothing is allocated. If what
-    /// `same` returns depends on the two items alone, the runs are the one division of the items;
+    /// `same` returns depends only on the two items, the runs are the one division of the items;
     /// `same` need not be reflexive or transitive. With any other `same` the runs are still
     /// non-empty, and one after another they are the slice.
     ///
@@ -190,7 +190,7 @@ impl<'a, T> NESlice<'a, T> {
     /// `same(item before it, item)` returns `true`; otherwise it begins the next run.
     ///
     /// Each run is a part of the slice, so nothing is copied and nothing is allocated. If what
-    /// `same` returns depends on the two items alone, the runs are the one division of the items.
+    /// `same` returns depends only on the two items, the runs are the one division of the items.
     /// If `same` is symmetric and transitive too, [`runs_by`](Self::runs_by) gives the same runs.
     ///
     /// The Rust crate has no such method. It does what `chunk_by` of std's slices does, and its

@@ -256,7 +256,7 @@ impl<T> NEVec<T> {
     /// error if there is no such item.
     ///
     /// `f` is called once for each item, in order. It must be callable with any value of the items'
-    /// type. The clause `kept` covers an `f` whose result depends on the item alone; `asked` covers
+    /// type. The clause `kept` covers an `f` whose result depends only on the item; `called` covers
     /// any `f`.
     ///
     /// ```
@@ -270,7 +270,7 @@ impl<T> NEVec<T> {
         ensures none { IsErr result ↔ (kept_items result ≡ []) }
         ensures kept { (keeps : T → Bool) → ActsAsAt F.FnMut f keeps
             → kept_items result ≡ filter keeps self }
-        ensures asked { IsFiltered (CalledAt F.FnMut) f self (kept_items result) }
+        ensures called { IsFiltered (CalledAt F.FnMut) f self (kept_items result) }
     {
         let mut inner = self.inner;
         inner.retain(f);
@@ -281,8 +281,8 @@ impl<T> NEVec<T> {
     /// them, or returns the empty vector as an error if there is no such item.
     ///
     /// `f` is called once for each item, in order. It must be callable with any value of the items'
-    /// type. The clause `kept` covers an `f` whose result and changes depend on the item alone;
-    /// `asked` covers any `f`.
+    /// type. The clause `kept` covers an `f` whose result and changes depend only on the item;
+    /// `called` covers any `f`.
     ///
     /// ```
     /// let items = nev![alloc; 3, 1, 4, 1, 5, 9, 2, 6]?;
@@ -298,7 +298,7 @@ impl<T> NEVec<T> {
         ensures none { IsErr result ↔ (kept_items result ≡ []) }
         ensures kept { (keeps : T → Bool) (writes : T → T) → ActsAsAtMut F.FnMut f keeps writes
             → kept_items result ≡ map writes (filter keeps self) }
-        ensures asked { RetainsInTurn (CalledAtMut F.FnMut) f self (kept_items result) }
+        ensures called { RetainsInTurn (CalledAtMut F.FnMut) f self (kept_items result) }
     {
         let mut inner = self.inner;
         inner.retain_mut(f);

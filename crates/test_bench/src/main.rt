@@ -22,7 +22,7 @@ use std::process::ExitCode;
 const MOST: usize = 10_000_000;
 
 fn main(rt: HostRuntime) -> ExitCode {
-    match told(&rt) {
+    match checksum_of(&rt) {
         Ok(Some(checksum)) => match println!(rt; "{checksum}") {
             Ok(()) => ExitCode::SUCCESS,
             Err(_) => ExitCode::from(3),
@@ -37,7 +37,7 @@ fn main(rt: HostRuntime) -> ExitCode {
 
 // Returns the checksum of the workload that the command line names, or `None` if it names none, or
 // no size.
-fn told(rt: &HostRuntime) -> Result<Option<u64>, AllocError> {
+fn checksum_of(rt: &HostRuntime) -> Result<Option<u64>, AllocError> {
     let Ok(words) = env::args(rt) else {
         return Ok(None);
     };

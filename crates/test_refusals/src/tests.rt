@@ -42,7 +42,7 @@ fn two(alloc: Global, a: u32, b: u32) -> Result<Vec<u32>, AllocError> {
 }
 
 // Prints the outcome of the call, if it has a name.
-fn tell(rt: &impl Print, outcome: &str, call: &str) -> Result<(), Fail> {
+fn report(rt: &impl Print, outcome: &str, call: &str) -> Result<(), Fail> {
     if !call.is_empty() {
         println!(rt; "{outcome}: {call}")?;
     }
@@ -77,15 +77,15 @@ fn holds(call: &str, fact: bool) -> Result<(), Fail> {
 fn gives(
     rt: &impl Print,
     call: &str,
-    answer: Result<NEVec<u32>, AllocError>,
+    result: Result<NEVec<u32>, AllocError>,
     items: &[u32],
 ) -> Result<(), Fail> {
-    match answer {
+    match result {
         Ok(made) => {
             same(call, made.as_slice(), items)?;
-            tell(rt, "made", call)
+            report(rt, "made", call)
         }
-        Err(AllocError) => tell(rt, "refused", call),
+        Err(AllocError) => report(rt, "refused", call),
     }
 }
 
@@ -94,7 +94,7 @@ fn gives(
 fn leaves(
     rt: &impl Print,
     call: &str,
-    answer: Result<(), AllocError>,
+    result: Result<(), AllocError>,
     items: &NEVec<u32>,
     before: &[u32],
     after: &[u32],
@@ -102,13 +102,17 @@ fn leaves(
     same(
         call,
         items.as_slice(),
-        if answer.is_ok() { after } else { before },
+        if result.is_ok() { after } else { before },
     )?;
-    tell(rt, if answer.is_ok() { "made" } else { "refused" }, call)
+    report(rt, if result.is_ok() { "made" } else { "refused" }, call)
 }
 
 // Fails with the name of the call unless the numbers are these.
-fn walks<I: Iterator<Item = u32> + Drop>(call: &str, numbers: I, wanted: &[u32]) -> Result<(), Fail>
+fn yields<I: Iterator<Item = u32> + Drop>(
+    call: &str,
+    numbers: I,
+    wanted: &[u32],
+) -> Result<(), Fail>
     requires { I.can_next numbers × IsFinite (I.remaining numbers) }
 {
     if numbers.eq(wanted.iter().copied()) {

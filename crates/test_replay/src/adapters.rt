@@ -3,15 +3,15 @@
 
 use crate::call::Call;
 use crate::consumers;
-use crate::transcript::{Answered, Transcript};
+use crate::transcript::{Transcript, Written};
 use ne_laws::reader::take_runs;
 use nonempty_collections::vector::IntoIter;
 use nonempty_collections::{IntoNonEmptyIterator, NEVec, NonEmptyIterator, NonEmptyItertools};
 use std::alloc::AllocError;
-use user_generic::{parted, runs_of_answers, spread, spread_pairs};
+use user_generic::{parted, runs_of_results, spread, spread_pairs};
 
 /// Adapters of references, and the calls that no function before has, on the items by value.
-pub fn referenced(items: &NEVec<u32>, call: &Call, out: &mut Transcript) -> Answered {
+pub fn referenced(items: &NEVec<u32>, call: &Call, out: &mut Transcript) -> Written {
     let source = items.nonempty_iter();
     match call.name {
         "cloned" => cloned(items, out),
@@ -24,19 +24,19 @@ pub fn referenced(items: &NEVec<u32>, call: &Call, out: &mut Transcript) -> Answ
     }
 }
 
-fn cloned(items: &NEVec<u32>, out: &mut Transcript) -> Answered {
+fn cloned(items: &NEVec<u32>, out: &mut Transcript) -> Written {
     let cloned = items.nonempty_iter().cloned();
     out.cloned(cloned.collect::<Result<NEVec<u32>, AllocError>>(out.alloc))
 }
 
-fn product(items: &NEVec<u32>, other: &NEVec<u32>, out: &mut Transcript) -> Answered {
+fn product(items: &NEVec<u32>, other: &NEVec<u32>, out: &mut Transcript) -> Written {
     let others = other.nonempty_iter().copied();
     let pairs = items.nonempty_iter().copied().cartesian_product(others);
     out.cloned(pairs.collect::<Result<NEVec<(u32, u32)>, AllocError>>(out.alloc))
 }
 
 // Adapters of numbers.
-fn alone(source: IntoIter<u32>, call: &Call, out: &mut Transcript) -> Answered {
+fn alone(source: IntoIter<u32>, call: &Call, out: &mut Transcript) -> Written {
     let of = |x: u32| call.closure.of(x);
     match call.name {
         "map" => out.collected(source.map(of)),
@@ -59,12 +59,12 @@ fn zipped(
     source: IntoIter<u32>,
     other: Result<NEVec<u32>, AllocError>,
     out: &mut Transcript,
-) -> Answered {
+) -> Written {
     out.collected(source.zip(other?))
 }
 
 // Peeks at an item, and writes there.
-fn peeked(source: IntoIter<u32>, call: &Call, out: &mut Transcript) -> Answered {
+fn peeked(source: IntoIter<u32>, call: &Call, out: &mut Transcript) -> Written {
     let mut source = source.peekable();
     write!(out.text, "{} ", source.peek())?;
     if call.name == "peek_mut" {
@@ -74,7 +74,7 @@ fn peeked(source: IntoIter<u32>, call: &Call, out: &mut Transcript) -> Answered 
 }
 
 // Adapters over one another.
-fn layered(source: IntoIter<u32>, call: &Call, out: &mut Transcript) -> Answered {
+fn layered(source: IntoIter<u32>, call: &Call, out: &mut Transcript) -> Written {
     match call.name {
         "flat_map_peekable_take_enumerate" => spread_alone(source, call, out),
         "zip_flat_map_peekable_take_enumerate" => {
@@ -83,13 +83,13 @@ fn layered(source: IntoIter<u32>, call: &Call, out: &mut Transcript) -> Answered
         "map_zip_take_unzip" => parted_beside(source, call.vector(out.alloc)?, call, out),
         "map_group_by" => {
             let of = |x: u32| call.closure.of(x);
-            out.made(runs_of_answers(out.alloc, source, of, |x| x / 2))
+            out.made(runs_of_results(out.alloc, source, of, |x| x / 2))
         }
         _ => divided(source, call, out),
     }
 }
 
-fn spread_alone(source: IntoIter<u32>, call: &Call, out: &mut Transcript) -> Answered {
+fn spread_alone(source: IntoIter<u32>, call: &Call, out: &mut Transcript) -> Written {
     let both = |x: u32| [x, call.closure.of(x)];
     let made: Result<Numbered, AllocError> = spread(out.alloc, source, both, call.size);
     out.made(made)
@@ -100,7 +100,7 @@ fn spread_beside(
     other: NEVec<u32>,
     call: &Call,
     out: &mut Transcript,
-) -> Answered {
+) -> Written {
     let both = |(x, y): (u32, u32)| [x, call.closure.of(y)];
     let made: Result<Numbered, AllocError> = spread_pairs(
         out.alloc, source, other, both, call.size,
@@ -113,7 +113,7 @@ fn parted_beside(
     other: NEVec<u32>,
     call: &Call,
     out: &mut Transcript,
-) -> Answered {
+) -> Written {
     let of = |x: u32| call.closure.of(x);
     out.made::<Both>(parted(out.alloc, source, of, other, call.size))
 }
@@ -126,7 +126,7 @@ type Runs = Result<NEVec<NEVec<u32>>, AllocError>;
 
 // Runs of equal keys, all of them or only the first, and separators. A key's closure is called once
 // for each item drawn, so the number of its calls shows how many were drawn.
-fn divided(source: IntoIter<u32>, call: &Call, out: &mut Transcript) -> Answered {
+fn divided(source: IntoIter<u32>, call: &Call, out: &mut Transcript) -> Written {
     let alloc = out.alloc;
     match call.name {
         "group_by" => grouped(source, call, out),
@@ -134,28 +134,28 @@ fn divided(source: IntoIter<u32>, call: &Call, out: &mut Transcript) -> Answered
         "group_by_stopped" => stopped(source, call, out),
         "take_runs" => {
             let key = |x: &u32| call.closure.of(*x);
-            out.told(take_runs(alloc, source, key, call.place)?.0)
+            out.result(take_runs(alloc, source, key, call.place)?.0)
         }
         "intersperse" => {
             let items = source.intersperse(call.first);
             out.cloned(items.collect::<Result<NEVec<u32>, AllocError>>(alloc))
         }
-        _ => consumers::answered(source, call, out),
+        _ => consumers::written(source, call, out),
     }
 }
 
-fn grouped(source: IntoIter<u32>, call: &Call, out: &mut Transcript) -> Answered {
+fn grouped(source: IntoIter<u32>, call: &Call, out: &mut Transcript) -> Written {
     let runs = source.group_by(out.alloc, |x: &u32| call.closure.of(*x));
     out.cloned(runs.collect::<Runs>(out.alloc))
 }
 
-fn first_runs(source: IntoIter<u32>, call: &Call, out: &mut Transcript) -> Answered {
+fn first_runs(source: IntoIter<u32>, call: &Call, out: &mut Transcript) -> Written {
     let runs = source.group_by(out.alloc, |x: &u32| call.closure.of(*x));
     out.cloned(runs.take(call.size).collect::<Runs>(out.alloc))
 }
 
 // So many runs, one by one.
-fn stopped(source: IntoIter<u32>, call: &Call, out: &mut Transcript) -> Answered {
+fn stopped(source: IntoIter<u32>, call: &Call, out: &mut Transcript) -> Written {
     let mut runs = source
         .group_by(out.alloc, |x: &u32| call.closure.of(*x))
         .into_iter();

@@ -9,7 +9,7 @@ use crate::keyed::{
     hashed_set_iterated, indexed_map_iterated, indexed_set_iterated, tree_map_iterated,
     tree_set_iterated,
 };
-use crate::transcript::{Answered, Transcript, put_kept};
+use crate::transcript::{Transcript, Written, put_kept};
 use std::alloc::AllocError;
 use std::fmt::Debug;
 
@@ -25,17 +25,17 @@ fn put_counted<C: Drop, E: Debug + Drop>(
     call: &Call,
     out: &mut Transcript,
     kept: Result<C, E>,
-) -> Answered {
+) -> Written {
     write!(out.text, "{} ", call.closure.calls())?;
     put_kept(there, out, kept)
 }
 
 // Writes the value that is there, and changes it.
-fn exchange(place: Result<&mut u32, AllocError>, number: u32, out: &mut Transcript) -> Answered {
+fn exchange(place: Result<&mut u32, AllocError>, number: u32, out: &mut Transcript) -> Written {
     let place = place?;
     let found = *place;
     *place = changed(found, number);
-    out.told(found)
+    out.result(found)
 }
 
 // Changes each value.
@@ -53,16 +53,16 @@ fn changed(value: u32, number: u32) -> u32 {
 }
 
 /// Calls on a tree map.
-pub fn tree_map_added(map: &mut TreeMap, call: &Call, out: &mut Transcript) -> Answered {
+pub fn tree_map_added(map: &mut TreeMap, call: &Call, out: &mut Transcript) -> Written {
     let (key, other) = (call.key(0), call.key(1));
     match call.name {
-        "remove" => out.told(map.remove(&key)),
-        "remove_entry" => out.told(map.remove_entry(&key)),
-        "first_key_value" => out.told(map.first_key_value()),
-        "last_key_value" => out.told(map.last_key_value()),
-        "pop_first" => out.told(map.pop_first()),
-        "pop_last" => out.told(map.pop_last()),
-        "is_empty" => out.told(map.is_empty()),
+        "remove" => out.result(map.remove(&key)),
+        "remove_entry" => out.result(map.remove_entry(&key)),
+        "first_key_value" => out.result(map.first_key_value()),
+        "last_key_value" => out.result(map.last_key_value()),
+        "pop_first" => out.result(map.pop_first()),
+        "pop_last" => out.result(map.pop_last()),
+        "is_empty" => out.result(map.is_empty()),
         "values_mut" => Ok(rewrite(map.values_mut(), call.first)),
         "range" if key <= other => out.yielded(map.range(key..other)),
         "range" => out.said("out of order"),
@@ -76,11 +76,11 @@ pub fn tree_map_added(map: &mut TreeMap, call: &Call, out: &mut Transcript) -> A
 }
 
 /// Calls on a hashed map.
-pub fn hashed_map_added(map: &mut HashedMap, call: &Call, out: &mut Transcript) -> Answered {
+pub fn hashed_map_added(map: &mut HashedMap, call: &Call, out: &mut Transcript) -> Written {
     let key = call.key(0);
     match call.name {
-        "remove" => out.told(map.remove(&key)),
-        "remove_entry" => out.told(map.remove_entry(&key)),
+        "remove" => out.result(map.remove(&key)),
+        "remove_entry" => out.result(map.remove_entry(&key)),
         "values_mut" => Ok(rewrite(map.values_mut(), call.first)),
         "retain" => {
             let all = map.clone()?;
@@ -92,14 +92,14 @@ pub fn hashed_map_added(map: &mut HashedMap, call: &Call, out: &mut Transcript) 
 }
 
 /// Calls on an index map.
-pub fn indexed_map_added(map: &mut IndexedMap, call: &Call, out: &mut Transcript) -> Answered {
+pub fn indexed_map_added(map: &mut IndexedMap, call: &Call, out: &mut Transcript) -> Written {
     let (key, value) = (call.key(0), call.number(1));
     match call.name {
-        "swap_remove" => out.told(map.swap_remove(&key)),
-        "shift_remove" => out.told(map.shift_remove(&key)),
-        "swap_remove_entry" => out.told(map.swap_remove_entry(&key)),
-        "shift_remove_entry" => out.told(map.shift_remove_entry(&key)),
-        "pop" => out.told(map.pop()),
+        "swap_remove" => out.result(map.swap_remove(&key)),
+        "shift_remove" => out.result(map.shift_remove(&key)),
+        "swap_remove_entry" => out.result(map.swap_remove_entry(&key)),
+        "shift_remove_entry" => out.result(map.shift_remove_entry(&key)),
+        "pop" => out.result(map.pop()),
         "retain" => {
             let all = map.clone()?;
             let kept = all.retain(|key, value| keeps(call, key, value));
@@ -113,16 +113,16 @@ pub fn indexed_map_added(map: &mut IndexedMap, call: &Call, out: &mut Transcript
 }
 
 /// Calls on a tree set.
-pub fn tree_set_added(set: &mut TreeSet, call: &Call, out: &mut Transcript) -> Answered {
+pub fn tree_set_added(set: &mut TreeSet, call: &Call, out: &mut Transcript) -> Written {
     let (item, other) = (call.key(0), call.key(1));
     match call.name {
-        "remove" => out.told(set.remove(&item)),
-        "take" => out.told(set.take(&item)),
-        "first" => out.told(set.first()),
-        "last" => out.told(set.last()),
-        "pop_first" => out.told(set.pop_first()),
-        "pop_last" => out.told(set.pop_last()),
-        "is_empty" => out.told(set.is_empty()),
+        "remove" => out.result(set.remove(&item)),
+        "take" => out.result(set.take(&item)),
+        "first" => out.result(set.first()),
+        "last" => out.result(set.last()),
+        "pop_first" => out.result(set.pop_first()),
+        "pop_last" => out.result(set.pop_last()),
+        "is_empty" => out.result(set.is_empty()),
         "range" if item <= other => out.yielded(set.range(item..=other)),
         "range" => out.said("out of order"),
         "retain" => {
@@ -135,11 +135,11 @@ pub fn tree_set_added(set: &mut TreeSet, call: &Call, out: &mut Transcript) -> A
 }
 
 /// Calls on a hashed set.
-pub fn hashed_set_added(set: &mut HashedSet, call: &Call, out: &mut Transcript) -> Answered {
+pub fn hashed_set_added(set: &mut HashedSet, call: &Call, out: &mut Transcript) -> Written {
     let item = call.key(0);
     match call.name {
-        "remove" => out.told(set.remove(&item)),
-        "take" => out.told(set.take(&item)),
+        "remove" => out.result(set.remove(&item)),
+        "take" => out.result(set.take(&item)),
         "retain" => {
             let all = set.clone()?;
             let kept = all.retain(|item| call.closure.holds(item.number()));
@@ -150,14 +150,14 @@ pub fn hashed_set_added(set: &mut HashedSet, call: &Call, out: &mut Transcript) 
 }
 
 /// Calls on an index set.
-pub fn indexed_set_added(set: &mut IndexedSet, call: &Call, out: &mut Transcript) -> Answered {
+pub fn indexed_set_added(set: &mut IndexedSet, call: &Call, out: &mut Transcript) -> Written {
     let item = call.key(0);
     match call.name {
-        "swap_remove" => out.told(set.swap_remove(&item)),
-        "shift_remove" => out.told(set.shift_remove(&item)),
-        "swap_take" => out.told(set.swap_take(&item)),
-        "shift_take" => out.told(set.shift_take(&item)),
-        "pop" => out.told(set.pop()),
+        "swap_remove" => out.result(set.swap_remove(&item)),
+        "shift_remove" => out.result(set.shift_remove(&item)),
+        "swap_take" => out.result(set.swap_take(&item)),
+        "shift_take" => out.result(set.shift_take(&item)),
+        "pop" => out.result(set.pop()),
         "retain" => {
             let all = set.clone()?;
             let kept = all.retain(|item| call.closure.holds(item.number()));

@@ -2,7 +2,7 @@
 //! next one.
 
 use crate::call::Call;
-use crate::transcript::{Answered, Transcript};
+use crate::transcript::{Transcript, Written};
 use nonempty_collections::vector::IntoIter;
 use nonempty_collections::{NEVec, NonEmptyIterator};
 use std::alloc::AllocError;
@@ -11,7 +11,7 @@ use std::collections::{BTreeMap, BTreeSet, HashMap, HashSet};
 use std::path::PathBuf;
 
 /// Nothing, a result, maps and sets.
-pub fn answered(source: IntoIter<u32>, call: &Call, out: &mut Transcript) -> Answered {
+pub fn written(source: IntoIter<u32>, call: &Call, out: &mut Transcript) -> Written {
     match call.name {
         "collect_unit" => unit(source, call, out),
         "collect_result" => result(source, call, out),
@@ -23,12 +23,12 @@ pub fn answered(source: IntoIter<u32>, call: &Call, out: &mut Transcript) -> Ans
     }
 }
 
-fn unit(source: IntoIter<u32>, call: &Call, out: &mut Transcript) -> Answered {
+fn unit(source: IntoIter<u32>, call: &Call, out: &mut Transcript) -> Written {
     let drops = |x: u32| drop(call.closure.of(x));
     source.map(drops).collect::<()>(out.alloc)
 }
 
-fn result(source: IntoIter<u32>, call: &Call, out: &mut Transcript) -> Answered {
+fn result(source: IntoIter<u32>, call: &Call, out: &mut Transcript) -> Written {
     let holds = |x: u32| if call.closure.holds(x) { Ok(x) } else { Err(x) };
     out.made(
         source
@@ -37,23 +37,23 @@ fn result(source: IntoIter<u32>, call: &Call, out: &mut Transcript) -> Answered 
     )
 }
 
-fn tree_map(source: IntoIter<u32>, call: &Call, out: &mut Transcript) -> Answered {
+fn tree_map(source: IntoIter<u32>, call: &Call, out: &mut Transcript) -> Written {
     let pair = |x: (usize, u32)| (call.closure.of(x.1), x);
     let pairs = source.enumerate().map(pair);
     out.made(pairs.collect::<BTreeMap<u32, (usize, u32)>>(out.alloc))
 }
 
-fn hash_map(source: IntoIter<u32>, call: &Call, out: &mut Transcript) -> Answered {
+fn hash_map(source: IntoIter<u32>, call: &Call, out: &mut Transcript) -> Written {
     let pair = |x: (usize, u32)| (call.closure.of(x.1), x);
     found(source.enumerate().map(pair).collect(out.alloc), call, out)
 }
 
-fn tree_set(source: IntoIter<u32>, call: &Call, out: &mut Transcript) -> Answered {
+fn tree_set(source: IntoIter<u32>, call: &Call, out: &mut Transcript) -> Written {
     let of = |x: u32| call.closure.of(x);
     out.made(source.map(of).collect::<BTreeSet<u32>>(out.alloc))
 }
 
-fn hash_set(source: IntoIter<u32>, call: &Call, out: &mut Transcript) -> Answered {
+fn hash_set(source: IntoIter<u32>, call: &Call, out: &mut Transcript) -> Written {
     let of = |x: u32| call.closure.of(x);
     held(source.map(of).collect(out.alloc), call, out)
 }
@@ -63,15 +63,15 @@ fn found(
     map: Result<HashMap<u32, (usize, u32)>, AllocError>,
     call: &Call,
     out: &mut Transcript,
-) -> Answered {
+) -> Written {
     let map = map?;
-    out.told((map.len(), map.get(&call.first), map.get(&call.last)))
+    out.result((map.len(), map.get(&call.first), map.get(&call.last)))
 }
 
 // A hashed set is shown by its size and by what is found in it, because its order is its own.
-fn held(set: Result<HashSet<u32>, AllocError>, call: &Call, out: &mut Transcript) -> Answered {
+fn held(set: Result<HashSet<u32>, AllocError>, call: &Call, out: &mut Transcript) -> Written {
     let set = set?;
-    out.told((
+    out.result((
         set.len(),
         set.contains(&call.first),
         set.contains(&call.last),
@@ -99,13 +99,13 @@ fn letters(x: u32) -> &'static str {
     }
 }
 
-fn by_reference(source: IntoIter<u32>, out: &mut Transcript) -> Answered {
+fn by_reference(source: IntoIter<u32>, out: &mut Transcript) -> Written {
     let letters: NEVec<char> = source.map(letter).collect(out.alloc)?;
     out.made(letters.nonempty_iter().collect::<String>(out.alloc))
 }
 
 // Texts and paths.
-fn joined(source: IntoIter<u32>, call: &Call, out: &mut Transcript) -> Answered {
+fn joined(source: IntoIter<u32>, call: &Call, out: &mut Transcript) -> Written {
     let alloc = out.alloc;
     match call.name {
         "collect_chars" => out.made(source.map(letter).collect::<String>(alloc)),

@@ -3,20 +3,20 @@
 
 use crate::call::Call;
 use crate::collected;
-use crate::transcript::{Answered, Transcript};
+use crate::transcript::{Transcript, Written};
 use nonempty_collections::vector::IntoIter;
 use nonempty_collections::{NEVec, NonEmptyIterator};
 use std::num::Wrapping;
 
 /// Consumers that return an item, or how many there are.
-pub fn answered(source: IntoIter<u32>, call: &Call, out: &mut Transcript) -> Answered {
+pub fn written(source: IntoIter<u32>, call: &Call, out: &mut Transcript) -> Written {
     let holds = |x: u32| call.closure.holds(x);
     match call.name {
-        "all" => out.told(source.all(holds)),
-        "any" => out.told(source.any(holds)),
-        "find" => out.told(source.find(|x| holds(*x))),
-        "nth" => out.told(source.nth(call.place)),
-        "count" => out.told(source.count()),
+        "all" => out.result(source.all(holds)),
+        "any" => out.result(source.any(holds)),
+        "find" => out.result(source.find(|x| holds(*x))),
+        "nth" => out.result(source.nth(call.place)),
+        "count" => out.result(source.count()),
         "next" => {
             let (first, others) = NonEmptyIterator::next(source);
             out.yielded_after(first, others)
@@ -26,44 +26,44 @@ pub fn answered(source: IntoIter<u32>, call: &Call, out: &mut Transcript) -> Ans
 }
 
 // Consumers that return a total.
-fn totalled(source: IntoIter<u32>, call: &Call, out: &mut Transcript) -> Answered {
+fn totalled(source: IntoIter<u32>, call: &Call, out: &mut Transcript) -> Written {
     match call.name {
         "fold" => folded(source, call, out),
         "reduce" => reduced(source, call, out),
-        "sum" => out.told(source.map(Wrapping).sum::<Wrapping<u32>>().0),
-        "product" => out.told(source.map(Wrapping).product::<Wrapping<u32>>().0),
-        "max" => out.told(source.max()),
-        "min" => out.told(source.min()),
+        "sum" => out.result(source.map(Wrapping).sum::<Wrapping<u32>>().0),
+        "product" => out.result(source.map(Wrapping).product::<Wrapping<u32>>().0),
+        "max" => out.result(source.max()),
+        "min" => out.result(source.min()),
         _ => extreme(source, call, out),
     }
 }
 
-fn folded(source: IntoIter<u32>, call: &Call, out: &mut Transcript) -> Answered {
+fn folded(source: IntoIter<u32>, call: &Call, out: &mut Transcript) -> Written {
     let of = |total: u32, x: u32| total.wrapping_mul(31).wrapping_add(call.closure.of(x));
-    out.told(source.fold(call.first, of))
+    out.result(source.fold(call.first, of))
 }
 
-fn reduced(source: IntoIter<u32>, call: &Call, out: &mut Transcript) -> Answered {
+fn reduced(source: IntoIter<u32>, call: &Call, out: &mut Transcript) -> Written {
     let of = |total: u32, x: u32| total.wrapping_mul(31).wrapping_add(call.closure.of(x));
-    out.told(source.reduce(of))
+    out.result(source.reduce(of))
 }
 
 // Consumers that return a greatest or a least item. The items are shown with their indices, so that
 // equal ones are told apart.
-fn extreme(source: IntoIter<u32>, call: &Call, out: &mut Transcript) -> Answered {
+fn extreme(source: IntoIter<u32>, call: &Call, out: &mut Transcript) -> Written {
     let order = |x: &(usize, u32), y: &(usize, u32)| call.closure.order(x.1, y.1);
     let key = |x: &(usize, u32)| call.closure.of(x.1);
     match call.name {
-        "max_by" => out.told(source.enumerate().max_by(order)),
-        "min_by" => out.told(source.enumerate().min_by(order)),
-        "max_by_key" => out.told(source.enumerate().max_by_key(key)),
-        "min_by_key" => out.told(source.enumerate().min_by_key(key)),
+        "max_by" => out.result(source.enumerate().max_by(order)),
+        "min_by" => out.result(source.enumerate().min_by(order)),
+        "max_by_key" => out.result(source.enumerate().max_by_key(key)),
+        "min_by_key" => out.result(source.enumerate().min_by_key(key)),
         _ => parted(source, call, out),
     }
 }
 
 // Consumers that return an iterator, which may be empty.
-fn parted(source: IntoIter<u32>, call: &Call, out: &mut Transcript) -> Answered {
+fn parted(source: IntoIter<u32>, call: &Call, out: &mut Transcript) -> Written {
     let holds = |x: &u32| call.closure.holds(*x);
     match call.name {
         "filter" => out.yielded(source.filter(holds)),
@@ -73,18 +73,18 @@ fn parted(source: IntoIter<u32>, call: &Call, out: &mut Transcript) -> Answered 
         "take_while" => out.yielded(source.take_while(holds)),
         "unzip" => unzipped(source, call, out),
         "sorted_by_key" => sorted(source, call, out),
-        _ => collected::answered(source, call, out),
+        _ => collected::written(source, call, out),
     }
 }
 
-fn unzipped(source: IntoIter<u32>, call: &Call, out: &mut Transcript) -> Answered {
+fn unzipped(source: IntoIter<u32>, call: &Call, out: &mut Transcript) -> Written {
     let pairs = source.map(|x| (call.closure.of(x), x));
     let both: (NEVec<u32>, NEVec<u32>) = pairs.unzip(out.alloc)?;
-    out.told(both)
+    out.result(both)
 }
 
 // How often the closure is called is up to std.
-fn sorted(source: IntoIter<u32>, call: &Call, out: &mut Transcript) -> Answered {
+fn sorted(source: IntoIter<u32>, call: &Call, out: &mut Transcript) -> Written {
     let key = call.closure.anew();
     let numbered = source.enumerate();
     out.collected(numbered.sorted_by_key(out.alloc, |x| key.of(x.1))?)

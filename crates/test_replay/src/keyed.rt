@@ -9,7 +9,7 @@ use crate::added::{
 };
 use crate::call::Call;
 use crate::key::Key;
-use crate::transcript::{Answered, Transcript, put, put_ok, put_some, write};
+use crate::transcript::{Transcript, Written, put, put_ok, put_some, write};
 use indexmap::{IndexMap, IndexSet, map as index_map, set as index_set};
 use ne_laws::map_calls::run_map;
 use ne_laws::maps::NonEmptyMap;
@@ -113,11 +113,11 @@ macro_rules! with_room {
                 $Kind::with_capacity_and_hasher(alloc, $call.room, hasher, $($part),*),
             ),
             "shrink_to_fit" => $it.shrink_to_fit(),
-            "capacity" => $out.told((
+            "capacity" => $out.result((
                 $it.capacity() >= $it.len(),
                 $it.capacity().get() >= $call.place,
             )),
-            "is_empty" => $out.told($it.is_empty()),
+            "is_empty" => $out.result($it.is_empty()),
             _ => $next($it, $call, $out),
         }
     }};
@@ -133,16 +133,16 @@ macro_rules! changed_map {
             "run_map" => run($map, $call, $out),
             "extend" => $map.extend($call.pairs($out.alloc)?),
             "get_mut" => write($map.get_mut(&key), value, $out),
-            "contains_key" => $out.told($map.contains_key(&key)),
-            "get" => $out.told($map.get(&key)),
-            "get_key_value" => $out.told($map.get_key_value(&key)),
+            "contains_key" => $out.result($map.contains_key(&key)),
+            "get" => $out.result($map.get(&key)),
+            "get_key_value" => $out.result($map.get_key_value(&key)),
             _ => $next($map, $call, $out),
         }
     }};
 }
 
 // Makes a list of calls.
-fn run<M: NonEmptyMap<Key, u32>>(map: &mut M, call: &Call, out: &mut Transcript) -> Answered {
+fn run<M: NonEmptyMap<Key, u32>>(map: &mut M, call: &Call, out: &mut Transcript) -> Written {
     let calls = call.map_calls(out.alloc)?;
     out.made(run_map(out.alloc, map, calls))
 }
@@ -182,8 +182,8 @@ macro_rules! changed_set {
             "replace" => $out.made($set.replace(item)),
             "extend_one" => $set.extend_one(item),
             "extend" => $set.extend($call.items($out.alloc)?),
-            "contains" => $out.told($set.contains(&item)),
-            "get" => $out.told($set.get(&item)),
+            "contains" => $out.result($set.contains(&item)),
+            "get" => $out.result($set.get(&item)),
             _ => $next($set, $call, $out),
         }
     }};
@@ -195,10 +195,10 @@ macro_rules! changed_set {
 macro_rules! iterated {
     ($it:expr, $call:expr, $out:expr, $next:ident, $shared:ident, $consumed:ident) => {
         match $call.name {
-            "len" => $out.told($it.len()),
-            "as_ref" => $out.told($it.as_ref().len()),
+            "len" => $out.result($it.len()),
+            "as_ref" => $out.result($it.as_ref().len()),
             "debug" => $out.printed($it),
-            "clone" => $out.told($it.clone()? == *$it),
+            "clone" => $out.result($it.clone()? == *$it),
             "iter" => $shared($it.iter(), $out),
             "nonempty_iter" => $shared($it.nonempty_iter().into_iter(), $out),
             "ref_into_iter" => $shared((&*$it).into_iter(), $out),
@@ -227,7 +227,7 @@ macro_rules! compared_map {
         match $call.name {
             "keys" => $out.yielded($map.keys()),
             "values" => $out.yielded($map.values()),
-            "eq" => $out.told(*$map == map($call, $out.alloc)?),
+            "eq" => $out.result(*$map == map($call, $out.alloc)?),
             _ => $out.said("no such call"),
         }
     };
@@ -237,10 +237,10 @@ macro_rules! compared_map {
 macro_rules! compared_set {
     ($set:expr, $other:expr, $call:expr, $out:expr) => {
         match $call.name {
-            "eq" => $out.told(*$set == *$other),
-            "is_disjoint" => $out.told($set.is_disjoint($other)),
-            "is_subset" => $out.told($set.is_subset($other)),
-            "is_superset" => $out.told($set.is_superset($other)),
+            "eq" => $out.result(*$set == *$other),
+            "is_disjoint" => $out.result($set.is_disjoint($other)),
+            "is_subset" => $out.result($set.is_subset($other)),
+            "is_superset" => $out.result($set.is_superset($other)),
             "difference" => $out.yielded($set.difference($other)),
             "intersection" => $out.yielded($set.intersection($other)),
             "union" => $out.yielded($set.union($other)),
@@ -254,33 +254,33 @@ macro_rules! compared_set {
 }
 
 /// Calls on a tree map.
-pub fn tree_map(map: &mut TreeMap, call: &Call, out: &mut Transcript) -> Answered {
+pub fn tree_map(map: &mut TreeMap, call: &Call, out: &mut Transcript) -> Written {
     made_map!(map, call, out, tree_map_changed, TreeMap, nebtm)
 }
 
-fn tree_map_changed(map: &mut TreeMap, call: &Call, out: &mut Transcript) -> Answered {
+fn tree_map_changed(map: &mut TreeMap, call: &Call, out: &mut Transcript) -> Written {
     changed_map!(map, call, out, tree_map_more)
 }
 
-fn tree_map_more(map: &mut TreeMap, call: &Call, out: &mut Transcript) -> Answered {
+fn tree_map_more(map: &mut TreeMap, call: &Call, out: &mut Transcript) -> Written {
     changed_std_map!(map, call, out, tree_map_added, TreeMap, BTreeMap)
 }
 
 /// Writes a tree map.
-pub fn tree_map_written(map: &TreeMap, out: &mut Transcript) -> Answered {
+pub fn tree_map_written(map: &TreeMap, out: &mut Transcript) -> Written {
     tree_map_iter(map.iter(), out)
 }
 
-fn tree_map_iter(iter: btree_map::Iter<Key, u32>, out: &mut Transcript) -> Answered {
+fn tree_map_iter(iter: btree_map::Iter<Key, u32>, out: &mut Transcript) -> Written {
     out.yielded(iter)
 }
 
-fn tree_map_into_iter(iter: btree_map::IntoIter<Key, u32>, out: &mut Transcript) -> Answered {
+fn tree_map_into_iter(iter: btree_map::IntoIter<Key, u32>, out: &mut Transcript) -> Written {
     out.yielded(iter)
 }
 
 /// Calls that read a whole tree map, and those that follow.
-pub fn tree_map_iterated(map: &TreeMap, call: &Call, out: &mut Transcript) -> Answered {
+pub fn tree_map_iterated(map: &TreeMap, call: &Call, out: &mut Transcript) -> Written {
     iterated!(
         map,
         call,
@@ -291,7 +291,7 @@ pub fn tree_map_iterated(map: &TreeMap, call: &Call, out: &mut Transcript) -> An
     )
 }
 
-fn tree_map_consumed(all: TreeMap, call: &Call, out: &mut Transcript) -> Answered {
+fn tree_map_consumed(all: TreeMap, call: &Call, out: &mut Transcript) -> Written {
     consumed!(
         all,
         call,
@@ -306,16 +306,16 @@ fn tree_map_consumed(all: TreeMap, call: &Call, out: &mut Transcript) -> Answere
     )
 }
 
-fn tree_map_compared(map: &TreeMap, call: &Call, out: &mut Transcript) -> Answered {
+fn tree_map_compared(map: &TreeMap, call: &Call, out: &mut Transcript) -> Written {
     compared_map!(map, call, out)
 }
 
 /// Calls on a hashed map.
-pub fn hashed_map(map: &mut HashedMap, call: &Call, out: &mut Transcript) -> Answered {
+pub fn hashed_map(map: &mut HashedMap, call: &Call, out: &mut Transcript) -> Written {
     made_map!(map, call, out, hashed_map_room, HashedMap, nem)
 }
 
-fn hashed_map_room(map: &mut HashedMap, call: &Call, out: &mut Transcript) -> Answered {
+fn hashed_map_room(map: &mut HashedMap, call: &Call, out: &mut Transcript) -> Written {
     with_room!(
         map,
         call,
@@ -327,29 +327,29 @@ fn hashed_map_room(map: &mut HashedMap, call: &Call, out: &mut Transcript) -> An
     )
 }
 
-fn hashed_map_changed(map: &mut HashedMap, call: &Call, out: &mut Transcript) -> Answered {
+fn hashed_map_changed(map: &mut HashedMap, call: &Call, out: &mut Transcript) -> Written {
     changed_map!(map, call, out, hashed_map_more)
 }
 
-fn hashed_map_more(map: &mut HashedMap, call: &Call, out: &mut Transcript) -> Answered {
+fn hashed_map_more(map: &mut HashedMap, call: &Call, out: &mut Transcript) -> Written {
     changed_std_map!(map, call, out, hashed_map_added, HashedMap, HashMap)
 }
 
 /// Writes a hashed map.
-pub fn hashed_map_written(map: &HashedMap, out: &mut Transcript) -> Answered {
+pub fn hashed_map_written(map: &HashedMap, out: &mut Transcript) -> Written {
     hashed_map_iter(map.iter(), out)
 }
 
-fn hashed_map_iter(iter: hash_map::Iter<Key, u32>, out: &mut Transcript) -> Answered {
+fn hashed_map_iter(iter: hash_map::Iter<Key, u32>, out: &mut Transcript) -> Written {
     out.yielded(iter)
 }
 
-fn hashed_map_into_iter(iter: hash_map::IntoIter<Key, u32>, out: &mut Transcript) -> Answered {
+fn hashed_map_into_iter(iter: hash_map::IntoIter<Key, u32>, out: &mut Transcript) -> Written {
     out.yielded(iter)
 }
 
 /// Calls that read a whole hashed map, and those that follow.
-pub fn hashed_map_iterated(map: &HashedMap, call: &Call, out: &mut Transcript) -> Answered {
+pub fn hashed_map_iterated(map: &HashedMap, call: &Call, out: &mut Transcript) -> Written {
     iterated!(
         map,
         call,
@@ -360,7 +360,7 @@ pub fn hashed_map_iterated(map: &HashedMap, call: &Call, out: &mut Transcript) -
     )
 }
 
-fn hashed_map_consumed(all: HashedMap, call: &Call, out: &mut Transcript) -> Answered {
+fn hashed_map_consumed(all: HashedMap, call: &Call, out: &mut Transcript) -> Written {
     consumed!(
         all,
         call,
@@ -375,16 +375,16 @@ fn hashed_map_consumed(all: HashedMap, call: &Call, out: &mut Transcript) -> Ans
     )
 }
 
-fn hashed_map_compared(map: &HashedMap, call: &Call, out: &mut Transcript) -> Answered {
+fn hashed_map_compared(map: &HashedMap, call: &Call, out: &mut Transcript) -> Written {
     compared_map!(map, call, out)
 }
 
 /// Calls on an index map.
-pub fn indexed_map(map: &mut IndexedMap, call: &Call, out: &mut Transcript) -> Answered {
+pub fn indexed_map(map: &mut IndexedMap, call: &Call, out: &mut Transcript) -> Written {
     made_map!(map, call, out, indexed_map_room, IndexedMap, neim)
 }
 
-fn indexed_map_room(map: &mut IndexedMap, call: &Call, out: &mut Transcript) -> Answered {
+fn indexed_map_room(map: &mut IndexedMap, call: &Call, out: &mut Transcript) -> Written {
     with_room!(
         map,
         call,
@@ -396,19 +396,19 @@ fn indexed_map_room(map: &mut IndexedMap, call: &Call, out: &mut Transcript) -> 
     )
 }
 
-fn indexed_map_changed(map: &mut IndexedMap, call: &Call, out: &mut Transcript) -> Answered {
+fn indexed_map_changed(map: &mut IndexedMap, call: &Call, out: &mut Transcript) -> Written {
     changed_map!(map, call, out, indexed_map_placed)
 }
 
-fn indexed_map_placed(map: &mut IndexedMap, call: &Call, out: &mut Transcript) -> Answered {
+fn indexed_map_placed(map: &mut IndexedMap, call: &Call, out: &mut Transcript) -> Written {
     let (a, b, len) = (call.place, call.last as usize, map.len().get());
     match call.name {
         "swap_indices" if a < len && b < len => Ok(map.swap_indices(a, b)),
-        "index" if a < len => out.told(map[a]),
+        "index" if a < len => out.result(map[a]),
         "swap_indices" | "index" => out.said("out of range"),
-        "first" => out.told(map.first()),
-        "last" => out.told(map.last()),
-        "get_index_of" => out.told(map.get_index_of(&call.key(0))),
+        "first" => out.result(map.first()),
+        "last" => out.result(map.last()),
+        "get_index_of" => out.result(map.get_index_of(&call.key(0))),
         "nonempty_iter_clone" => out.yielded(map.nonempty_iter().clone()?),
         "keys_clone" => out.yielded(map.keys().clone()?),
         "values_clone" => out.yielded(map.values().clone()?),
@@ -417,20 +417,20 @@ fn indexed_map_placed(map: &mut IndexedMap, call: &Call, out: &mut Transcript) -
 }
 
 /// Writes an index map.
-pub fn indexed_map_written(map: &IndexedMap, out: &mut Transcript) -> Answered {
+pub fn indexed_map_written(map: &IndexedMap, out: &mut Transcript) -> Written {
     indexed_map_iter(map.iter(), out)
 }
 
-fn indexed_map_iter(iter: index_map::Iter<Key, u32>, out: &mut Transcript) -> Answered {
+fn indexed_map_iter(iter: index_map::Iter<Key, u32>, out: &mut Transcript) -> Written {
     out.yielded(iter)
 }
 
-fn indexed_map_into_iter(iter: index_map::IntoIter<Key, u32>, out: &mut Transcript) -> Answered {
+fn indexed_map_into_iter(iter: index_map::IntoIter<Key, u32>, out: &mut Transcript) -> Written {
     out.yielded(iter)
 }
 
 /// Calls that read a whole index map, and those that follow.
-pub fn indexed_map_iterated(map: &IndexedMap, call: &Call, out: &mut Transcript) -> Answered {
+pub fn indexed_map_iterated(map: &IndexedMap, call: &Call, out: &mut Transcript) -> Written {
     iterated!(
         map,
         call,
@@ -441,7 +441,7 @@ pub fn indexed_map_iterated(map: &IndexedMap, call: &Call, out: &mut Transcript)
     )
 }
 
-fn indexed_map_consumed(all: IndexedMap, call: &Call, out: &mut Transcript) -> Answered {
+fn indexed_map_consumed(all: IndexedMap, call: &Call, out: &mut Transcript) -> Written {
     consumed!(
         all,
         call,
@@ -452,34 +452,34 @@ fn indexed_map_consumed(all: IndexedMap, call: &Call, out: &mut Transcript) -> A
     )
 }
 
-fn indexed_map_compared(map: &IndexedMap, call: &Call, out: &mut Transcript) -> Answered {
+fn indexed_map_compared(map: &IndexedMap, call: &Call, out: &mut Transcript) -> Written {
     compared_map!(map, call, out)
 }
 
 /// Calls on a tree set.
-pub fn tree_set(set: &mut TreeSet, call: &Call, out: &mut Transcript) -> Answered {
+pub fn tree_set(set: &mut TreeSet, call: &Call, out: &mut Transcript) -> Written {
     made_set!(set, call, out, tree_set_changed, TreeSet, nebts, BTreeSet)
 }
 
-fn tree_set_changed(set: &mut TreeSet, call: &Call, out: &mut Transcript) -> Answered {
+fn tree_set_changed(set: &mut TreeSet, call: &Call, out: &mut Transcript) -> Written {
     changed_set!(set, call, out, tree_set_added)
 }
 
 /// Writes a tree set.
-pub fn tree_set_written(set: &TreeSet, out: &mut Transcript) -> Answered {
+pub fn tree_set_written(set: &TreeSet, out: &mut Transcript) -> Written {
     tree_set_iter(set.iter(), out)
 }
 
-fn tree_set_iter(iter: btree_set::Iter<Key>, out: &mut Transcript) -> Answered {
+fn tree_set_iter(iter: btree_set::Iter<Key>, out: &mut Transcript) -> Written {
     out.yielded(iter)
 }
 
-fn tree_set_into_iter(iter: btree_set::IntoIter<Key>, out: &mut Transcript) -> Answered {
+fn tree_set_into_iter(iter: btree_set::IntoIter<Key>, out: &mut Transcript) -> Written {
     out.yielded(iter)
 }
 
 /// Calls that read a whole tree set, and those that follow.
-pub fn tree_set_iterated(set: &TreeSet, call: &Call, out: &mut Transcript) -> Answered {
+pub fn tree_set_iterated(set: &TreeSet, call: &Call, out: &mut Transcript) -> Written {
     iterated!(
         set,
         call,
@@ -490,7 +490,7 @@ pub fn tree_set_iterated(set: &TreeSet, call: &Call, out: &mut Transcript) -> An
     )
 }
 
-fn tree_set_consumed(all: TreeSet, call: &Call, out: &mut Transcript) -> Answered {
+fn tree_set_consumed(all: TreeSet, call: &Call, out: &mut Transcript) -> Written {
     consumed!(
         all,
         call,
@@ -501,49 +501,49 @@ fn tree_set_consumed(all: TreeSet, call: &Call, out: &mut Transcript) -> Answere
     )
 }
 
-fn tree_set_compared(it: &TreeSet, call: &Call, out: &mut Transcript) -> Answered {
+fn tree_set_compared(it: &TreeSet, call: &Call, out: &mut Transcript) -> Written {
     tree_set_with(it, &set(call, out.alloc)?, call, out)
 }
 
-fn tree_set_with(set: &TreeSet, other: &TreeSet, call: &Call, out: &mut Transcript) -> Answered {
+fn tree_set_with(set: &TreeSet, other: &TreeSet, call: &Call, out: &mut Transcript) -> Written {
     compared_set!(set, other, call, out)
 }
 
 /// Calls on a hashed set.
-pub fn hashed_set(set: &mut HashedSet, call: &Call, out: &mut Transcript) -> Answered {
+pub fn hashed_set(set: &mut HashedSet, call: &Call, out: &mut Transcript) -> Written {
     made_set!(set, call, out, hashed_set_room, HashedSet, nes, HashSet)
 }
 
-fn hashed_set_room(set: &mut HashedSet, call: &Call, out: &mut Transcript) -> Answered {
+fn hashed_set_room(set: &mut HashedSet, call: &Call, out: &mut Transcript) -> Written {
     with_room!(set, call, out, hashed_set_reserved, HashedSet, call.key(0))
 }
 
-fn hashed_set_reserved(set: &mut HashedSet, call: &Call, out: &mut Transcript) -> Answered {
+fn hashed_set_reserved(set: &mut HashedSet, call: &Call, out: &mut Transcript) -> Written {
     match call.name {
         "reserve" => set.reserve(call.place),
         _ => hashed_set_changed(set, call, out),
     }
 }
 
-fn hashed_set_changed(set: &mut HashedSet, call: &Call, out: &mut Transcript) -> Answered {
+fn hashed_set_changed(set: &mut HashedSet, call: &Call, out: &mut Transcript) -> Written {
     changed_set!(set, call, out, hashed_set_added)
 }
 
 /// Writes a hashed set.
-pub fn hashed_set_written(set: &HashedSet, out: &mut Transcript) -> Answered {
+pub fn hashed_set_written(set: &HashedSet, out: &mut Transcript) -> Written {
     hashed_set_iter(set.iter(), out)
 }
 
-fn hashed_set_iter(iter: hash_set::Iter<Key>, out: &mut Transcript) -> Answered {
+fn hashed_set_iter(iter: hash_set::Iter<Key>, out: &mut Transcript) -> Written {
     out.yielded(iter)
 }
 
-fn hashed_set_into_iter(iter: hash_set::IntoIter<Key>, out: &mut Transcript) -> Answered {
+fn hashed_set_into_iter(iter: hash_set::IntoIter<Key>, out: &mut Transcript) -> Written {
     out.yielded(iter)
 }
 
 /// Calls that read a whole hashed set, and those that follow.
-pub fn hashed_set_iterated(set: &HashedSet, call: &Call, out: &mut Transcript) -> Answered {
+pub fn hashed_set_iterated(set: &HashedSet, call: &Call, out: &mut Transcript) -> Written {
     iterated!(
         set,
         call,
@@ -554,7 +554,7 @@ pub fn hashed_set_iterated(set: &HashedSet, call: &Call, out: &mut Transcript) -
     )
 }
 
-fn hashed_set_consumed(all: HashedSet, call: &Call, out: &mut Transcript) -> Answered {
+fn hashed_set_consumed(all: HashedSet, call: &Call, out: &mut Transcript) -> Written {
     consumed!(
         all,
         call,
@@ -565,7 +565,7 @@ fn hashed_set_consumed(all: HashedSet, call: &Call, out: &mut Transcript) -> Ans
     )
 }
 
-fn hashed_set_compared(it: &HashedSet, call: &Call, out: &mut Transcript) -> Answered {
+fn hashed_set_compared(it: &HashedSet, call: &Call, out: &mut Transcript) -> Written {
     hashed_set_with(it, &set(call, out.alloc)?, call, out)
 }
 
@@ -574,16 +574,16 @@ fn hashed_set_with(
     other: &HashedSet,
     call: &Call,
     out: &mut Transcript,
-) -> Answered {
+) -> Written {
     compared_set!(set, other, call, out)
 }
 
 /// Calls on an index set.
-pub fn indexed_set(set: &mut IndexedSet, call: &Call, out: &mut Transcript) -> Answered {
+pub fn indexed_set(set: &mut IndexedSet, call: &Call, out: &mut Transcript) -> Written {
     made_set!(set, call, out, indexed_set_room, IndexedSet, neis, IndexSet)
 }
 
-fn indexed_set_room(set: &mut IndexedSet, call: &Call, out: &mut Transcript) -> Answered {
+fn indexed_set_room(set: &mut IndexedSet, call: &Call, out: &mut Transcript) -> Written {
     with_room!(
         set,
         call,
@@ -594,32 +594,32 @@ fn indexed_set_room(set: &mut IndexedSet, call: &Call, out: &mut Transcript) -> 
     )
 }
 
-fn indexed_set_reserved(set: &mut IndexedSet, call: &Call, out: &mut Transcript) -> Answered {
+fn indexed_set_reserved(set: &mut IndexedSet, call: &Call, out: &mut Transcript) -> Written {
     match call.name {
         "reserve" => set.reserve(call.place),
         _ => indexed_set_changed(set, call, out),
     }
 }
 
-fn indexed_set_changed(set: &mut IndexedSet, call: &Call, out: &mut Transcript) -> Answered {
+fn indexed_set_changed(set: &mut IndexedSet, call: &Call, out: &mut Transcript) -> Written {
     changed_set!(set, call, out, indexed_set_added)
 }
 
 /// Writes an index set.
-pub fn indexed_set_written(set: &IndexedSet, out: &mut Transcript) -> Answered {
+pub fn indexed_set_written(set: &IndexedSet, out: &mut Transcript) -> Written {
     indexed_set_iter(set.iter(), out)
 }
 
-fn indexed_set_iter(iter: index_set::Iter<Key>, out: &mut Transcript) -> Answered {
+fn indexed_set_iter(iter: index_set::Iter<Key>, out: &mut Transcript) -> Written {
     out.yielded(iter)
 }
 
-fn indexed_set_into_iter(iter: index_set::IntoIter<Key>, out: &mut Transcript) -> Answered {
+fn indexed_set_into_iter(iter: index_set::IntoIter<Key>, out: &mut Transcript) -> Written {
     out.yielded(iter)
 }
 
 /// Calls that read a whole index set, and those that follow.
-pub fn indexed_set_iterated(set: &IndexedSet, call: &Call, out: &mut Transcript) -> Answered {
+pub fn indexed_set_iterated(set: &IndexedSet, call: &Call, out: &mut Transcript) -> Written {
     iterated!(
         set,
         call,
@@ -630,7 +630,7 @@ pub fn indexed_set_iterated(set: &IndexedSet, call: &Call, out: &mut Transcript)
     )
 }
 
-fn indexed_set_consumed(all: IndexedSet, call: &Call, out: &mut Transcript) -> Answered {
+fn indexed_set_consumed(all: IndexedSet, call: &Call, out: &mut Transcript) -> Written {
     consumed!(
         all,
         call,
@@ -641,7 +641,7 @@ fn indexed_set_consumed(all: IndexedSet, call: &Call, out: &mut Transcript) -> A
     )
 }
 
-fn indexed_set_compared(it: &IndexedSet, call: &Call, out: &mut Transcript) -> Answered {
+fn indexed_set_compared(it: &IndexedSet, call: &Call, out: &mut Transcript) -> Written {
     indexed_set_with(it, &set(call, out.alloc)?, call, out)
 }
 
@@ -650,6 +650,6 @@ fn indexed_set_with(
     other: &IndexedSet,
     call: &Call,
     out: &mut Transcript,
-) -> Answered {
+) -> Written {
     compared_set!(set, other, call, out)
 }

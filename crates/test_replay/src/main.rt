@@ -26,7 +26,7 @@ use nonempty_collections::{IntoNonEmptyIterator, NEVec, NonEmptyIterator};
 use std::alloc::{AllocError, Global};
 use std::io;
 use std::process::ExitCode;
-use transcript::{Answered, Transcript, put};
+use transcript::{Transcript, Written, put};
 
 fn main(rt: HostRuntime) -> ExitCode {
     let Ok(script) = io::read_to_string(rt.alloc(), rt.stdin()) else {
@@ -53,8 +53,8 @@ fn replayed(alloc: Global, script: &str) -> Result<String, AllocError> {
 
 // Makes the call, and writes its line. A call that reports a failed allocation leaves the others
 // as they are.
-fn replay(subject: &mut Subject, call: &Call, out: &mut Transcript) -> Answered {
-    if answered(subject, call, out).is_err() {
+fn replay(subject: &mut Subject, call: &Call, out: &mut Transcript) -> Written {
+    if written(subject, call, out).is_err() {
         out.said("AllocError")?;
     }
     out.said(" | ")?;
@@ -66,7 +66,7 @@ fn replay(subject: &mut Subject, call: &Call, out: &mut Transcript) -> Answered 
 }
 
 // Makes the collection, or the call.
-fn answered(subject: &mut Subject, call: &Call, out: &mut Transcript) -> Answered {
+fn written(subject: &mut Subject, call: &Call, out: &mut Transcript) -> Written {
     let alloc = out.alloc;
     match call.name {
         "vector" => put(subject, Ok(Subject::Vector(call.vector(alloc)?))),
@@ -76,7 +76,7 @@ fn answered(subject: &mut Subject, call: &Call, out: &mut Transcript) -> Answere
         "tree_set" => put(subject, Ok(Subject::TreeSet(keyed::set(call, alloc)?))),
         "hashed_set" => put(subject, Ok(Subject::HashedSet(keyed::set(call, alloc)?))),
         "indexed_set" => put(subject, Ok(Subject::IndexedSet(keyed::set(call, alloc)?))),
-        _ => subject.answered(call, out),
+        _ => subject.written(call, out),
     }
 }
 
@@ -98,7 +98,7 @@ impl Subject {
         matches!(self, Subject::HashedMap(_) | Subject::HashedSet(_))
     }
 
-    fn answered(&mut self, call: &Call, out: &mut Transcript) -> Answered {
+    fn written(&mut self, call: &Call, out: &mut Transcript) -> Written {
         match self {
             Subject::Vector(items) => vector::made(items, call, out),
             Subject::TreeMap(map) => keyed::tree_map(map, call, out),
@@ -110,7 +110,7 @@ impl Subject {
         }
     }
 
-    fn write(&self, call: &Call, out: &mut Transcript) -> Answered {
+    fn write(&self, call: &Call, out: &mut Transcript) -> Written {
         match self {
             Subject::Vector(items) => vector::written_out(items, call, out),
             Subject::TreeMap(map) => keyed::tree_map_written(map, out),

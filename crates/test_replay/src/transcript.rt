@@ -10,7 +10,7 @@ use std::alloc::{AllocError, Global};
 use std::fmt::Debug;
 
 /// Whether there was memory for a call and its result.
-pub type Answered = Result<(), AllocError>;
+pub type Written = Result<(), AllocError>;
 
 /// What has been written, and how iterators are written.
 #[derive(Drop)]
@@ -37,12 +37,12 @@ impl Transcript {
     }
 
     /// Writes a result, or the length and a checksum of its text, if that is long.
-    pub fn told<T: Debug + Drop>(&mut self, answer: T) -> Answered {
-        let text = format!(in self.alloc; "{answer:?}")?;
+    pub fn told<T: Debug + Drop>(&mut self, result: T) -> Written {
+        let text = format!(in self.alloc; "{result:?}")?;
         self.shortened(text.as_str())
     }
 
-    fn shortened(&mut self, text: &str) -> Answered {
+    fn shortened(&mut self, text: &str) -> Written {
         if text.len() <= LONGEST {
             return self.said(text);
         }
@@ -50,20 +50,20 @@ impl Transcript {
     }
 
     /// Writes a result, if there was memory for it.
-    pub fn made<T: Debug + Drop>(&mut self, answer: Result<T, AllocError>) -> Answered {
-        self.told(answer?)
+    pub fn made<T: Debug + Drop>(&mut self, result: Result<T, AllocError>) -> Written {
+        self.result(result?)
     }
 
     /// Writes a result that holds clones, if there was memory for it and for each of them.
     pub fn cloned<T: Debug + Drop>(
         &mut self,
-        answer: Result<Result<T, AllocError>, AllocError>,
-    ) -> Answered {
-        self.told(answer??)
+        result: Result<Result<T, AllocError>, AllocError>,
+    ) -> Written {
+        self.result(result??)
     }
 
     /// Writes a text as it is.
-    pub fn said(&mut self, words: &str) -> Answered {
+    pub fn said(&mut self, words: &str) -> Written {
         write!(self.text, "{words}")
     }
 
@@ -71,16 +71,16 @@ impl Transcript {
     pub fn collected<T: Debug + Drop, S: NonEmptyIterator<Item = T>>(
         &mut self,
         source: S,
-    ) -> Answered
+    ) -> Written
         requires { ⟦<S as Source>⟧.ends source }
     {
         let items: NEVec<T> = source.collect(self.alloc)?;
-        self.told(items)
+        self.result(items)
     }
 
     /// Writes the items that an iterator yields. For more than a hundred items it writes their
     /// number, the first, the last and a checksum of all.
-    pub fn yielded<T: Ord + Debug + Drop, I: IntoIterator<Item = T>>(&mut self, iter: I) -> Answered
+    pub fn yielded<T: Ord + Debug + Drop, I: IntoIterator<Item = T>>(&mut self, iter: I) -> Written
         requires { IsFiniteIterable I.into_iter_gives I.IntoIter.can_next I.IntoIter.remaining
             iter }
     {
@@ -93,7 +93,7 @@ impl Transcript {
         &mut self,
         first: T,
         iter: I,
-    ) -> Answered
+    ) -> Written
         requires { IsFiniteIterable I.into_iter_gives I.IntoIter.can_next I.IntoIter.remaining
             iter }
     {
@@ -107,22 +107,22 @@ impl Transcript {
         &mut self,
         mut list: Vec<T>,
         iter: I,
-    ) -> Answered
+    ) -> Written
         requires { IsFiniteIterable I.into_iter_gives I.IntoIter.can_next I.IntoIter.remaining
             iter }
     {
         list.extend(iter)?;
         if self.is_brief && list.len() > MOST {
-            return self.told(list.len());
+            return self.result(list.len());
         }
         if self.is_sorted {
             list.sort()?;
         }
         if list.len() <= MOST {
-            return self.told(list);
+            return self.result(list);
         }
         let text = format!(in self.alloc; "{list:?}")?;
-        self.told((
+        self.result((
             list.len(),
             list.first(),
             list.last(),
@@ -132,7 +132,7 @@ impl Transcript {
 
     /// Writes what a value prints, if that is short and its order is specified, and then the lines
     /// that it prints in its long form within a list.
-    pub fn printed<T: Debug>(&mut self, value: &T) -> Answered {
+    pub fn printed<T: Debug>(&mut self, value: &T) -> Written {
         let short = format!(in self.alloc; "{value:?}")?;
         if short.len() <= MOST && !(self.is_sorted && short.as_str().contains(',')) {
             write!(self.text, "{short} ")?;
@@ -159,14 +159,14 @@ fn checksum(text: &str) -> u32 {
 }
 
 /// Puts the collection that was made in place of the current one, if there was memory for it.
-pub fn put<C: Drop>(there: &mut C, made: Result<C, AllocError>) -> Answered {
+pub fn put<C: Drop>(there: &mut C, made: Result<C, AllocError>) -> Written {
     *there = made?;
     Ok(())
 }
 
 /// Puts what was made from something that may be empty. If it is empty, writes `None`, and the
 /// current collection stays.
-pub fn put_some<C: Drop>(there: &mut C, out: &mut Transcript, made: Option<C>) -> Answered {
+pub fn put_some<C: Drop>(there: &mut C, out: &mut Transcript, made: Option<C>) -> Written {
     match made {
         Some(made) => put(there, Ok(made)),
         None => out.said("None"),
@@ -175,7 +175,7 @@ pub fn put_some<C: Drop>(there: &mut C, out: &mut Transcript, made: Option<C>) -
 
 /// Puts what was made from something that may be empty. If it is empty, writes the error, and the
 /// current collection stays.
-pub fn put_ok<C: Drop>(there: &mut C, out: &mut Transcript, made: Result<C, Error>) -> Answered {
+pub fn put_ok<C: Drop>(there: &mut C, out: &mut Transcript, made: Result<C, Error>) -> Written {
     match made {
         Ok(made) => put(there, Ok(made)),
         Err(error) => write!(out.text, "{error}, {error:?}"),
@@ -187,15 +187,15 @@ pub fn put_kept<C: Drop, E: Debug + Drop>(
     there: &mut C,
     out: &mut Transcript,
     kept: Result<C, E>,
-) -> Answered {
+) -> Written {
     match kept {
         Ok(kept) => put(there, Ok(kept)),
-        Err(nothing) => out.told(nothing),
+        Err(nothing) => out.result(nothing),
     }
 }
 
 /// Writes a number through a reference, if there is one.
-pub fn write(place: Option<&mut u32>, number: u32, out: &mut Transcript) -> Answered {
+pub fn write(place: Option<&mut u32>, number: u32, out: &mut Transcript) -> Written {
     match place {
         Some(place) => Ok(*place = number),
         None => out.said("None"),

@@ -3,7 +3,7 @@ ghost use Rattle.std.specs.Iterator.{IsFiniteIterable};
 
 use crate::call::Call;
 use crate::slice;
-use crate::transcript::{Answered, Transcript, put, put_kept, put_ok, put_some, write};
+use crate::transcript::{Transcript, Written, put, put_kept, put_ok, put_some, write};
 use ne_laws::vector_calls::run_vec;
 use nonempty_collections::{IntoNonEmptyIterator, NEVec, NonEmptyIterator, Singleton, nev};
 use std::alloc::AllocError;
@@ -11,7 +11,7 @@ use std::hash::{DefaultHasher, Hash, Hasher};
 use std::{slice as std_slice, vec};
 
 /// All calls on a vector. Those that make one, which replaces the current one, come first.
-pub fn made(items: &mut NEVec<u32>, call: &Call, out: &mut Transcript) -> Answered {
+pub fn made(items: &mut NEVec<u32>, call: &Call, out: &mut Transcript) -> Written {
     let (alloc, first, last) = (out.alloc, call.first, call.last);
     match call.name {
         "new" => put(items, NEVec::new(alloc, first)),
@@ -28,7 +28,7 @@ pub fn made(items: &mut NEVec<u32>, call: &Call, out: &mut Transcript) -> Answer
 }
 
 // Calls that make a vector from something that may be empty.
-fn tried(items: &mut NEVec<u32>, call: &Call, out: &mut Transcript) -> Answered {
+fn tried(items: &mut NEVec<u32>, call: &Call, out: &mut Transcript) -> Written {
     let alloc = out.alloc;
     match call.name {
         "try_from_vec" => put_some(items, out, NEVec::try_from_vec(call.list(alloc)?)),
@@ -42,7 +42,7 @@ fn tried(items: &mut NEVec<u32>, call: &Call, out: &mut Transcript) -> Answered 
 }
 
 // Calls that write items in place.
-fn written(items: &mut NEVec<u32>, call: &Call, out: &mut Transcript) -> Answered {
+fn written(items: &mut NEVec<u32>, call: &Call, out: &mut Transcript) -> Written {
     match call.name {
         "first_mut" => Ok(*items.first_mut() = call.last),
         "last_mut" => Ok(*items.last_mut() = call.last),
@@ -68,16 +68,16 @@ fn rewrite<'a, I: IntoIterator<Item = &'a mut u32>>(iter: I, call: &Call)
 }
 
 // Calls that add and remove items.
-fn edited(items: &mut NEVec<u32>, call: &Call, out: &mut Transcript) -> Answered {
+fn edited(items: &mut NEVec<u32>, call: &Call, out: &mut Transcript) -> Written {
     match call.name {
         "push" => items.push(call.first),
         "extend_one" => items.extend_one(call.first),
-        "pop" => out.told(items.pop()),
+        "pop" => out.result(items.pop()),
         "remove" if items.len().get() == 1 || call.place < items.len().get() => {
-            out.told(items.remove(call.place))
+            out.result(items.remove(call.place))
         }
         "swap_remove" if items.len().get() == 1 || call.place < items.len().get() => {
-            out.told(items.swap_remove(call.place))
+            out.result(items.swap_remove(call.place))
         }
         "insert" if call.place <= items.len().get() => items.insert(call.place, call.last),
         "remove" | "swap_remove" | "insert" => out.said("out of range"),
@@ -89,14 +89,14 @@ fn edited(items: &mut NEVec<u32>, call: &Call, out: &mut Transcript) -> Answered
     }
 }
 
-fn append(items: &mut NEVec<u32>, call: &Call, out: &mut Transcript) -> Answered {
+fn append(items: &mut NEVec<u32>, call: &Call, out: &mut Transcript) -> Written {
     let mut other = call.list(out.alloc)?;
     items.append(&mut other)?;
-    out.told(other)
+    out.result(other)
 }
 
 // Calls that keep some of the items.
-fn kept(items: &mut NEVec<u32>, call: &Call, out: &mut Transcript) -> Answered {
+fn kept(items: &mut NEVec<u32>, call: &Call, out: &mut Transcript) -> Written {
     let closure = &call.closure;
     match call.name {
         "retain" => {
@@ -119,7 +119,7 @@ fn kept(items: &mut NEVec<u32>, call: &Call, out: &mut Transcript) -> Answered {
 }
 
 // Calls that the Rust crate lacks, except for sorts.
-fn added(items: &mut NEVec<u32>, call: &Call, out: &mut Transcript) -> Answered {
+fn added(items: &mut NEVec<u32>, call: &Call, out: &mut Transcript) -> Written {
     let (a, b, len) = (call.place, call.last as usize, items.len().get());
     match call.name {
         "swap" if a < len && b < len => Ok(items.swap(a, b)),
@@ -132,7 +132,7 @@ fn added(items: &mut NEVec<u32>, call: &Call, out: &mut Transcript) -> Answered 
 
 // Calls that sort. How often a closure is called is up to std. In unstable sorts no two different
 // numbers tie.
-fn sorted(items: &mut NEVec<u32>, call: &Call, out: &mut Transcript) -> Answered {
+fn sorted(items: &mut NEVec<u32>, call: &Call, out: &mut Transcript) -> Written {
     let closure = call.closure.anew();
     match call.name {
         "sort" => items.sort(),
@@ -148,45 +148,45 @@ fn sorted(items: &mut NEVec<u32>, call: &Call, out: &mut Transcript) -> Answered
 }
 
 // Calls that read the vector.
-fn read(items: &NEVec<u32>, call: &Call, out: &mut Transcript) -> Answered {
+fn read(items: &NEVec<u32>, call: &Call, out: &mut Transcript) -> Written {
     match call.name {
-        "first" => out.told(items.first()),
-        "last" => out.told(items.last()),
-        "get" => out.told(items.get(call.place)),
-        "index" if call.place < items.len().get() => out.told(items[call.place]),
+        "first" => out.result(items.first()),
+        "last" => out.result(items.last()),
+        "get" => out.result(items.get(call.place)),
+        "index" if call.place < items.len().get() => out.result(items[call.place]),
         "index" => out.said("out of range"),
-        "len" => out.told(items.len()),
-        "is_empty" => out.told(items.is_empty()),
-        "capacity" => out.told(items.capacity() >= items.len()),
-        "contains" => out.told(items.contains(&call.first)),
-        "as_ref" => out.told(items.as_ref()),
-        "split_first" => out.told(items.split_first()),
-        "split" => out.told(items.split()),
+        "len" => out.result(items.len()),
+        "is_empty" => out.result(items.is_empty()),
+        "capacity" => out.result(items.capacity() >= items.len()),
+        "contains" => out.result(items.contains(&call.first)),
+        "as_ref" => out.result(items.as_ref()),
+        "split_first" => out.result(items.split_first()),
+        "split" => out.result(items.split()),
         "clone" => out.made(items.clone()),
-        "into_vec" => out.told(Vec::from(items.clone()?)),
+        "into_vec" => out.result(Vec::from(items.clone()?)),
         "debug" => out.printed(items),
         _ => iterated(items, call, out),
     }
 }
 
 /// Writes a vector, and how often the call's closure was called.
-pub fn written_out(items: &NEVec<u32>, call: &Call, out: &mut Transcript) -> Answered {
+pub fn written_out(items: &NEVec<u32>, call: &Call, out: &mut Transcript) -> Written {
     shared(items.iter(), out)?;
     write!(out.text, " | {}", call.closure.calls())
 }
 
 /// Writes what an iterator over references yields.
-pub fn shared(iter: std_slice::Iter<u32>, out: &mut Transcript) -> Answered {
+pub fn shared(iter: std_slice::Iter<u32>, out: &mut Transcript) -> Written {
     out.yielded(iter)
 }
 
 // Writes what an iterator by value yields.
-fn owned(iter: vec::IntoIter<u32>, out: &mut Transcript) -> Answered {
+fn owned(iter: vec::IntoIter<u32>, out: &mut Transcript) -> Written {
     out.yielded(iter)
 }
 
 // Iterators over the vector, which is taken by value and by reference.
-fn iterated(items: &NEVec<u32>, call: &Call, out: &mut Transcript) -> Answered {
+fn iterated(items: &NEVec<u32>, call: &Call, out: &mut Transcript) -> Written {
     match call.name {
         "iter" => shared(items.iter(), out),
         "nonempty_iter" => shared(items.nonempty_iter().into_iter(), out),
@@ -207,26 +207,26 @@ pub fn hashed<T: Hash>(value: &T) -> u64 {
 }
 
 // Calls that compare the vector with one of the call's numbers.
-fn compared(items: &NEVec<u32>, call: &Call, out: &mut Transcript) -> Answered {
+fn compared(items: &NEVec<u32>, call: &Call, out: &mut Transcript) -> Written {
     let alloc = out.alloc;
     match call.name {
-        "eq" => out.told(*items == call.vector(alloc)?),
-        "cmp" => out.told(items.cmp(&call.vector(alloc)?)),
-        "partial_cmp" => out.told(items.partial_cmp(&call.vector(alloc)?)),
-        "lt" => out.told(*items < call.vector(alloc)?),
-        "hash" => out.told(hashed(items) == hashed(&call.vector(alloc)?)),
+        "eq" => out.result(*items == call.vector(alloc)?),
+        "cmp" => out.result(items.cmp(&call.vector(alloc)?)),
+        "partial_cmp" => out.result(items.partial_cmp(&call.vector(alloc)?)),
+        "lt" => out.result(*items < call.vector(alloc)?),
+        "hash" => out.result(hashed(items) == hashed(&call.vector(alloc)?)),
         _ => searched(items, call, out),
     }
 }
 
 // Searches. How often a closure is called is up to std.
-fn searched(items: &NEVec<u32>, call: &Call, out: &mut Transcript) -> Answered {
+fn searched(items: &NEVec<u32>, call: &Call, out: &mut Transcript) -> Written {
     let (closure, x) = (call.closure.anew(), call.first);
     match call.name {
-        "binary_search" => out.told(items.binary_search(&x)),
-        "binary_search_by" => out.told(items.binary_search_by(|y| closure.of(*y).cmp(&x))),
-        "binary_search_by_key" => out.told(items.binary_search_by_key(&x, |y| closure.of(*y))),
-        "partition_point" => out.told(items.partition_point(|y| closure.of(*y) < x)),
+        "binary_search" => out.result(items.binary_search(&x)),
+        "binary_search_by" => out.result(items.binary_search_by(|y| closure.of(*y).cmp(&x))),
+        "binary_search_by_key" => out.result(items.binary_search_by_key(&x, |y| closure.of(*y))),
+        "partition_point" => out.result(items.partition_point(|y| closure.of(*y) < x)),
         _ => slice::read(items, call, out),
     }
 }

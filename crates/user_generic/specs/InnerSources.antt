@@ -11,7 +11,7 @@ module _ {F W B C : Type 0} (inner : Bool → W → List B → Type 0) (complete
   -- The items come one list after another, each with its index, and are at most n. `whole` says
   -- whether they are fewer and c is complete. If so, the lists have ended.
   -- c is made of the lists of the sources that f returns for the items xs.
-  pub record JoinsAnswers {A : Type 0} (calls : Mut F (A × Unit {0}) W) (f : F) (n : ℕ)
+  pub record JoinsResults {A : Type 0} (calls : Mut F (A × Unit {0}) W) (f : F) (n : ℕ)
       (xs : List A) (whole : Bool) (c : C) : Type 0 where
     pub sources : List W
     pub lists : List (List B)
@@ -30,7 +30,7 @@ pub record IsSpread {S A F W B C : Type 0} (reads : Bool → S → List A → Ty
   pub items : List A
   pub whole : Bool
   pub read : reads whole source items
-  pub joins : JoinsAnswers inner complete collected calls f n items whole c
+  pub joins : JoinsResults inner complete collected calls f n items whole c
 
 -- If `whole` is true, one of the two sources has ended.
 -- c is made of the lists of the sources that f returns for the pairs of items of two sources.
@@ -48,4 +48,4 @@ pub record IsSpreadOfPairs {S O A D F W B C : Type 0} (reads : Bool → S → Li
   pub read_other : others other_ended other other_items
   pub as_many : length items ≡ length other_items
   pub one_ended : whole ≡ true → IsTrue (ended || other_ended)
-  pub joins : JoinsAnswers inner complete collected calls f n (zip items other_items) whole c
+  pub joins : JoinsResults inner complete collected calls f n (zip items other_items) whole c

@@ -3,5 +3,5 @@ pub mod OwnSources
 pub mod OwnSourceLaws
 pub mod InnerSources
 pub mod TwoCollections
-pub mod RunsOfAnswers
+pub mod RunsOfResults
 pub mod Nested

@@ -15,10 +15,10 @@ pub record IsScanOfAll {S U A D T F C : Type 0}
     : Type 0 where
   pub sources : List U
   pub lists : List (List A)
-  pub answers : List D
+  pub results : List D
   pub f_then : F
   pub state_then : T
   pub read : reads (complete c) source sources
   pub read_each : ReadsEach inner (complete c) sources lists
-  pub called : CallsWithState calls f init (concat lists) answers f_then state_then
-  pub made : collected answers c
+  pub called : CallsWithState calls f init (concat lists) results f_then state_then
+  pub made : collected results c

@@ -12,13 +12,13 @@ pub record IsNumbered {S A B F O C : Type 0} (reads : Bool → S → List A → 
     (collected : List (ℕ × B) → C → Type 0) (source : S) (f : F) (other : O) (n : ℕ) (c : C)
     : Type 0 where
   pub items : List A
-  pub answers : List B
+  pub results : List B
   pub other_items : List B
   pub f_then : F
   pub whole : Bool
   pub read : reads (whole || ltb 0 (length other_items)) source items
-  pub called : Calls calls f items answers f_then
+  pub called : Calls calls f items results f_then
   pub read_other : others whole other other_items
-  pub is_whole : whole ≡ complete c && ltb (length (answers ++ other_items)) n
-  pub at_most : length (answers ++ other_items) ≤ n
-  pub made : collected (enumerate_from 0 (answers ++ other_items)) c
+  pub is_whole : whole ≡ complete c && ltb (length (results ++ other_items)) n
+  pub at_most : length (results ++ other_items) ≤ n
+  pub made : collected (enumerate_from 0 (results ++ other_items)) c

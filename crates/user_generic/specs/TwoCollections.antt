@@ -10,15 +10,15 @@ pub record IsParted {S A B F O D R Q : Type 0} (reads : Bool → S → List A �
     (firsts : List B → R → Type 0) (seconds : List D → Q → Type 0)
     (source : S) (f : F) (other : O) (n : ℕ) (r : R × Q) : Type 0 where
   pub items : List A
-  pub answers : List B
+  pub results : List B
   pub other_items : List D
   pub f_then : F
   pub ended : Bool
   pub other_ended : Bool
   pub read : reads ended source items
-  pub called : Calls calls f items answers f_then
+  pub called : Calls calls f items results f_then
   pub read_other : others other_ended other other_items
-  pub as_many : length answers ≡ length other_items
+  pub as_many : length results ≡ length other_items
   pub at_most : length other_items ≤ n
   pub fewer : length other_items < n → IsTrue (ended || other_ended)
-  pub made : firsts answers r.0 × seconds other_items r.1
+  pub made : firsts results r.0 × seconds other_items r.1

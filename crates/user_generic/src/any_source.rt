@@ -1,5 +1,5 @@
-//! Functions over any source. Each states its result for the list that its source gives, if it
-//! gives one, as a user writes them: there is no proof file, and no law is called.
+//! Functions over any source. Each states its result for the list that its source yields, if it
+//! yields one, as a user writes them: there is no proof file, and no law is called.
 ghost use Rattle.std.specs.Prelude.{◌≡◌, ◌/◌, ◌++◌, ◌≤◌, ℕ, List, IfOk, ltb, map, filter, take};
 ghost use Rattle.std.specs.Int.NonZero.{non_zero_usize_get};
 ghost use Rattle.std.specs.List.{All, Contains};

@@ -1,6 +1,6 @@
 //! Generic code as a user writes it: chains of adapters over any source, a user's own sources and
-//! maps, and lists of calls on any map and on vectors. All of it is proved from the contracts of
-//! the public methods alone.
+//! maps, and lists of calls on any map and on vectors. All of it is proved only from the
+//! contracts of the public methods.
 //!
 //! This crate is not part of the library. What is proved here, a user of the library can prove.
 #![tactic(auto)]
@@ -30,7 +30,7 @@ pub use numbering::{numbered, numbered_halves};
 pub use over_a_stack::{all_below_ten, second_parts};
 pub use own_maps::PairMap;
 pub use own_sources::{Boxed, Countdown, CountdownIter, Stack, StackIntoIter, StackIter, Start};
-pub use runs::{first_runs, run_lengths, runs_of_answers};
+pub use runs::{first_runs, run_lengths, runs_of_results};
 pub use sides::mapped_side;
 pub use two_collections::parted;
 pub use vector_calls::{

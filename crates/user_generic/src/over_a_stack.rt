@@ -1,5 +1,5 @@
-//! Chains over a user's own source of references. They prove themselves, since the source says
-//! which list its items show.
+//! Chains over a user's own source of references. They are proved automatically, since the
+//! source's contract names the list of its items.
 ghost use Rattle.std.specs.Prelude.{◌≡◌, map, IfOk, ltb};
 ghost use Rattle.std.specs.List.{list_all};
 

@@ -1,7 +1,7 @@
 //! A user's own sources: a plain one, one with a model, a borrowed and a boxed one, and a value
 //! that becomes one.
 //!
-//! Each implements [`NonEmptyIterator`] by its law alone, and has all the methods.
+//! Each implements [`NonEmptyIterator`] by its law, and has all the methods.
 ghost use Rattle.std.specs.Prelude.{◌≡◌, ◌<◌, List, [], ◌∷◌, length, reverse, IfOk, IfErr};
 ghost use Rattle.std.specs.Iterator.{YieldsFirst, YieldsFirstRef, at_most, item_count};
 ghost use Rattle.std.specs.Int.NonZero.{non_zero_u32_get};
@@ -161,8 +161,8 @@ impl<T: Drop> Stack<T> {
 }
 
 impl<T> Stack<T> {
-    /// Returns a source of references to the items, the newest first. It says which list they show;
-    /// so a chain over it proves itself.
+    /// Returns a source of references to the items, the newest first. Its contract names their
+    /// list, so the contract of a chain over it is proved automatically.
     pub fn nonempty_iter(&self) -> &Stack<T>
         ensures { Listed IteratesStack (YieldsFirstRef (λ left. left)) (λ y. y.now) result
             self.now }

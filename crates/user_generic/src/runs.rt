@@ -5,7 +5,7 @@ ghost use Rattle.std.specs.Int.NonZero.{non_zero_usize_get};
 ghost use Rattle.nonempty_collections.specs.Divisions.{IsDivision, by_previous};
 ghost use Rattle.nonempty_collections.specs.SliceRuns.{ActsAsAtPair, CallableAtPairs};
 ghost use Rattle.nonempty_collections.specs.GroupBy.{HasRuns};
-ghost use Rattle.user_generic.specs.RunsOfAnswers.{AreRunsOfAnswers};
+ghost use Rattle.user_generic.specs.RunsOfResults.{AreRunsOfResults};
 
 use nonempty_collections::iter::{Map, NEGroupBy, NonEmptyIterator, Source, Take};
 use nonempty_collections::laws::{
@@ -19,7 +19,7 @@ use std::num::NonZeroUsize;
 
 /// Returns the runs of what `f` returns for the items of `source`, by the keys that `key` returns
 /// for these.
-pub fn runs_of_answers<
+pub fn runs_of_results<
     T: Drop,
     K: PartialEq + Drop,
     S: NonEmptyIterator,
@@ -33,7 +33,7 @@ where
     requires callable { (it : S.IntoIter) → S.into_iter_gives source it
         → CallableOnAll S.IntoIter.next_gives F.FnMut it f }
     requires key_callable { G.IsAlwaysCallable key }
-    ensures { IfOk result (AreRunsOfAnswers (⟦<S as Source>⟧.reads) F.FnMut G.FnMut K.eq source
+    ensures { IfOk result (AreRunsOfResults (⟦<S as Source>⟧.reads) F.FnMut G.FnMut K.eq source
         f key) }
 {
     results_are_read_whole::<NEVec<T>, AllocError, NEGroupBy<Map<S, F>, G>>();

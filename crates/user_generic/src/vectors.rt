@@ -81,7 +81,7 @@ pub fn first_and_rest(v: &NEVec<u32>) -> (u32, usize)
     (*first, rest.len())
 }
 
-/// `is_empty` alone says that there is an item.
+/// The contract of `is_empty` says that there is an item.
 pub fn has_item(v: &NEVec<u32>)
     ensures { 0 < length v.now }
 {

@@ -1,5 +1,5 @@
-//! Functions over any source. Each states its result for the list that its source gives, if it
-//! gives one (`Listed`). Callers know that list for vectors, slices, arrays and chains built on
+//! Functions over any source. Each states its result for the list that its source yields, if it
+//! yields one (`Listed`). Callers know that list for vectors, slices, arrays and chains built on
 //! them.
 ghost use Rattle.std.specs.Prelude.{◌≡◌, ◌/◌, ◌≤◌, ◌++◌, List, ℕ, filter, map, take, IfOk, ltb};
 ghost use Rattle.std.specs.List.{All, Contains, enumerate_from};
@@ -83,7 +83,7 @@ pub fn halves_of_first(
 }
 
 /// Returns the greatest item of a borrowed vector.
-pub fn greatest_shown(items: &NEVec<u32>) -> u32
+pub fn greatest_of_borrowed(items: &NEVec<u32>) -> u32
     ensures among { Contains items.now result }
     ensures bound { All (λ x. x ≤ result) items.now }
 {

@@ -34,7 +34,7 @@ pub fn lengths_above_first(
 }
 
 /// Returns the lengths of the runs in which each further item has the quotient of the run's first
-/// one. The closure, which divides by the items, may be called with these alone.
+/// one. The closure, which divides by the items, may be called only with these.
 pub fn lengths_of_quotients(
     alloc: Global,
     items: NESlice<'_, u32>,

@@ -24,10 +24,10 @@ pub one_more : (old new : Option (List (String Global))) (condition : String Glo
 one_more None new condition added = ap all_of added
 one_more (Some those) new condition added = ap all_of added
 
-pub two_tables : (lines front back : List Line) (table column other : String Global)
-    → lines ≡ Table table ∷ Column column ∷ (front ++ Table other ∷ back)
+pub two_tables : (lines prefix back : List Line) (table column other : String Global)
+    → lines ≡ Table table ∷ Column column ∷ (prefix ++ Table other ∷ back)
     → 1 < length (filter_map table_of lines)
-two_tables lines front back table column other whole =
-    let others = ap length (filter_map-append table_of front (Table other ∷ back))
-    ∙ length-append (filter_map table_of front) (other ∷ filter_map table_of back) in
+two_tables lines prefix back table column other whole =
+    let others = ap length (filter_map-append table_of prefix (Table other ∷ back))
+    ∙ length-append (filter_map table_of prefix) (other ∷ filter_map table_of back) in
     subst (λ l. 1 < length (filter_map table_of l)) (sym whole) (omega (arith, others))

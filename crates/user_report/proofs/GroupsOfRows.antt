@@ -75,12 +75,12 @@ weaken : (m n : ℕ) (rows : List Row) → m < n → AreAtLeast n rows → AreAb
 weaken m n [] less h = tt
 weaken m n (r ∷ rows) less h = (omega (arith, less, h.0), weaken m n rows less h.1)
 
-one_key : (r : Row) (front g : List Row) → IsRun goes_on (r ∷ (front ++ g)) → HaveKey r.key g
-one_key r front [] run = tt
-one_key r front (s ∷ g) run = (
-  eqb-true _ _ (run.inside (r ∷ front) s g (λ none. cc) refl),
-  one_key r (front ++ s ∷ []) g (subst (λ l. IsRun goes_on (r ∷ l))
-      (sym (append_assoc front (s ∷ []) g)) run),
+one_key : (r : Row) (prefix g : List Row) → IsRun goes_on (r ∷ (prefix ++ g)) → HaveKey r.key g
+one_key r prefix [] run = tt
+one_key r prefix (s ∷ g) run = (
+  eqb-true _ _ (run.inside (r ∷ prefix) s g (λ none. cc) refl),
+  one_key r (prefix ++ s ∷ []) g (subst (λ l. IsRun goes_on (r ∷ l))
+      (sym (append_assoc prefix (s ∷ []) g)) run),
 )
 
 next_above : (r : Row) (g : List Row) (gs : List (List Row)) → AllByRecursion (IsRun goes_on) gs
@@ -148,10 +148,10 @@ none_above k (r ∷ rows) h =
 abbrev first_key : List Row → Option ℕ
 first_key rows = option_map (λ r. r.key) (slice_get rows 0)
 
-key_above_at : (b : Bool) (k n : ℕ) (r : Row) (front rest : List Row) → k < r.key
-    → (first_key rest ≡ Some n → k < n) → first_key (cond b (r ∷ front) rest) ≡ Some n → k < n
-key_above_at true k n r front rest less others first = grind (arith, less, first)
-key_above_at false k n r front rest less others first = others first
+key_above_at : (b : Bool) (k n : ℕ) (r : Row) (prefix rest : List Row) → k < r.key
+    → (first_key rest ≡ Some n → k < n) → first_key (cond b (r ∷ prefix) rest) ≡ Some n → k < n
+key_above_at true k n r prefix rest less others first = grind (arith, less, first)
+key_above_at false k n r prefix rest less others first = others first
 
 key_above : (k j n : ℕ) (rows : List Row) → AreAbove k rows → first_key (rows_of j rows) ≡ Some n
     → k < n

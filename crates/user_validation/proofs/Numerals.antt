@@ -28,5 +28,5 @@ pub passes_numeral : (ds : List ℕ) → is_numeral ds ≡ true
     → IsNumeral 10 ds × (digits_value 10 ds < 2 ^ 32)
 passes_numeral ds h =
     let own = numerals_by_value (λ ds. all_ascii_digits ds ≡ true) tells_all_ascii_digits in
-    let front = and_parts _ _ (and_parts _ _ h).0 in
-    ((ltb-true _ _ front.0, own.to ds front.1), ltb-true _ _ (and_parts _ _ h).1)
+    let prefix = and_parts _ _ (and_parts _ _ h).0 in
+    ((ltb-true _ _ prefix.0, own.to ds prefix.1), ltb-true _ _ (and_parts _ _ h).1)

@@ -85,8 +85,8 @@ impl<K: Eq + Hash, V, S: BuildHasher> NEMap<K, V, S> {
     /// or returns the empty map as an error if there is no such entry.
     ///
     /// `f` is called once for each entry, in the order of iteration. It must be callable with each
-    /// of them. The clause `kept` covers an `f` whose result and changes depend on the entry alone;
-    /// `asked` covers any `f`.
+    /// of them. The clause `kept` covers an `f` whose result and changes depend only on the entry;
+    /// `called` covers any `f`.
     ///
     /// ```
     /// let even = NEMap::new(alloc, 2, 24)?.retain(|k, _v| *k % 2 == 0); // Ok({2: 24})
@@ -101,7 +101,7 @@ impl<K: Eq + Hash, V, S: BuildHasher> NEMap<K, V, S> {
         ensures kept { (keeps : K → V → Bool) (writes : K → V → V)
             → ActsAsAtEntry F.FnMut f keeps writes
             → (either_way result).entries ≡ kept_entries keeps writes self.entries }
-        ensures asked { RetainsPairs (CalledAtPair F.FnMut) f self.entries
+        ensures called { RetainsPairs (CalledAtPair F.FnMut) f self.entries
             (either_way result).entries }
         ensures hasher { hasher_of (either_way result) ≡ hasher_of self }
         ensures unique { IsUnique K.eq (either_way result) }

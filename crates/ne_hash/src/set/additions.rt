@@ -79,8 +79,8 @@ impl<T: Eq + Hash, S: BuildHasher> NESet<T, S> {
     /// if there is no such item.
     ///
     /// `f` is called once for each item, in the order of iteration. It must be callable with any
-    /// value of the items' type. The clause `kept` covers an `f` whose result depends on the item
-    /// alone; `asked` covers any `f`.
+    /// value of the items' type. The clause `kept` covers an `f` whose result depends only on the
+    /// item; `called` covers any `f`.
     ///
     /// ```
     /// let even = NESet::new(alloc, 4)?.retain(|x| *x % 2 == 0); // Ok({4})
@@ -93,7 +93,7 @@ impl<T: Eq + Hash, S: BuildHasher> NESet<T, S> {
         ensures none { IsErr result ↔ IsEmpty (either_way result) }
         ensures kept { (keeps : T → Bool) → ActsAsAt F.FnMut f keeps
             → (either_way result).keys ≡ filter keeps self.keys }
-        ensures asked { IsFiltered (CalledAt F.FnMut) f self.keys (either_way result).keys }
+        ensures called { IsFiltered (CalledAt F.FnMut) f self.keys (either_way result).keys }
         ensures hasher { hasher_of (either_way result) ≡ hasher_of self }
         ensures unique { IsUnique T.eq (either_way result) }
     {

@@ -217,7 +217,7 @@ impl<K: Eq + Hash, V, S: BuildHasher> NEIndexMap<K, V, S> {
     ///
     /// `f` is called once for each entry, in order. It must be callable with the key of each entry
     /// and any value that it may have by then. The clause `kept` covers an `f` whose result and
-    /// changes depend on the entry alone; `asked` covers any `f`.
+    /// changes depend only on the entry; `called` covers any `f`.
     ///
     /// ```
     /// let map = neim![alloc; 6 => 24, 4 => 25, 2 => 26]?;
@@ -233,7 +233,7 @@ impl<K: Eq + Hash, V, S: BuildHasher> NEIndexMap<K, V, S> {
         ensures kept { (keeps : K → V → Bool) (writes : K → V → V)
             → ActsAsAtEntry F.FnMut f keeps writes
             → (either_way result).entries ≡ kept_entries keeps writes self.entries }
-        ensures asked { RetainsPairs (CalledAtPair F.FnMut) f self.entries
+        ensures called { RetainsPairs (CalledAtPair F.FnMut) f self.entries
             (either_way result).entries }
         ensures hasher { hasher_of (either_way result) ≡ hasher_of self }
         ensures unique { IsUnique K.eq (either_way result) }

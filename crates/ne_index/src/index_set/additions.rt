@@ -165,7 +165,7 @@ impl<T: Eq + Hash, S: BuildHasher> NEIndexSet<T, S> {
     /// if there is no such item. Both have the hasher of this set.
     ///
     /// `f` is called once for each item, in order. It must be callable with any value of the items'
-    /// type. The clause `kept` covers an `f` whose result depends on the item alone; `asked` covers
+    /// type. The clause `kept` covers an `f` whose result depends only on the item; `called` covers
     /// any `f`.
     ///
     /// ```
@@ -179,7 +179,7 @@ impl<T: Eq + Hash, S: BuildHasher> NEIndexSet<T, S> {
         ensures none { IsErr result ↔ ((either_way result).keys ≡ []) }
         ensures kept { (keeps : T → Bool) → ActsAsAt F.FnMut f keeps
             → (either_way result).keys ≡ filter keeps self.keys }
-        ensures asked { IsFiltered (CalledAt F.FnMut) f self.keys (either_way result).keys }
+        ensures called { IsFiltered (CalledAt F.FnMut) f self.keys (either_way result).keys }
         ensures hasher { hasher_of (either_way result) ≡ hasher_of self }
         ensures unique { IsUnique T.eq (either_way result) }
     {

@@ -1,4 +1,4 @@
-//! [`NonEmptyIterator`]: a source that gives at least one item, with its methods.
+//! [`NonEmptyIterator`]: a source that yields at least one item, with its methods.
 ghost use Rattle.std.specs.Prelude.{◌≡◌, ◌+◌, Bool, true, false, List, drop, length, map};
 ghost use Rattle.std.specs.Prelude.{slice_get, take, Option, Some, Ok, IfOk, IsPermutation, ◌≤◌};
 ghost use Rattle.std.specs.Prelude.{IsTrue, MatchOption};
@@ -76,7 +76,7 @@ use std::iter::{self, Product, Sum};
 use std::marker::PhantomData;
 use std::num::NonZeroUsize;
 
-/// A source that gives at least one item. A source is a value that `into_iter` makes into an
+/// A source that yields at least one item. A source is a value that `into_iter` makes into an
 /// iterator.
 ///
 /// The law of this trait is `not_empty`: the iterator made from any value first returns an item. An
@@ -218,7 +218,7 @@ pub trait NonEmptyIterator: IntoIterator {
         Chain { a: self, b: other }
     }
 
-    /// Returns a source that gives, for each reference, a clone of the referenced item in `Ok`, or
+    /// Returns a source that yields, for each reference, a clone of the referenced item in `Ok`, or
     /// an `Err` if cloning it fails.
     ///
     /// What comes after an `Err` depends on the later clones. In the Rust crate the items are not
@@ -757,7 +757,7 @@ pub trait NonEmptyIterator: IntoIterator {
     /// Returns the items in ascending order of their keys. Items with equal keys keep their order.
     ///
     /// `f` must be callable with any value of the items' type. The items are in order if the key
-    /// depends on the item alone; otherwise they are some permutation. Returns `AllocError` if the
+    /// depends only on the item; otherwise they are some permutation. Returns `AllocError` if the
     /// allocation for the items or for sorting them fails; the items are then dropped.
     ///
     /// ```

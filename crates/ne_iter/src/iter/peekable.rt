@@ -37,7 +37,7 @@ where
         &self.first
     }
 
-    /// Returns a mutable reference to the first item. The source gives the item as it was last
+    /// Returns a mutable reference to the first item. The source yields the item as it was last
     /// changed.
     ///
     /// ```

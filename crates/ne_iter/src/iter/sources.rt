@@ -54,7 +54,7 @@ impl<S: IntoIterator> Source for S {
 
 /// A value that becomes a source with at least one item.
 ///
-/// Its law `same_lists` says that this source may give the same lists as `into_iter` of the value.
+/// Its law `same_lists` says that this source may yield the same lists as `into_iter` of the value.
 /// So the value can be passed to code that expects either.
 ///
 /// ```

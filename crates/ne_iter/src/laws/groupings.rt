@@ -20,10 +20,10 @@ pub fn groupings_stand_at_any_moment<I: Iterator, K: PartialEq, F: FnMut(&I::Ite
     ensures fresh { (g : Grouping I K I.Item F) → g.ahead ≡ Unread
         → HasRead I.next_gives F.FnMut K.eq g.source g.closure [] g }
     ensures later { (s : I) (f : F) (done : List (List I.Item)) (g h : Grouping I K I.Item F)
-        (answers : List (Option (Result (List I.Item) AllocError)))
+        (results : List (Option (Result (List I.Item) AllocError)))
         → HasRead I.next_gives F.FnMut K.eq s f done g
-        → FoldsTo (GivesRun I.next_gives F.FnMut K.eq) g answers h
-        → ReturnsOn I.next_gives F.FnMut K.eq s f done answers h }
+        → FoldsTo (GivesRun I.next_gives F.FnMut K.eq) g results h
+        → ReturnsOn I.next_gives F.FnMut K.eq s f done results h }
 {}
 
 /// A grouping that has nothing ahead has taken everything that its source gave, and has returned

@@ -65,14 +65,14 @@ pub fn sources_give_what_is_left<S: IntoIterator>()
         → ReadsList (⟦<S as Source>⟧.reads) source xs }
 {}
 
-/// If a source gives a list, then what is read from it to the end is that list.
+/// If a source yields a list, then what is read from it to the end is that list.
 pub fn lists_are_read_whole<S: IntoIterator>(source: &S)
     ensures { (xs ys : List S.Item) → ReadsList (⟦<S as Source>⟧.reads) source.now xs
         → ⟦<S as Source>⟧.reads true source.now ys → ys ≡ xs }
 {}
 
-/// If each source of a type gives the list that `lists` names, then what was read from the first of
-/// the sources `all`, one after another, are the first items of all their lists.
+/// If each source of a type yields the list that `lists` names, then what was read from the first
+/// of the sources `all`, one after another, are the first items of all their lists.
 pub fn lists_follow_one_another<U: IntoIterator>()
     ensures { (lists : U → List U.Item)
         → ((u : U) → ReadsList (⟦<U as Source>⟧.reads) u (lists u))

@@ -40,8 +40,8 @@ impl Source for Script<'_> {
             return Err(());
         }
         let count = self.step.max(1).min(self.rest.len()).min(buffer.len());
-        let (front, rest) = self.rest.split_at(count);
-        buffer[..count].copy_from_slice(front);
+        let (prefix, rest) = self.rest.split_at(count);
+        buffer[..count].copy_from_slice(prefix);
         self.rest = rest;
         Ok(count)
     }
@@ -174,8 +174,8 @@ impl io::Read for Broken {
         if count == 0 {
             return Err(io::Error::from(io::ErrorKind::Other));
         }
-        let (front, rest) = self.line.split_at(count);
-        buffer[..count].copy_from_slice(front);
+        let (prefix, rest) = self.line.split_at(count);
+        buffer[..count].copy_from_slice(prefix);
         self.line = rest;
         Ok(count)
     }

@@ -164,7 +164,7 @@ impl<K: Ord, V> NEBTreeMap<K, V> {
     /// or returns the empty map as an error if there is no such entry.
     ///
     /// `f` is called once for each entry, in ascending order of the keys. The clause `kept` covers
-    /// an `f` whose result and changes depend on the entry alone; `asked` covers any `f`.
+    /// an `f` whose result and changes depend only on the entry; `called` covers any `f`.
     ///
     /// ```
     /// let even = nebtm![alloc; 2 => 24, 4 => 27]?.retain(|_k, v| *v % 2 == 0); // Ok({2: 24})
@@ -179,7 +179,7 @@ impl<K: Ord, V> NEBTreeMap<K, V> {
         ensures kept { (keeps : K → V → Bool) (writes : K → V → V)
             → ActsAsAtEntry F.FnMut f keeps writes
             → (either_way result).entries ≡ kept_entries keeps writes self.entries }
-        ensures asked { RetainsPairs (CalledAtPair F.FnMut) f self.entries
+        ensures called { RetainsPairs (CalledAtPair F.FnMut) f self.entries
             (either_way result).entries }
         ensures ordered { IsOrdered K.cmp (either_way result) }
     {

@@ -160,8 +160,8 @@ impl<T: Ord> NEBTreeSet<T> {
     /// if there is no such item.
     ///
     /// `f` is called once for each item, in ascending order. It must be callable with any value of
-    /// the items' type. The clause `kept` covers an `f` whose result depends on the item alone;
-    /// `asked` covers any `f`.
+    /// the items' type. The clause `kept` covers an `f` whose result depends only on the item;
+    /// `called` covers any `f`.
     ///
     /// ```
     /// let even = nebts![alloc; 4, 5, 6, 7]?.retain(|x| *x % 2 == 0); // Ok({4, 6})
@@ -174,7 +174,7 @@ impl<T: Ord> NEBTreeSet<T> {
         ensures none { IsErr result ↔ IsEmpty (either_way result) }
         ensures kept { (keeps : T → Bool) → ActsAsAt F.FnMut f keeps
             → (either_way result).keys ≡ filter keeps self.keys }
-        ensures asked { IsFiltered (CalledAt F.FnMut) f self.keys (either_way result).keys }
+        ensures called { IsFiltered (CalledAt F.FnMut) f self.keys (either_way result).keys }
         ensures ordered { IsOrdered T.cmp (either_way result) }
     {
         let mut inner = self.inner;

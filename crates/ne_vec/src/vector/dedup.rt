@@ -12,8 +12,8 @@ impl<T: Drop> NEVec<T> {
     /// whose keys equal the key of the run's first item, the first item stays.
     ///
     /// `key` is called with the later item first, then with the kept one. It must be callable with
-    /// any value of the items' type. The clause `firsts` covers a `key` whose result depends on the
-    /// item alone and that changes nothing; `asked` covers any `key`. At least one item stays,
+    /// any value of the items' type. The clause `firsts` covers a `key` whose result depends only
+    /// on the item and that changes nothing; `called` covers any `key`. At least one item stays,
     /// whatever `key` does.
     ///
     /// ```
@@ -25,7 +25,7 @@ impl<T: Drop> NEVec<T> {
         ensures stays { 0 < length self.new }
         ensures firsts { (read : T → K) → ActsAsAtMut F.FnMut key read (λ x. x)
             → KeepsFirsts (λ later kept. K.eq (read later) (read kept)) self.old self.new }
-        ensures asked { IsDeduped (ComparesKeys F.FnMut K.eq) key self.old self.new }
+        ensures called { IsDeduped (ComparesKeys F.FnMut K.eq) key self.old self.new }
     {
         self.inner.dedup_by_key(key);
     }
@@ -35,7 +35,7 @@ impl<T: Drop> NEVec<T> {
     /// stays.
     ///
     /// `same_bucket` must be callable with any two values of the items' type. The clause `firsts`
-    /// covers one whose result depends on the two items alone and that changes nothing; `asked`
+    /// covers one whose result depends only on the two items and that changes nothing; `called`
     /// covers any. At least one item stays, whatever `same_bucket` does.
     ///
     /// ```
@@ -47,7 +47,7 @@ impl<T: Drop> NEVec<T> {
         ensures stays { 0 < length self.new }
         ensures firsts { (same : T → T → Bool) → ActsAsAtPairMut F.FnMut same_bucket same
             → KeepsFirsts same self.old self.new }
-        ensures asked { IsDeduped (CalledAtPairMut F.FnMut) same_bucket self.old self.new }
+        ensures called { IsDeduped (CalledAtPairMut F.FnMut) same_bucket self.old self.new }
     {
         self.inner.dedup_by(same_bucket);
     }

@@ -41,7 +41,7 @@ impl<T> NEVec<T> {
     /// of any of them.
     ///
     /// `f` must be callable with the vector's items, in any order. The indices have this meaning if
-    /// what `f` returns depends on the item alone. For `Err` the vector must also be sorted by `f`:
+    /// what `f` returns depends only on the item. For `Err` the vector must also be sorted by `f`:
     /// first `Less`, then `Equal`, then `Greater`.
     ///
     /// ```
@@ -62,7 +62,7 @@ impl<T> NEVec<T> {
     /// the keys stay sorted. If several keys equal `b`, the index is that of any such item.
     ///
     /// `f` must be callable with the vector's items, in any order. The indices have this meaning if
-    /// the key depends on the item alone. For `Err` the vector must also be sorted by the key.
+    /// the key depends only on the item. For `Err` the vector must also be sorted by the key.
     ///
     /// ```
     /// let items = nev![alloc; 500u32, 100, 10]?;
@@ -84,7 +84,7 @@ impl<T> NEVec<T> {
     /// Returns how many of the first items meet `pred`.
     ///
     /// `pred` must be callable with the vector's items, in any order. The result has this meaning
-    /// if what `pred` returns depends on the item alone, and no item that meets `pred` comes after
+    /// if what `pred` returns depends only on the item, and no item that meets `pred` comes after
     /// one that doesn't. In any case it is at most the length.
     ///
     /// ```

@@ -57,7 +57,7 @@ impl<T> NEVec<T> {
     /// keep their order.
     ///
     /// `f` must be callable with any value of the items' type. The items are sorted if the key
-    /// depends on the item alone; otherwise they are in some order. Returns `AllocError` as `sort`
+    /// depends only on the item; otherwise they are in some order. Returns `AllocError` as `sort`
     /// does.
     ///
     /// ```
@@ -114,7 +114,7 @@ impl<T> NEVec<T> {
     /// Items with equal keys may change their order. The Rust crate lacks it; it is `Vec`'s.
     ///
     /// `f` must be callable with any value of the items' type. The items are sorted if the key
-    /// depends on the item alone; otherwise they are in some order.
+    /// depends only on the item; otherwise they are in some order.
     ///
     /// ```
     /// let mut items = nev![alloc; 31, 12, 44, 23]?;

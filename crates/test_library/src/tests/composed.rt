@@ -7,7 +7,7 @@ use std::num::NonZeroU32;
 use std::test::Fail;
 use user_generic::{
     Countdown, first_runs, numbered, numbered_halves, parted, run_lengths, running_totals,
-    runs_of_answers, scan_of_all, spread_countdown, spread_pairs,
+    runs_of_results, scan_of_all, spread_countdown, spread_pairs,
 };
 
 #[test]
@@ -64,7 +64,7 @@ fn runs_in_front(rt: HostRuntime) -> Result<(), Fail> {
 #[test]
 fn runs_of_halves(rt: HostRuntime) -> Result<(), Fail> {
     let three = [5u32, 4, 3].into_nonempty_iter();
-    let runs = runs_of_answers(rt.alloc(), three, |x| x / 2, |x| *x)?;
+    let runs = runs_of_results(rt.alloc(), three, |x| x / 2, |x| *x)?;
     is(runs.len().get(), 2)?;
     same(runs.first().as_slice(), &[2, 2])?;
     same(runs.last().as_slice(), &[1])

@@ -17,7 +17,7 @@ const SIZES: [usize; 6] = [1, 2, 3, 20, 21, 300];
 const KINDS: u32 = 5;
 
 // What a closure of this kind returns for a call, of which there were so many before.
-fn answer(kind: u32, calls: u32) -> Ordering {
+fn order_of(kind: u32, calls: u32) -> Ordering {
     match (kind, calls % 3) {
         (0, _) | (3, 0) | (4, 1) => Ordering::Less,
         (1, _) | (3, 1) | (4, 2) => Ordering::Greater,
@@ -63,12 +63,12 @@ fn sort_by(items: &mut NEVec<Item>, kind: u32, count: usize) -> Result<(), Fail>
     let mut calls = 0u32;
     items.sort_by(|_, _| {
         calls = calls.wrapping_add(1);
-        answer(kind, calls)
+        order_of(kind, calls)
     })?;
     all_there(items, count)?;
     items.sort_unstable_by(|_, _| {
         calls = calls.wrapping_add(1);
-        answer(kind, calls)
+        order_of(kind, calls)
     });
     all_there(items, count)
 }
@@ -77,12 +77,12 @@ fn sort_by_key(items: &mut NEVec<Item>, kind: u32, count: usize) -> Result<(), F
     let mut calls = 0u32;
     items.sort_by_key(|_| {
         calls = calls.wrapping_add(1);
-        answer(kind, calls)
+        order_of(kind, calls)
     })?;
     all_there(items, count)?;
     items.sort_unstable_by_key(|_| {
         calls = calls.wrapping_add(1);
-        answer(kind, calls)
+        order_of(kind, calls)
     });
     all_there(items, count)
 }
@@ -92,12 +92,12 @@ fn dedup_by(items: &mut NEVec<Item>, kind: u32) -> Result<(), Fail> {
     let mut calls = 0u32;
     items.dedup_by(|_, _| {
         calls = calls.wrapping_add(1);
-        answer(kind, calls) == Ordering::Equal
+        order_of(kind, calls) == Ordering::Equal
     });
     let kept = items.len();
     items.dedup_by_key(|_| {
         calls = calls.wrapping_add(1);
-        answer(kind, calls)
+        order_of(kind, calls)
     });
     is((items.first().0, items.len() <= kept), (0, true))
 }
@@ -106,7 +106,7 @@ fn search(items: &NEVec<Item>, kind: u32, count: usize) -> Result<(), Fail> {
     let mut calls = 0u32;
     let mut next = || {
         calls = calls.wrapping_add(1);
-        answer(kind, calls)
+        order_of(kind, calls)
     };
     let found = match items.binary_search_by(|_| next()) {
         Ok(place) => place < count,
@@ -147,7 +147,7 @@ fn sorted_source(alloc: Global, kind: u32) -> Result<(), Fail> {
     let owners = items(alloc, &token, 30)?.into_nonempty_iter();
     let sorted = owners.sorted_by_key(alloc, |_| {
         bump(&calls);
-        answer(kind, calls.get())
+        order_of(kind, calls.get())
     })?;
     let held = Rc::strong_count(&token);
     drop(sorted);

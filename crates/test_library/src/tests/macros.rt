@@ -8,7 +8,7 @@ use std::rc::Rc;
 use std::test::Fail;
 
 // Returns the value, and writes the place of the expression if it is evaluated in its turn.
-fn told<T>(count: &Cell<u32>, place: u32, value: T) -> T
+fn counted<T>(count: &Cell<u32>, place: u32, value: T) -> T
     ensures { result ≡ value }
 {
     let is_next = count.get().wrapping_add(1) == place;
@@ -20,15 +20,17 @@ fn told<T>(count: &Cell<u32>, place: u32, value: T) -> T
 #[test]
 fn evaluated_from_left_to_right(rt: HostRuntime) -> Result<(), Fail> {
     let (alloc, count) = (rt.alloc(), Cell::new(0));
-    drop(nev![told(&count, 1, alloc); told(&count, 2, 7)]);
-    drop(nev![told(&count, 3, alloc); told(&count, 4, 7); told(&count, 5, 2)]);
-    drop(nebts![told(&count, 6, alloc); told(&count, 7, 7)]);
-    drop(nes![told(&count, 8, alloc); told(&count, 9, 7)]);
-    drop(neis![told(&count, 10, alloc); told(&count, 11, 7)]);
-    drop(nebtm![told(&count, 12, alloc); told(&count, 13, 7) => told(&count, 14, 8)]);
-    drop(nem![told(&count, 15, alloc); told(&count, 16, 7) => told(&count, 17, 8)]);
-    drop(ne_indexmap![told(&count, 18, alloc); told(&count, 19, 7) => told(&count, 20, 8)]);
-    drop(neim![told(&count, 21, alloc); told(&count, 22, 7) => told(&count, 23, 8)]);
+    drop(nev![counted(&count, 1, alloc); counted(&count, 2, 7)]);
+    drop(nev![counted(&count, 3, alloc); counted(&count, 4, 7); counted(&count, 5, 2)]);
+    drop(nebts![counted(&count, 6, alloc); counted(&count, 7, 7)]);
+    drop(nes![counted(&count, 8, alloc); counted(&count, 9, 7)]);
+    drop(neis![counted(&count, 10, alloc); counted(&count, 11, 7)]);
+    drop(nebtm![counted(&count, 12, alloc); counted(&count, 13, 7) => counted(&count, 14, 8)]);
+    drop(nem![counted(&count, 15, alloc); counted(&count, 16, 7) => counted(&count, 17, 8)]);
+    drop(
+        ne_indexmap![counted(&count, 18, alloc); counted(&count, 19, 7) => counted(&count, 20, 8)],
+    );
+    drop(neim![counted(&count, 21, alloc); counted(&count, 22, 7) => counted(&count, 23, 8)]);
     is(count.get(), 23)
 }
 

@@ -40,9 +40,9 @@ fn stops(alloc: Global, failing: u32, wanted: &str, drawn: u32) -> Result<(), Fa
     let columns = nev![alloc; 5u32, 6]?;
     let source = [1u32, 2].into_nonempty_iter().map(numbers);
     let pairs = source.cartesian_product(&columns).into_iter();
-    let came = pairs.map(|pair| pair.map(|(number, column)| (number.value, *column)));
-    let came: Vec<Result<(u32, u32), AllocError>> = came.collect(alloc)?;
-    prints(alloc, &came, wanted)?;
+    let pairs = pairs.map(|pair| pair.map(|(number, column)| (number.value, *column)));
+    let pairs: Vec<Result<(u32, u32), AllocError>> = pairs.collect(alloc)?;
+    prints(alloc, &pairs, wanted)?;
     is(draws.get(), drawn)
 }
 

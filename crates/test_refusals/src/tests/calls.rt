@@ -1,6 +1,6 @@
 //! Lists of calls: if an allocation fails, the calls at the front were made.
 
-use super::{holds, pair, tell};
+use super::{holds, pair, report};
 use ne_laws::map_calls::{MapCall, run_map};
 use ne_laws::vector_calls::{VecCall, run_vec};
 use nonempty_collections::NEBTreeMap;
@@ -14,16 +14,16 @@ fn on_a_vector(rt: HostRuntime) -> Result<(), Fail> {
     let alloc = rt.alloc();
     let calls = vec![in alloc; VecCall::Push(3), VecCall::Reverse];
     let (Ok(mut items), Ok(calls)) = (pair(alloc), calls) else {
-        return tell(&rt, "not reached", call);
+        return report(&rt, "not reached", call);
     };
-    let answer = run_vec(alloc, &mut items, calls);
+    let result = run_vec(alloc, &mut items, calls);
     let (length, first) = (items.len().get(), *items.first());
-    if answer.is_ok() {
+    if result.is_ok() {
         holds(call, length == 3 && first == 3)?;
-        return tell(&rt, "made", call);
+        return report(&rt, "made", call);
     }
     holds(call, length < 4 && first == 1)?;
-    tell(&rt, "refused", call)
+    report(&rt, "refused", call)
 }
 
 // The numbers up to 15, each with itself, which fill a node of the map.
@@ -42,15 +42,15 @@ fn on_a_map(rt: HostRuntime) -> Result<(), Fail> {
     let alloc = rt.alloc();
     let calls = vec![in alloc; MapCall::Insert(16, 16), MapCall::Write(1, 5)];
     let (Ok(mut map), Ok(calls)) = (full(alloc), calls) else {
-        return tell(&rt, "not reached", call);
+        return report(&rt, "not reached", call);
     };
-    let answer = run_map(alloc, &mut map, calls);
+    let result = run_map(alloc, &mut map, calls);
     let (keys, value) = (map.len().get(), map.get(&1).copied());
-    if answer.is_ok() {
+    if result.is_ok() {
         holds(call, keys == 16 && value == Some(5))?;
-        return tell(&rt, "made", call);
+        return report(&rt, "made", call);
     }
     holds(call, keys == 15 || keys == 16 && map.contains_key(&16))?;
     holds(call, value == Some(1))?;
-    tell(&rt, "refused", call)
+    report(&rt, "refused", call)
 }

@@ -1,6 +1,6 @@
 //! The calls that clone. A clone allocates, so a later clone can fail after an earlier one is made.
 
-use super::{holds, tell};
+use super::{holds, report};
 use nonempty_collections::{IntoNonEmptyIterator, NEEither, NEVec, NonEmptyIterator};
 use std::alloc::{AllocError, Global};
 use std::num::NonZeroUsize;
@@ -43,42 +43,42 @@ fn are(items: &NEVec<Number>, values: &[u32]) -> bool {
 fn gives(
     rt: &impl Print,
     call: &str,
-    answer: Result<NEVec<Number>, AllocError>,
+    result: Result<NEVec<Number>, AllocError>,
     values: &[u32],
 ) -> Result<(), Fail> {
-    let is_made = answer.is_ok();
-    let is_right = answer.map_or(true, |made| are(&made, values));
+    let is_made = result.is_ok();
+    let is_right = result.map_or(true, |made| are(&made, values));
     holds(call, is_right)?;
-    tell(rt, if is_made { "made" } else { "refused" }, call)
+    report(rt, if is_made { "made" } else { "refused" }, call)
 }
 
 #[test]
 fn from_elem(rt: HostRuntime) -> Result<(), Fail> {
     let n = NonZeroUsize::new(3).unwrap();
-    let answer = NEVec::from_elem(rt.alloc(), fresh(rt.alloc(), 7), n);
-    gives(&rt, "NEVec::from_elem", answer, &[7, 7, 7])
+    let result = NEVec::from_elem(rt.alloc(), fresh(rt.alloc(), 7), n);
+    gives(&rt, "NEVec::from_elem", result, &[7, 7, 7])
 }
 
 #[test]
 fn try_from_slice(rt: HostRuntime) -> Result<(), Fail> {
     let slice = [fresh(rt.alloc(), 1), fresh(rt.alloc(), 2)];
-    let answer = NEVec::try_from_slice(rt.alloc(), &slice);
+    let result = NEVec::try_from_slice(rt.alloc(), &slice);
     holds(
         "the slice has items",
-        answer.as_ref().map_or(true, |made| made.is_some()),
+        result.as_ref().map_or(true, |made| made.is_some()),
     )?;
-    let answer = answer.and_then(|made| made.ok_or(AllocError));
-    gives(&rt, "NEVec::try_from_slice", answer, &[1, 2])
+    let result = result.and_then(|made| made.ok_or(AllocError));
+    gives(&rt, "NEVec::try_from_slice", result, &[1, 2])
 }
 
 #[test]
 fn clone(rt: HostRuntime) -> Result<(), Fail> {
     let Ok(items) = NEVec::new(rt.alloc(), fresh(rt.alloc(), 7)) else {
-        return tell(&rt, "not reached", "NEVec::clone");
+        return report(&rt, "not reached", "NEVec::clone");
     };
-    let answer = items.clone();
+    let result = items.clone();
     holds("the original of a clone", are(&items, &[7]))?;
-    gives(&rt, "NEVec::clone", answer, &[7])
+    gives(&rt, "NEVec::clone", result, &[7])
 }
 
 // The vector grows, and then clones each item of the slice.
@@ -86,13 +86,13 @@ fn clone(rt: HostRuntime) -> Result<(), Fail> {
 fn extend_from_slice(rt: HostRuntime) -> Result<(), Fail> {
     let call = "NEVec::extend_from_slice";
     let Ok(mut items) = NEVec::new(rt.alloc(), fresh(rt.alloc(), 7)) else {
-        return tell(&rt, "not reached", call);
+        return report(&rt, "not reached", call);
     };
     let slice = [fresh(rt.alloc(), 8), fresh(rt.alloc(), 9)];
     let is_made = items.extend_from_slice(&slice).is_ok();
     let left: &[u32] = if is_made { &[7, 8, 9] } else { &[7] };
     holds(call, are(&items, left))?;
-    tell(&rt, if is_made { "made" } else { "refused" }, call)
+    report(&rt, if is_made { "made" } else { "refused" }, call)
 }
 
 // Whether the left side is there, and the number of the one that is.
@@ -114,7 +114,7 @@ fn either(rt: HostRuntime) -> Result<(), Fail> {
     holds(call, (side(&left), side(&right)) == copies)?;
     holds(call, copies == ((true, 7), (false, 8)))?;
     let is_made = of_left.is_ok() && of_right.is_ok();
-    tell(&rt, if is_made { "made" } else { "refused" }, call)
+    report(&rt, if is_made { "made" } else { "refused" }, call)
 }
 
 // A failed clone is an `Err` in its place, and the others are there.
@@ -123,13 +123,13 @@ fn cloned(rt: HostRuntime) -> Result<(), Fail> {
     let two = [fresh(rt.alloc(), 1), fresh(rt.alloc(), 2)];
     let clones = (&two).into_nonempty_iter().cloned();
     let clones = clones.map(|clone| clone.map_or(0, |it| it.value));
-    let told = clones.fold(
+    let digits = clones.fold(
         0u32,
-        |told, value| told.wrapping_mul(10).wrapping_add(value),
+        |digits, value| digits.wrapping_mul(10).wrapping_add(value),
     );
-    holds("cloned", told == 12 || told == 10 || told == 2)?;
-    let outcome = if told == 12 { "made" } else { "refused" };
-    tell(&rt, outcome, "NonEmptyIterator::cloned")
+    holds("cloned", digits == 12 || digits == 10 || digits == 2)?;
+    let outcome = if digits == 12 { "made" } else { "refused" };
+    report(&rt, outcome, "NonEmptyIterator::cloned")
 }
 
 // Each separator is a clone. A failed one is an `Err` in its place, and the last item.
@@ -139,11 +139,11 @@ fn intersperse(rt: HostRuntime) -> Result<(), Fail> {
         .into_nonempty_iter()
         .map(|value| fresh(rt.alloc(), value));
     let items = three.intersperse(fresh(rt.alloc(), 5)).into_iter();
-    let told = items.map(|item| item.map_or(9, |it| it.value)).fold(
+    let digits = items.map(|item| item.map_or(9, |it| it.value)).fold(
         0u32,
-        |told, digit| told.wrapping_mul(10).wrapping_add(digit),
+        |digits, digit| digits.wrapping_mul(10).wrapping_add(digit),
     );
-    holds("intersperse", [15253, 19, 1529].contains(&told))?;
-    let outcome = if told == 15253 { "made" } else { "refused" };
-    tell(&rt, outcome, "NonEmptyIterator::intersperse")
+    holds("intersperse", [15253, 19, 1529].contains(&digits))?;
+    let outcome = if digits == 15253 { "made" } else { "refused" };
+    report(&rt, outcome, "NonEmptyIterator::intersperse")
 }

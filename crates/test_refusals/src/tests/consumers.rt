@@ -106,24 +106,24 @@ fn runs(slice: &NESlice<'_, u32>) -> (usize, usize) {
 fn sources(rt: HostRuntime) -> Result<(), Fail> {
     holds("decided", decided())?;
     let all = [found(), totals(), extremes(), filtered(), adapted()];
-    let answer = NEVec::new(rt.alloc(), all[0]);
+    let result = NEVec::new(rt.alloc(), all[0]);
     holds("totals", all[1] == 6666)?;
     holds("extremes", all[2] == 313113)?;
     holds("filtered", all[3] == 54)?;
     holds("adapted", all[4] == 1376)?;
-    gives(&rt, "NEVec::new behind consumers", answer, &[232])
+    gives(&rt, "NEVec::new behind consumers", result, &[232])
 }
 
 #[test]
 fn slices(rt: HostRuntime) -> Result<(), Fail> {
     let items = [1u32, 2, 3, 7];
     let slice = NESlice::try_from_slice(&items).ok_or("no item")?;
-    let front = NESlice::try_from_slice(&items[..2]).ok_or("no item")?;
+    let prefix = NESlice::try_from_slice(&items[..2]).ok_or("no item")?;
     let (by_first, adjacent) = runs(&slice);
     holds("runs_by", by_first == 3)?;
     holds("adjacent_runs", adjacent == 2)?;
-    holds("==", slice == slice && slice != front)?;
-    holds("cmp", front.cmp(&slice) == Ordering::Less)?;
-    let answer = NEVec::new(rt.alloc(), *slice.last());
-    gives(&rt, "NEVec::new behind slices", answer, &[7])
+    holds("==", slice == slice && slice != prefix)?;
+    holds("cmp", prefix.cmp(&slice) == Ordering::Less)?;
+    let result = NEVec::new(rt.alloc(), *slice.last());
+    gives(&rt, "NEVec::new behind slices", result, &[7])
 }

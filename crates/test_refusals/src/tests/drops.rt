@@ -1,7 +1,7 @@
 //! Items that count their owners: an item for which there is no room is dropped once, as are those
 //! that came before it.
 
-use super::{Countdown, tell};
+use super::{Countdown, report};
 use nonempty_collections::iter::once;
 use nonempty_collections::{NEVec, NonEmptyIterator, Singleton, nev};
 use std::alloc::{AllocError, Global};
@@ -22,44 +22,44 @@ fn prepared(alloc: Global) -> Result<(Rc<u32>, NEVec<Rc<u32>>, Rc<u32>), AllocEr
 fn owned(
     rt: &impl Print,
     call: &str,
-    answer: Result<(), AllocError>,
+    result: Result<(), AllocError>,
     token: &Rc<u32>,
     items: &NEVec<Rc<u32>>,
 ) -> Result<(), Fail> {
     if Rc::strong_count(token) - 1 != items.len().get() {
         return Err(Fail::new(format_args!("{call}: an item is lost, or dropped twice")));
     }
-    tell(rt, if answer.is_ok() { "made" } else { "refused" }, call)
+    report(rt, if result.is_ok() { "made" } else { "refused" }, call)
 }
 
 #[test]
 fn push(rt: HostRuntime) -> Result<(), Fail> {
     let call = "NEVec::push of an owner";
     let Ok((token, mut items, next)) = prepared(rt.alloc()) else {
-        return tell(&rt, "not reached", call);
+        return report(&rt, "not reached", call);
     };
-    let answer = items.push(next);
-    owned(&rt, call, answer, &token, &items)
+    let result = items.push(next);
+    owned(&rt, call, result, &token, &items)
 }
 
 #[test]
 fn insert(rt: HostRuntime) -> Result<(), Fail> {
     let call = "NEVec::insert of an owner";
     let Ok((token, mut items, next)) = prepared(rt.alloc()) else {
-        return tell(&rt, "not reached", call);
+        return report(&rt, "not reached", call);
     };
-    let answer = items.insert(0, next);
-    owned(&rt, call, answer, &token, &items)
+    let result = items.insert(0, next);
+    owned(&rt, call, result, &token, &items)
 }
 
 #[test]
 fn extend_one(rt: HostRuntime) -> Result<(), Fail> {
     let call = "Singleton::extend_one of an owner";
     let Ok((token, mut items, next)) = prepared(rt.alloc()) else {
-        return tell(&rt, "not reached", call);
+        return report(&rt, "not reached", call);
     };
-    let answer = items.extend_one(next);
-    owned(&rt, call, answer, &token, &items)
+    let result = items.extend_one(next);
+    owned(&rt, call, result, &token, &items)
 }
 
 // Fails unless the token has `count` owners besides `token` itself if the vector was made, and none
@@ -67,58 +67,58 @@ fn extend_one(rt: HostRuntime) -> Result<(), Fail> {
 fn held(
     rt: &impl Print,
     call: &str,
-    answer: Result<NEVec<Rc<u32>>, AllocError>,
+    result: Result<NEVec<Rc<u32>>, AllocError>,
     token: &Rc<u32>,
     count: usize,
 ) -> Result<(), Fail> {
-    let outcome = if answer.is_ok() { "made" } else { "refused" };
-    let wanted = if answer.is_ok() { count } else { 0 };
+    let outcome = if result.is_ok() { "made" } else { "refused" };
+    let wanted = if result.is_ok() { count } else { 0 };
     if Rc::strong_count(token) - 1 != wanted {
         return Err(Fail::new(format_args!("{call}: an item is lost, or dropped twice")));
     }
-    tell(rt, outcome, call)
+    report(rt, outcome, call)
 }
 
 #[test]
 fn new(rt: HostRuntime) -> Result<(), Fail> {
     let call = "NEVec::new of an owner";
     let Ok((token, items, next)) = prepared(rt.alloc()) else {
-        return tell(&rt, "not reached", call);
+        return report(&rt, "not reached", call);
     };
     drop(items);
-    let answer = NEVec::new(rt.alloc(), next);
-    held(&rt, call, answer, &token, 1)
+    let result = NEVec::new(rt.alloc(), next);
+    held(&rt, call, result, &token, 1)
 }
 
 #[test]
 fn from_parts(rt: HostRuntime) -> Result<(), Fail> {
     let call = "NEVec::from_parts of owners";
     let Ok((token, items, next)) = prepared(rt.alloc()) else {
-        return tell(&rt, "not reached", call);
+        return report(&rt, "not reached", call);
     };
-    let answer = NEVec::from_parts(next, Vec::from(items));
-    held(&rt, call, answer, &token, 3)
+    let result = NEVec::from_parts(next, Vec::from(items));
+    held(&rt, call, result, &token, 3)
 }
 
 #[test]
 fn from_elem(rt: HostRuntime) -> Result<(), Fail> {
     let call = "nev of a repeated owner";
     let Ok((token, items, next)) = prepared(rt.alloc()) else {
-        return tell(&rt, "not reached", call);
+        return report(&rt, "not reached", call);
     };
     drop(items);
-    let answer = nev![rt.alloc(); next; 5];
-    held(&rt, call, answer, &token, 5)
+    let result = nev![rt.alloc(); next; 5];
+    held(&rt, call, result, &token, 5)
 }
 
 // The vector grows twice, as in the test of `collect into Result`.
 #[test]
 fn collected(rt: HostRuntime) -> Result<(), Fail> {
-    let call = "collect owners into Result";
+    let call = "collect into Result of owners";
     let Ok(token) = Rc::new(rt.alloc(), 7) else {
-        return tell(&rt, "not reached", call);
+        return report(&rt, "not reached", call);
     };
     let owners = once(5).chain(Countdown(5)).map(|_| token.clone());
-    let answer: Result<Result<NEVec<Rc<u32>>, AllocError>, AllocError> = owners.collect(rt.alloc());
-    held(&rt, call, answer.flatten(), &token, 6)
+    let result: Result<Result<NEVec<Rc<u32>>, AllocError>, AllocError> = owners.collect(rt.alloc());
+    held(&rt, call, result.flatten(), &token, 6)
 }

@@ -1,7 +1,7 @@
 //! The macros with several numbers or pairs, and then one that is there already. Their expressions
 //! are evaluated once each, from left to right, and none after a failed allocation.
 
-use super::tell;
+use super::report;
 use nonempty_collections::{ne_indexmap, nebtm, nebts, neim, neis, nem, nes, nev};
 use std::cell::Cell;
 use std::convert::AsSlice;
@@ -38,7 +38,7 @@ fn written(
     if !is_right {
         return Err(Fail::new(format_args!("{call}: it has another content")));
     }
-    tell(rt, if is_made { "made" } else { "refused" }, call)
+    report(rt, if is_made { "made" } else { "refused" }, call)
 }
 
 // Passes the macro the numbers, which are places, and 2 once more.
@@ -48,12 +48,12 @@ macro_rules! numbers {
         $made:ident => $is_right:expr
     ) => {{
         let count = Cell::new(0);
-        let answer = $macro![
+        let result = $macro![
             { at(&count, 1); $rt.alloc() };
             $(at(&count, $place),)* { at(&count, $last); 2 },
         ];
-        let is_right = answer.as_ref().map_or(true, |$made| $is_right);
-        written(&$rt, stringify!($macro), answer.is_ok(), count.get(), $last, &$refused, is_right)
+        let is_right = result.as_ref().map_or(true, |$made| $is_right);
+        written(&$rt, stringify!($macro), result.is_ok(), count.get(), $last, &$refused, is_right)
     }};
 }
 
@@ -64,13 +64,13 @@ macro_rules! pairs {
         $refused:expr, $made:ident => $is_right:expr
     ) => {{
         let count = Cell::new(0);
-        let answer = $macro![
+        let result = $macro![
             { at(&count, 1); $rt.alloc() };
             $(at(&count, $key) => at(&count, $value),)*
             { at(&count, $again); 2 } => at(&count, $last),
         ];
-        let is_right = answer.as_ref().map_or(true, |$made| $is_right);
-        written(&$rt, stringify!($macro), answer.is_ok(), count.get(), $last, &$refused, is_right)
+        let is_right = result.as_ref().map_or(true, |$made| $is_right);
+        written(&$rt, stringify!($macro), result.is_ok(), count.get(), $last, &$refused, is_right)
     }};
 }
 
@@ -85,12 +85,12 @@ fn vector(rt: HostRuntime) -> Result<(), Fail> {
 #[test]
 fn repeated(rt: HostRuntime) -> Result<(), Fail> {
     let count = Cell::new(0);
-    let answer = nev![{ at(&count, 1); rt.alloc() }; at(&count, 2); { at(&count, 3); 10 }];
-    let is_right = answer
+    let result = nev![{ at(&count, 1); rt.alloc() }; at(&count, 2); { at(&count, 3); 10 }];
+    let is_right = result
         .as_ref()
         .map_or(true, |made| made.as_slice() == [2; 10].as_slice());
     let call = "nev of a repeated item";
-    written(&rt, call, answer.is_ok(), count.get(), 3, &[3], is_right)
+    written(&rt, call, result.is_ok(), count.get(), 3, &[3], is_right)
 }
 
 // There is room for 15 keys in a tree, and for 9 in a hashed map or set.

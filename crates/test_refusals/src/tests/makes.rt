@@ -1,6 +1,6 @@
 //! The calls that make a vector of numbers.
 
-use super::{gives, is, tell, two};
+use super::{gives, is, report, two};
 use nonempty_collections::{NEVec, Singleton};
 use std::alloc::AllocError;
 use std::num::NonZeroUsize;
@@ -8,20 +8,20 @@ use std::test::Fail;
 
 #[test]
 fn new(rt: HostRuntime) -> Result<(), Fail> {
-    let answer = NEVec::new(rt.alloc(), 1);
-    gives(&rt, "NEVec::new", answer, &[1])
+    let result = NEVec::new(rt.alloc(), 1);
+    gives(&rt, "NEVec::new", result, &[1])
 }
 
 #[test]
 fn with_capacity(rt: HostRuntime) -> Result<(), Fail> {
-    let answer = NEVec::with_capacity(rt.alloc(), NonZeroUsize::new(3).unwrap(), 1);
-    gives(&rt, "NEVec::with_capacity", answer, &[1])
+    let result = NEVec::with_capacity(rt.alloc(), NonZeroUsize::new(3).unwrap(), 1);
+    gives(&rt, "NEVec::with_capacity", result, &[1])
 }
 
 #[test]
 fn from_parts(rt: HostRuntime) -> Result<(), Fail> {
     let Ok(tail) = two(rt.alloc(), 2, 3) else {
-        return tell(&rt, "not reached", "NEVec::from_parts");
+        return report(&rt, "not reached", "NEVec::from_parts");
     };
     is("room", tail.capacity(), 2)?;
     gives(
@@ -34,6 +34,6 @@ fn from_parts(rt: HostRuntime) -> Result<(), Fail> {
 
 #[test]
 fn singleton(rt: HostRuntime) -> Result<(), Fail> {
-    let answer: Result<NEVec<u32>, AllocError> = Singleton::singleton(rt.alloc(), 1);
-    gives(&rt, "Singleton::singleton", answer, &[1])
+    let result: Result<NEVec<u32>, AllocError> = Singleton::singleton(rt.alloc(), 1);
+    gives(&rt, "Singleton::singleton", result, &[1])
 }

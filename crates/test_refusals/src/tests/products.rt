@@ -1,7 +1,7 @@
 //! Products and distinct items: what was taken is dropped once if an allocation fails.
 
 use super::owners::{Owner, one_more, owned, token};
-use super::{holds, is, tell, walks};
+use super::{holds, is, report, yields};
 use crate::tests::tables::{Items, item};
 use nonempty_collections::iter::once;
 use nonempty_collections::{
@@ -15,13 +15,13 @@ use std::test::Fail;
 fn all_unique(rt: HostRuntime) -> Result<(), Fail> {
     let call = "NonEmptyItertools::all_unique";
     let Ok(token) = token(rt.alloc()) else {
-        return tell(&rt, "not reached", call);
+        return report(&rt, "not reached", call);
     };
     let source = once(item(rt.alloc(), &token, 1)?).chain(Items::new(rt.alloc(), &token, 2, 9));
-    let answer = source.all_unique(rt.alloc());
+    let result = source.all_unique(rt.alloc());
     owned(call, &token, 0)?;
-    holds(call, answer.unwrap_or(true))?;
-    tell(&rt, if answer.is_ok() { "made" } else { "refused" }, call)
+    holds(call, result.unwrap_or(true))?;
+    report(&rt, if result.is_ok() { "made" } else { "refused" }, call)
 }
 
 // How many pairs come, at most four, whether an `Err` comes after them, and whether `None` does.
@@ -48,7 +48,7 @@ macro_rules! drawn {
 fn cartesian_product(rt: HostRuntime) -> Result<(), Fail> {
     let call = "NonEmptyItertools::cartesian_product";
     let Ok(token) = token(rt.alloc()) else {
-        return tell(&rt, "not reached", call);
+        return report(&rt, "not reached", call);
     };
     let draws = Cell::new(0u32);
     let rows = [one_more(rt.alloc(), &token)?, one_more(rt.alloc(), &token)?]
@@ -63,7 +63,7 @@ fn cartesian_product(rt: HostRuntime) -> Result<(), Fail> {
     is(call, draws.get() as usize, if count < 2 { 1 } else { 2 })?;
     holds(call, is_over && is_refused == (count < 4))?;
     owned(call, &token, 0)?;
-    tell(&rt, if is_refused { "refused" } else { "made" }, call)
+    report(&rt, if is_refused { "refused" } else { "made" }, call)
 }
 
 // Three rows of one pair. The iterator of the right side is cloned when the product becomes an
@@ -72,7 +72,7 @@ fn cartesian_product(rt: HostRuntime) -> Result<(), Fail> {
 fn right_side(rt: HostRuntime) -> Result<(), Fail> {
     let call = "NonEmptyItertools::cartesian_product of a right side";
     let Ok(token) = token(rt.alloc()) else {
-        return tell(&rt, "not reached", call);
+        return report(&rt, "not reached", call);
     };
     let draws = Cell::new(0u32);
     let rows = [1u32, 2, 3].into_nonempty_iter().map(|row| {
@@ -89,7 +89,7 @@ fn right_side(rt: HostRuntime) -> Result<(), Fail> {
         wanted == Some(draws.get()) && is_over && is_refused == (count < 3),
     )?;
     owned(call, &token, 0)?;
-    tell(&rt, if is_refused { "refused" } else { "made" }, call)
+    report(&rt, if is_refused { "refused" } else { "made" }, call)
 }
 
 // The first request of this test is that of its call, as the gate requires: what comes before does
@@ -98,7 +98,7 @@ fn right_side(rt: HostRuntime) -> Result<(), Fail> {
 fn none_taken_before(rt: HostRuntime) -> Result<(), Fail> {
     let call = "NEVec::new behind a product";
     let left: NEEither<[u32; 1], [u32; 2]> = NEEither::Left([7]);
-    walks("NEEither", left.into_nonempty_iter().into_iter(), &[7])?;
+    yields("NEEither", left.into_nonempty_iter().into_iter(), &[7])?;
     let mut pairs = [1u32]
         .into_nonempty_iter()
         .cartesian_product(&[5u32])
@@ -108,6 +108,6 @@ fn none_taken_before(rt: HostRuntime) -> Result<(), Fail> {
         matches!(pairs.next(), Some(Ok((1, 5)))),
     )?;
     holds("cartesian_product", pairs.next().is_none())?;
-    let answer = NEVec::new(rt.alloc(), 1);
-    tell(&rt, if answer.is_ok() { "made" } else { "refused" }, call)
+    let result = NEVec::new(rt.alloc(), 1);
+    report(&rt, if result.is_ok() { "made" } else { "refused" }, call)
 }

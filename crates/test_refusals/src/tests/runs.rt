@@ -1,6 +1,6 @@
 //! Readers of runs, whose runs are allocated when they are read.
 
-use super::{holds, is, tell};
+use super::{holds, is, report};
 use ne_laws::reader::take_runs;
 use nonempty_collections::{IntoNonEmptyIterator, NonEmptyIterator};
 use std::cell::Cell;
@@ -15,16 +15,16 @@ fn group_by(rt: HostRuntime) -> Result<(), Fail> {
     let call = "GroupBy::next";
     let Some(Ok(first)) = reader.next() else {
         holds(call, reader.next().is_none())?;
-        return tell(&rt, "refused", call);
+        return report(&rt, "refused", call);
     };
     let Some(Ok(second)) = reader.next() else {
         holds(call, reader.next().is_none())?;
-        return tell(&rt, "refused", call);
+        return report(&rt, "refused", call);
     };
     is(call, first.len().get(), 5)?;
     is(call, second.len().get(), 1)?;
     holds(call, reader.next().is_none())?;
-    tell(&rt, "made", call)
+    report(&rt, "made", call)
 }
 
 // A finished run is given before memory is requested for the next one. If that fails, the first run
@@ -37,16 +37,16 @@ fn finished_run(rt: HostRuntime) -> Result<(), Fail> {
         .group_by(rt.alloc(), |x| *x)
         .into_iter();
     let Some(Ok(first)) = reader.next() else {
-        return tell(&rt, "not reached", call);
+        return report(&rt, "not reached", call);
     };
     holds(call, first.len().get() == 1 && *first.first() == 5)?;
     let Some(Ok(second)) = reader.next() else {
         holds(call, reader.next().is_none())?;
-        return tell(&rt, "refused", call);
+        return report(&rt, "refused", call);
     };
     holds(call, second.len().get() == 1 && *second.first() == 6)?;
     holds(call, reader.next().is_none())?;
-    tell(&rt, "made", call)
+    report(&rt, "made", call)
 }
 
 // An item that adds its weight to a sum when it is dropped.
@@ -82,12 +82,12 @@ fn taken(rt: HostRuntime) -> Result<(), Fail> {
     let items = [of(5, 1), of(5, 10), of(6, 100), of(6, 1000)].into_nonempty_iter();
     let Ok((runs, reader)) = take_runs(rt.alloc(), items, |item| item.value, 1) else {
         is(call, dropped.get() as usize, 1111)?;
-        return tell(&rt, "refused", call);
+        return report(&rt, "refused", call);
     };
     holds(call, runs.len() == 1 && dropped.get() == 0)?;
     drop(reader);
     is(call, dropped.get() as usize, 1100)?;
     drop(runs);
     is(call, dropped.get() as usize, 1111)?;
-    tell(&rt, "made", call)
+    report(&rt, "made", call)
 }

@@ -1,6 +1,6 @@
 //! The calls that sort, which allocate for more than twenty items.
 
-use super::{leaves, tell};
+use super::{leaves, report};
 use nonempty_collections::NEVec;
 use std::alloc::Global;
 use std::test::Fail;
@@ -26,31 +26,31 @@ fn of(alloc: Global, items: &[u32]) -> Option<NEVec<u32>> {
 #[test]
 fn sort(rt: HostRuntime) -> Result<(), Fail> {
     let Some(mut items) = of(rt.alloc(), &BY_HALVES) else {
-        return tell(&rt, "not reached", "NEVec::sort");
+        return report(&rt, "not reached", "NEVec::sort");
     };
-    let answer = items.sort();
-    leaves(&rt, "NEVec::sort", answer, &items, &BY_HALVES, &RISING)
+    let result = items.sort();
+    leaves(&rt, "NEVec::sort", result, &items, &BY_HALVES, &RISING)
 }
 
 #[test]
 fn sort_by(rt: HostRuntime) -> Result<(), Fail> {
     let Some(mut items) = of(rt.alloc(), &BY_HALVES) else {
-        return tell(&rt, "not reached", "NEVec::sort_by");
+        return report(&rt, "not reached", "NEVec::sort_by");
     };
-    let answer = items.sort_by(|a, b| b.cmp(a));
-    leaves(&rt, "NEVec::sort_by", answer, &items, &BY_HALVES, &FALLING)
+    let result = items.sort_by(|a, b| b.cmp(a));
+    leaves(&rt, "NEVec::sort_by", result, &items, &BY_HALVES, &FALLING)
 }
 
 #[test]
 fn sort_by_key(rt: HostRuntime) -> Result<(), Fail> {
     let Some(mut items) = of(rt.alloc(), &FALLING) else {
-        return tell(&rt, "not reached", "NEVec::sort_by_key");
+        return report(&rt, "not reached", "NEVec::sort_by_key");
     };
-    let answer = items.sort_by_key(|x| *x / 2);
+    let result = items.sort_by_key(|x| *x / 2);
     leaves(
         &rt,
         "NEVec::sort_by_key",
-        answer,
+        result,
         &items,
         &FALLING,
         &BY_HALVES,

@@ -5,13 +5,13 @@
 //! one unreached.
 
 mod kinds;
-mod looks;
+mod lookups;
 
 ghost use Rattle.std.specs.Prelude.{◌+◌};
 ghost use Rattle.std.specs.Iterator.{at_most};
 
 use super::owners::{Key, Owner, one_more, owned, token};
-use super::tell;
+use super::report;
 use nonempty_collections::iter::once;
 use nonempty_collections::{FromNonEmptyIterator, NonEmptyIterator, Singleton};
 use std::alloc::{AllocError, Global};
@@ -153,7 +153,7 @@ fn stands<C: Table>(
         return Err(Fail::new(format_args!("{call}: {count} numbers stand")));
     }
     owned(call, token, count.wrapping_mul(2))?;
-    tell(rt, if is_made { "made" } else { "refused" }, call)
+    report(rt, if is_made { "made" } else { "refused" }, call)
 }
 
 // Returns the table that the call makes of item 1, with the items up to `last` inserted, for which
@@ -167,7 +167,7 @@ fn made<C: Table>(
 ) -> Result<Option<C>, Fail> {
     let Ok(mut table) = C::make(alloc, make.0, item(alloc, token, 1)?) else {
         owned(make.1, token, 0)?;
-        tell(rt, "refused", make.1)?;
+        report(rt, "refused", make.1)?;
         return Ok(None);
     };
     stands(rt, make.1, true, token, &table, 1, 1)?;
@@ -189,10 +189,10 @@ fn changed<C: Table>(
     if C::needs().none_again && table.change(change.0, item(alloc, token, 3)?).is_err() {
         return Err(Fail::new(format_args!("{}: it is there already", change.1)));
     }
-    let answer = table.change(change.0, item(alloc, token, full.wrapping_add(1))?);
+    let result = table.change(change.0, item(alloc, token, full.wrapping_add(1))?);
     let shrinks = change.0 == Change::ShrinkToFit;
     let all = if shrinks { full } else { full.wrapping_add(1) };
-    stands(rt, change.1, answer.is_ok(), token, table, full, all)
+    stands(rt, change.1, result.is_ok(), token, table, full, all)
 }
 
 // Extends a table that has room for one item. Of the new items one is already there, one goes into
@@ -206,11 +206,11 @@ fn extended<C: Table>(
 ) -> Result<(), Fail> {
     let full = C::needs().room;
     let more = Items::new(alloc, token, full.wrapping_sub(1), 4);
-    let answer = table.extend_by(more);
+    let result = table.extend_by(more);
     stands(
         rt,
         extend,
-        answer.is_ok(),
+        result.is_ok(),
         token,
         table,
         full,
@@ -230,8 +230,8 @@ fn cloned<C: Table>(rt: &impl Print, token: &Rc<u32>, table: C, clone: &str) -> 
 // Makes the calls of a row, with a token of their own.
 fn row<C: Table>(rt: &impl Print, alloc: Global, (make, call): Row) -> Result<(), Fail> {
     let Ok(token) = token(alloc) else {
-        tell(rt, "not reached", make.1)?;
-        return tell(rt, "not reached", call.1);
+        report(rt, "not reached", make.1)?;
+        return report(rt, "not reached", call.1);
     };
     let last = match call.0 {
         Change::Clone => 1,
@@ -239,7 +239,7 @@ fn row<C: Table>(rt: &impl Print, alloc: Global, (make, call): Row) -> Result<()
         _ => C::needs().room,
     };
     let Some(mut table) = made::<C>(rt, alloc, &token, make, last)? else {
-        return tell(rt, "not reached", call.1);
+        return report(rt, "not reached", call.1);
     };
     match call.0 {
         Change::Clone => cloned(rt, &token, table, call.1),
@@ -251,14 +251,14 @@ fn row<C: Table>(rt: &impl Print, alloc: Global, (make, call): Row) -> Result<()
 // Collects an item more than there is room for.
 fn collected<C: Table>(rt: &impl Print, alloc: Global, call: &str) -> Result<(), Fail> {
     let Ok(token) = token(alloc) else {
-        return tell(rt, "not reached", call);
+        return report(rt, "not reached", call);
     };
     let mut rest = Items::new(alloc, &token, 2, C::needs().room);
     rest.hint = C::needs().hint;
-    let answer: Result<C, AllocError> = once(item(alloc, &token, 1)?).chain(rest).collect(alloc);
-    let Ok(table) = answer else {
+    let result: Result<C, AllocError> = once(item(alloc, &token, 1)?).chain(rest).collect(alloc);
+    let Ok(table) = result else {
         owned(call, &token, 0)?;
-        return tell(rt, "refused", call);
+        return report(rt, "refused", call);
     };
     let all = C::needs().room.wrapping_add(1);
     stands(rt, call, true, &token, &table, all, all)

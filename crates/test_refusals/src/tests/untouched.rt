@@ -1,6 +1,6 @@
 //! The calls that do not allocate: whichever request is refused, they return the same as ever.
 
-use super::{holds, pair, same, tell};
+use super::{holds, pair, report, same};
 use nonempty_collections::{NESlice, NEVec};
 use rand::SeedableRng;
 use rand::rngs::SmallRng;
@@ -21,7 +21,7 @@ fn seven(alloc: Global) -> Result<NEVec<u32>, AllocError> {
 fn removals(rt: HostRuntime) -> Result<(), Fail> {
     let call = "removals";
     let Ok(mut items) = seven(rt.alloc()) else {
-        return tell(&rt, "not reached", call);
+        return report(&rt, "not reached", call);
     };
     items.dedup();
     same("dedup", items.as_slice(), &[1, 2, 3, 4, 5, 6])?;
@@ -36,14 +36,14 @@ fn removals(rt: HostRuntime) -> Result<(), Fail> {
     same("retain", kept.as_slice(), &[3])?;
     let kept = kept.retain_mut(|_| false).err().ok_or("one kept")?;
     same("retain_mut", kept.as_slice(), &[])?;
-    tell(&rt, "made", call)
+    report(&rt, "made", call)
 }
 
 #[test]
-fn looks(rt: HostRuntime) -> Result<(), Fail> {
-    let call = "looks";
+fn lookups(rt: HostRuntime) -> Result<(), Fail> {
+    let call = "lookups";
     let Ok(items) = seven(rt.alloc()) else {
-        return tell(&rt, "not reached", call);
+        return report(&rt, "not reached", call);
     };
     let slice = NESlice::try_from_slice(items.as_slice()).ok_or("no item")?;
     let mut chunks = slice
@@ -62,21 +62,21 @@ fn looks(rt: HostRuntime) -> Result<(), Fail> {
     )?;
     let found = items.binary_search(&4).is_ok() && items.partition_point(|it| *it < 3) == 2;
     if !found || !items.contains(&6) || items.get(7).is_some() {
-        return Err(Fail::new(format_args!("a search answers otherwise")));
+        return Err(Fail::new(format_args!("a search results otherwise")));
     }
     same(
         "Vec::from",
         Vec::from(items).as_slice(),
         &[1, 2, 3, 4, 5, 6, 6],
     )?;
-    tell(&rt, "made", call)
+    report(&rt, "made", call)
 }
 
 #[test]
 fn draws(rt: HostRuntime) -> Result<(), Fail> {
     let call = "draws and comparisons";
     let (Ok(mut items), Ok(others)) = (seven(rt.alloc()), seven(rt.alloc())) else {
-        return tell(&rt, "not reached", call);
+        return report(&rt, "not reached", call);
     };
     holds(
         "==",
@@ -90,5 +90,5 @@ fn draws(rt: HostRuntime) -> Result<(), Fail> {
     let items = NEVec::try_from_vec(Vec::from(items)).ok_or("no item")?;
     let items = NEVec::try_from(Vec::from(items)).ok().ok_or("no item")?;
     holds("conversions", items == others)?;
-    tell(&rt, "made", call)
+    report(&rt, "made", call)
 }

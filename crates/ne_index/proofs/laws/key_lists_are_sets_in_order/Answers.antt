@@ -5,4 +5,4 @@ pub returns-clause-once : goal.returns-clause-once
 returns-clause-once g c = λ xs. key_list-set g.met.K.Eq.laws xs
 
 pub returns-clause-in_order : goal.returns-clause-in_order
-returns-clause-in_order g c = λ front more. key_list-prefix g.K.PartialEq.eq front more
+returns-clause-in_order g c = λ prefix more. key_list-prefix g.K.PartialEq.eq prefix more

@@ -8,8 +8,8 @@ pub loop-call-preserved : goal.loop-call-preserved
 loop-call-preserved g c = record {
   run = rw c.in_ok-push.ensures.items (one_more g.K.PartialEq.eq _ c.loop-call.yielded
       c.loop-call.replies.items _ c.in-Some.call c.in_ok-reply.reply _
-      c.loop-call.invariant.run c.in_ok-reply.ensures.step c.answer.ensures.map);
-  map = c.answer.ensures.map;
+      c.loop-call.invariant.run c.in_ok-reply.ensures.step c.reply_to.ensures.map);
+  map = c.reply_to.ensures.map;
   one_each = rw c.in_ok-push.ensures.items (as_many _ _ _ _ c.loop-call.invariant.one_each);
   left = left_after c.loop-call.yielded c.in-Some.call _ _ _ c.in-Some.ensures.steps.0
       c.loop-call.invariant.left;
@@ -25,5 +25,5 @@ returns-in_err-push-clause-refused g c =
           c.loop-call.invariant.left),
       one_more g.K.PartialEq.eq _ c.loop-call.yielded c.loop-call.replies.items _ c.in-Some.call
           c.in_ok-reply.reply _ c.loop-call.invariant.run c.in_ok-reply.ensures.step
-          c.answer.ensures.map,
+          c.reply_to.ensures.map,
     )

@@ -8,10 +8,10 @@ pub returns : goal.returns
 returns g c = IfOk-weaker c.text_of_runs.result _ _ (λ text made h acts.
     let runs = c.runs_by.result in
     let holds = c.runs_by.ensures.holds in
-    let shown = subst (λ s. ActsAsAtPair g.F.Fn s.closure h) (sym holds) acts in
-    let whole = c.slice_runs_are_the_division.ensures.by_first runs h shown in
-    let front = whole.2 true made.0 made.1 in
-    let rows = front.1 ∙ ap (λ l. made.0 ++ l) (front.2 refl) ∙ append-nil made.0 in
+    let acts_here = subst (λ s. ActsAsAtPair g.F.Fn s.closure h) (sym holds) acts in
+    let whole = c.slice_runs_are_the_division.ensures.by_first runs h acts_here in
+    let prefix = whole.2 true made.0 made.1 in
+    let rows = prefix.1 ∙ ap (λ l. made.0 ++ l) (prefix.2 refl) ∙ append-nil made.0 in
     let numbers = ap (λ s. s.left) holds ∙ c.as_nonempty_slice-items.ensures in
     let divided = subst (λ rs. IsDivision (by_first h) runs.left rs) rows whole.1 in
     let of_numbers = subst (λ xs. IsDivision (by_first h) xs made.0) numbers divided in

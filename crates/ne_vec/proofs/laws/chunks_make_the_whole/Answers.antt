@@ -11,4 +11,4 @@ pub returns-clause-whole : goal.returns-clause-whole
 returns-clause-whole g c size xs some = chunks_joined size xs some
 
 pub returns-clause-sizes : goal.returns-clause-sizes
-returns-clause-sizes g c size xs front last some e = chunks_fit size xs front last some e
+returns-clause-sizes g c size xs prefix last some e = chunks_fit size xs prefix last some e

@@ -21,11 +21,11 @@ returns c = IfOk-weaker c.spread.result _ _ (λ v h.
     (λ it made. ap counted_down made) h.whole h.items h.read in
     let values = c.calls_of_a_function.ensures twice h.items h.joins.sources h.joins.f_then
     (λ x r f called. search rules) h.joins.called in
-    let answers = subst (IsPrefix h.whole (map twice down)) (sym values.0)
+    let results = subst (IsPrefix h.whole (map twice down)) (sym values.0)
     (c.first_items_stay_first.ensures.mapped twice h.whole down h.items numbers) in
     let follow = subst (λ l. IsPrefix h.whole l items) (flat_map-map (λ l. l) twice down)
     (c.lists_follow_one_another.ensures (λ l. l) c.arrays_give_their_items.ensures h.whole
-    (map twice down) h.joins.sources h.joins.lists answers h.joins.read_each) in
+    (map twice down) h.joins.sources h.joins.lists results h.joins.read_each) in
     let all = c.first_items_stay_first.ensures.numbered h.whole (flat_map twice down) items follow
     in
     let long = sym (length-enumerate_from 0 items) in

@@ -17,7 +17,7 @@ returns g c = IfOk-weaker c.collect.result _ _ (λ v h.
     let long = ap length counted.2 ∙ length-enumerate_from 0 counted.0 ∙ ap length chained.is in
     record {
       items = mapped.items;
-      answers = chained.items;
+      results = chained.items;
       other_items = chained.other_items;
       f_then = mapped.f_then;
       whole = _;

@@ -19,7 +19,7 @@ returns g c = IfOk-weaker c.unzip.result _ _ (λ r h.
     ∙ seconds-zip zipped.items zipped.other_items (sym zipped.as_many) in
     let long = sym (length-map h.0 (λ p. p.1)) ∙ ap length seconds in record {
       items = mapped.items;
-      answers = zipped.items;
+      results = zipped.items;
       other_items = zipped.other_items;
       f_then = mapped.f_then;
       ended = zipped.ended;

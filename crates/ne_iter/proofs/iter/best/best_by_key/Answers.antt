@@ -27,14 +27,14 @@ returns g c =
     let kept = c.best-key.ensures in
     let pairs = kept.0 ∷ kept.1 in
     let behind = c.map-pairs.ensures.gives true pairs kept.2 in
-    let shown = CallsEachAt-pairs g.F.FnMut _ (λ f. f.0.now)
+    let calls_made = CallsEachAt-pairs g.F.FnMut _ (λ f. f.0.now)
     (λ f x p h one. search (rules, one)) _ behind.items pairs behind.f_then behind.called in (
       keyed kept.0,
       map keyed kept.1,
       c.best-key.result.0,
       behind.f_then.0.now,
-      subst (Reads becomes steps true c.args.source) shown.0 behind.read,
-      shown.1,
+      subst (Reads becomes steps true c.args.source) calls_made.0 behind.read,
+      calls_made.1,
       KeepsBetter-keyed _ _ g.G.Fn c.args.better (λ v w t says. search (rules, says))
           kept.0 kept.1 c.best-key.result kept.3,
     )

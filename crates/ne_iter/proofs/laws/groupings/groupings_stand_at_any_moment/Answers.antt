@@ -6,5 +6,5 @@ pub returns-clause-fresh : goal.returns-clause-fresh
 returns-clause-fresh g c = fresh_grouping g.I.Iterator.next_gives g.F.FnMut g.K.PartialEq.eq
 
 pub returns-clause-later : goal.returns-clause-later
-returns-clause-later g c s f done r h answers = returns_on g.I.Iterator.next_gives g.F.FnMut
-    g.K.PartialEq.eq s f done answers r h
+returns-clause-later g c s f done r h results = returns_on g.I.Iterator.next_gives g.F.FnMut
+    g.K.PartialEq.eq s f done results r h

@@ -13,7 +13,7 @@ returns-clause-gives g c =
       key = kept.2;
       f_then = kept.3;
       read = kept.4;
-      shown = kept.5;
+      called = kept.5;
       is_best = IsFirstGreatest-kept (λ p. p.1) _ _ (λ p q. less_by g.B.Ord.cmp p.1 q.1)
           (ranks_by key.total (λ p. p.1)) kept.0 kept.1 (c.best_by_key.result, kept.2)
           (λ p q t a b says.
@@ -25,11 +25,11 @@ pub returns-clause-lists : goal.returns-clause-lists
 returns-clause-lists g c =
     let r = returns-clause-gives g c in
     has_best_key g.F.FnMut c.args.key (λ a b. less_by g.B.Ord.cmp b a) r.keyed
-    c.best_by_key.result r.key r.f_then r.shown r.is_best g.Self.IntoIterator.into_iter_gives
+    c.best_by_key.result r.key r.f_then r.called r.is_best g.Self.IntoIterator.into_iter_gives
     g.Self.IntoIter.Iterator.next_gives c.args.self g.Self.NonEmptyIterator.item_view r.read
 
 pub returns-clause-runs : goal.returns-clause-runs
 returns-clause-runs g c =
     let r = returns-clause-gives g c in
     best_key_run_of g.F.FnMut c.args.key (λ a b. less_by g.B.Ord.cmp b a) r.keyed
-    c.best_by_key.result r.key r.f_then r.shown r.is_best r.read
+    c.best_by_key.result r.key r.f_then r.called r.is_best r.read

@@ -6,14 +6,14 @@ use Rattle.nonempty_collections.specs.Calls.{Calls, CallsEachAt}
 use Rattle.nonempty_collections.specs.Keys.{items_of, DividesByKey}
 
 -- rs are the runs of what f returns for all items of the source, by the keys that `key` returns.
-pub record AreRunsOfAnswers {S A T K F G : Type 0} (reads : Bool → S → List A → Type 0)
-    (calls : Mut F (A × Unit {0}) T) (asks : Mut G (Bor T × Unit {0}) K) (eq : K → K → Bool)
+pub record AreRunsOfResults {S A T K F G : Type 0} (reads : Bool → S → List A → Type 0)
+    (calls : Mut F (A × Unit {0}) T) (key_calls : Mut G (Bor T × Unit {0}) K) (eq : K → K → Bool)
     (source : S) (f : F) (key : G) (rs : List (List T)) : Type 0 where
   pub items : List A
-  pub answers : List (T × K)
+  pub results : List (T × K)
   pub f_then : F
   pub key_then : G
   pub read : reads true source items
-  pub called : Calls calls f items (items_of answers) f_then
-  pub asked : CallsEachAt asks key answers key_then
-  pub divided : DividesByKey eq answers rs
+  pub called : Calls calls f items (items_of results) f_then
+  pub keys_called : CallsEachAt key_calls key results key_then
+  pub divided : DividesByKey eq results rs

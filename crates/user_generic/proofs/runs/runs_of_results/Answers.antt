@@ -1,4 +1,4 @@
-use Rattle.user_generic.proofs.runs.runs_of_answers.Goals as goal
+use Rattle.user_generic.proofs.runs.runs_of_results.Goals as goal
 use Rattle.std.proofs.Common.{rules, true, refl, subst}
 use Rattle.std.proofs.lemmas.Result.{IfOk-weaker}
 use Rattle.nonempty_collections.specs.GroupBy.{and_held}
@@ -12,13 +12,13 @@ returns g c = IfOk-weaker c.in_ok-collect.field-0 _ _ (λ v h.
     let end = runs.over refl in
     let mapped = c.map.ensures.gives runs.ended (items_of runs.drawn) runs.read in record {
       items = mapped.items;
-      answers = runs.drawn;
+      results = runs.drawn;
       f_then = mapped.f_then;
       key_then = runs.closure;
       read = subst (λ whole. Reads g.S.IntoIterator.into_iter_gives
           g.S.IntoIter.Iterator.next_gives whole c.args.source mapped.items) end.0 mapped.read;
       called = mapped.called;
-      asked = runs.asked;
+      keys_called = runs.called;
       divided = subst (λ held. DividesByKey g.K.PartialEq.eq runs.drawn (and_held v held)) end.1
           runs.divided;
     }) (c.results_are_read_whole.ensures c.group_by.result c.in_ok-collect.field-0

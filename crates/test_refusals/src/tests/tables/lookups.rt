@@ -1,10 +1,10 @@
 //! The calls of maps and sets that do not allocate. The requests after them are those of the call
 //! that follows, as the gate requires. What they return is proved, so it is only counted here: the
-//! answers that are `true`, and the items. With one item the order does not matter.
+//! results that are `true`, and the items. With one item the order does not matter.
 
 ghost use Rattle.std.specs.Iterator.{IsFinite};
 
-use crate::tests::tell;
+use crate::tests::report;
 use indexmap::{IndexMap, IndexSet};
 use nonempty_collections::{
     IntoNonEmptyIterator, NEBTreeMap, NEBTreeSet, NEIndexMap, NEIndexSet, NEMap, NESet,
@@ -13,7 +13,7 @@ use nonempty_collections::{
 use std::collections::{BTreeMap, BTreeSet, HashMap, HashSet};
 use std::test::Fail;
 
-// Fails unless so many answers and items were counted.
+// Fails unless so many results and items were counted.
 fn counts(calls: &str, given: [usize; 3], wanted: [usize; 3]) -> Result<(), Fail> {
     if given == wanted {
         return Ok(());
@@ -21,9 +21,9 @@ fn counts(calls: &str, given: [usize; 3], wanted: [usize; 3]) -> Result<(), Fail
     Err(Fail::new(format_args!("{calls}: {given:?}, and not {wanted:?}")))
 }
 
-// Counts the answers that are `true`.
-fn holding(answers: &[bool]) -> usize {
-    answers.iter().filter(|answer| **answer).count()
+// Counts the results that are `true`.
+fn holding(results: &[bool]) -> usize {
+    results.iter().filter(|result| **result).count()
 }
 
 // Counts the items.
@@ -104,9 +104,9 @@ fn iterate_tree(map: &NEBTreeMap<u32, u32>) -> usize {
 
 #[test]
 fn tree_map(rt: HostRuntime) -> Result<(), Fail> {
-    let call = "NEBTreeMap::new behind looks";
+    let call = "NEBTreeMap::new behind lookups";
     let Ok(mut map) = NEBTreeMap::new(rt.alloc(), 2, 20) else {
-        return tell(&rt, "not reached", call);
+        return report(&rt, "not reached", call);
     };
     let found = look_up_tree(&mut map);
     let items = iterate_tree(&map);
@@ -117,8 +117,8 @@ fn tree_map(rt: HostRuntime) -> Result<(), Fail> {
         [found, items, counted(map.into_nonempty_iter().into_iter())],
         [4, 3, 1],
     )?;
-    let answer = NEBTreeMap::new(rt.alloc(), 1, 10);
-    tell(&rt, if answer.is_ok() { "made" } else { "refused" }, call)
+    let result = NEBTreeMap::new(rt.alloc(), 1, 10);
+    report(&rt, if result.is_ok() { "made" } else { "refused" }, call)
 }
 
 fn look_up_hashed(map: &mut NEMap<u32, u32>) -> usize {
@@ -131,9 +131,9 @@ fn iterate_hashed(map: &NEMap<u32, u32>) -> usize {
 
 #[test]
 fn hashed_map(rt: HostRuntime) -> Result<(), Fail> {
-    let call = "NEMap::new behind looks";
+    let call = "NEMap::new behind lookups";
     let Ok(mut map) = NEMap::new(rt.alloc(), 2, 20) else {
-        return tell(&rt, "not reached", call);
+        return report(&rt, "not reached", call);
     };
     let found = look_up_hashed(&mut map);
     let items = iterate_hashed(&map);
@@ -144,8 +144,8 @@ fn hashed_map(rt: HostRuntime) -> Result<(), Fail> {
         [found, items, counted(map.into_nonempty_iter().into_iter())],
         [4, 3, 1],
     )?;
-    let answer = NEMap::new(rt.alloc(), 1, 10);
-    tell(&rt, if answer.is_ok() { "made" } else { "refused" }, call)
+    let result = NEMap::new(rt.alloc(), 1, 10);
+    report(&rt, if result.is_ok() { "made" } else { "refused" }, call)
 }
 
 fn look_up_index(map: &mut NEIndexMap<u32, u32>) -> usize {
@@ -166,9 +166,9 @@ fn iterate_index(map: &NEIndexMap<u32, u32>) -> usize {
 
 #[test]
 fn index_map(rt: HostRuntime) -> Result<(), Fail> {
-    let call = "NEIndexMap::new behind looks";
+    let call = "NEIndexMap::new behind lookups";
     let Ok(mut map) = NEIndexMap::new(rt.alloc(), 2, 20) else {
-        return tell(&rt, "not reached", call);
+        return report(&rt, "not reached", call);
     };
     let found = look_up_index(&mut map);
     let items = iterate_index(&map);
@@ -179,8 +179,8 @@ fn index_map(rt: HostRuntime) -> Result<(), Fail> {
         [found, items, counted(map.into_nonempty_iter().into_iter())],
         [8, 3, 1],
     )?;
-    let answer = NEIndexMap::new(rt.alloc(), 1, 10);
-    tell(&rt, if answer.is_ok() { "made" } else { "refused" }, call)
+    let result = NEIndexMap::new(rt.alloc(), 1, 10);
+    report(&rt, if result.is_ok() { "made" } else { "refused" }, call)
 }
 
 fn look_up_tree_set(set: &NEBTreeSet<u32>) -> usize {
@@ -193,9 +193,9 @@ fn iterate_tree_set(set: &NEBTreeSet<u32>) -> usize {
 
 #[test]
 fn tree_set(rt: HostRuntime) -> Result<(), Fail> {
-    let call = "NEBTreeSet::new behind looks";
+    let call = "NEBTreeSet::new behind lookups";
     let Ok(set) = NEBTreeSet::new(rt.alloc(), 2) else {
-        return tell(&rt, "not reached", call);
+        return report(&rt, "not reached", call);
     };
     let (found, items) = (look_up_tree_set(&set), iterate_tree_set(&set));
     let inner = BTreeSet::from(set);
@@ -205,8 +205,8 @@ fn tree_set(rt: HostRuntime) -> Result<(), Fail> {
         [found, items, counted(set.into_nonempty_iter().into_iter())],
         [5, 3, 1],
     )?;
-    let answer = NEBTreeSet::new(rt.alloc(), 1);
-    tell(&rt, if answer.is_ok() { "made" } else { "refused" }, call)
+    let result = NEBTreeSet::new(rt.alloc(), 1);
+    report(&rt, if result.is_ok() { "made" } else { "refused" }, call)
 }
 
 fn look_up_hashed_set(set: &NESet<u32>) -> usize {
@@ -219,20 +219,20 @@ fn iterate_hashed_set(set: &NESet<u32>) -> usize {
 
 #[test]
 fn hashed_set(rt: HostRuntime) -> Result<(), Fail> {
-    let call = "NESet::reserve behind looks";
+    let call = "NESet::reserve behind lookups";
     let Ok(set) = NESet::new(rt.alloc(), 2) else {
-        return tell(&rt, "not reached", call);
+        return report(&rt, "not reached", call);
     };
     let (found, items) = (look_up_hashed_set(&set), iterate_hashed_set(&set));
     let inner = HashSet::from(set);
     let mut set = NESet::try_from_set(inner).ok_or("no item")?;
-    let answer = set.reserve(100);
+    let result = set.reserve(100);
     counts(
         call,
         [found, items, counted(set.into_nonempty_iter().into_iter())],
         [5, 3, 1],
     )?;
-    tell(&rt, if answer.is_ok() { "made" } else { "refused" }, call)
+    report(&rt, if result.is_ok() { "made" } else { "refused" }, call)
 }
 
 fn look_up_index_set(set: &NEIndexSet<u32>) -> usize {
@@ -245,18 +245,18 @@ fn iterate_index_set(set: &NEIndexSet<u32>) -> usize {
 
 #[test]
 fn index_set(rt: HostRuntime) -> Result<(), Fail> {
-    let call = "NEIndexSet::reserve behind looks";
+    let call = "NEIndexSet::reserve behind lookups";
     let Ok(set) = NEIndexSet::new(rt.alloc(), 2) else {
-        return tell(&rt, "not reached", call);
+        return report(&rt, "not reached", call);
     };
     let (found, items) = (look_up_index_set(&set), iterate_index_set(&set));
     let inner = IndexSet::from(set);
     let mut set = NEIndexSet::try_from_set(inner).ok_or("no item")?;
-    let answer = set.reserve(100);
+    let result = set.reserve(100);
     counts(
         call,
         [found, items, counted(set.into_nonempty_iter().into_iter())],
         [5, 3, 1],
     )?;
-    tell(&rt, if answer.is_ok() { "made" } else { "refused" }, call)
+    report(&rt, if result.is_ok() { "made" } else { "refused" }, call)
 }

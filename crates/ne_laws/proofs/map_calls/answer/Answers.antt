@@ -1,6 +1,0 @@
-use Rattle.ne_laws.proofs.map_calls.answer.Goals as goal
-use Rattle.std.proofs.Common.{refl}
-
-pub returns-in-Len-clause-step : goal.returns-in-Len-clause-step
-returns-in-Len-clause-step g c =
-    rw c.in-Len.is (c.size.result, refl, c.size.ensures.size, refl)
