@@ -1,4 +1,5 @@
--- What a hashed map is once the mutable references to its values have ended.
+-- What an `NEMap` holds after a mutable borrow of its values ends, for `iter_mut`, `values_mut` and
+-- `get_mut`.
 use Rattle.std.specs.declared.hash.BuildHasher as builder
 use Rattle.std.specs.declared.hash.Hasher as hasher
 use Rattle.std.specs.Prelude.{◌≡◌, Option}
@@ -12,11 +13,11 @@ use Rattle.ne_hash.specs.declared.map.iter.IterMut.{IterMut}
 use Rattle.ne_hash.specs.declared.map.iter.ValuesMut.{ValuesMut}
 use Rattle.ne_hash.specs.contracts.map.NEMap.{the_row}
 
--- The iterator that a non-empty iterator over mutable references holds and is turned into.
+-- The std iterator that an `IterMut` holds and becomes.
 abbrev pub std_iterator : {K V : Type 0} → IterMut K V → StdIterMut K V
 std_iterator w = w.inner
 
--- The same of an iterator over the values alone.
+-- The std iterator that a `ValuesMut` holds and becomes.
 abbrev pub std_values : {K V : Type 0} → ValuesMut K V → StdValuesMut K V
 std_values w = w.inner
 
@@ -27,19 +28,19 @@ module _ (K V S H : RattleType) (key : HashMembers K.Denot)
   map_row = the_row K V S H (record { eq = key.eq }) (record { hash_input = key.hash_input }) build
       hash
 
-  -- The map keeps its keys, and its values are those that the iterator leaves.
+  -- After the borrow, m has its old keys, and each value is as the references of `it` left it.
   abbrev pub LendsValues : MutBor (HashMap K.Denot V.Denot S.Denot) → StdIterMut K.Denot V.Denot
       → Fml
   LendsValues m it = follows map_row (Array V 0) m.ghost_name (iter_mut_name it)
       (with_values m.now)
 
-  -- The same of an iterator over the values alone.
+  -- After the borrow by `values_mut`, m has its old keys, and each value is as `it` left it.
   abbrev pub LendsValuesAlone : MutBor (HashMap K.Denot V.Denot S.Denot)
       → StdValuesMut K.Denot V.Denot → Fml
   LendsValuesAlone m it = follows map_row (Array V 0) m.ghost_name (values_mut_name it)
       (with_values m.now)
 
-  -- The key k has the value that was last written through r. If r is `None`, the map is unchanged.
+  -- After the borrow, m has at k the value last written through r. If r is `None`, m is unchanged.
   abbrev pub LendsValue : MutBor (HashMap K.Denot V.Denot S.Denot) → K.Denot
       → Option (MutBor V.Denot) → Fml
   LendsValue m k r = LendsSo map_row V m r (λ n w. WritesThrough key.eq (key.eq k) m.now w n)

@@ -94,8 +94,8 @@ impl<T: Eq + Hash, S: BuildHasher> NESet<T, S> {
     /// Returns std's iterator over the items, in an unspecified order.
     ///
     /// ```
-    /// let set = nes![alloc; 10, 2, 8, 4]?;
-    /// let items = set.iter(); // &2, &4, &8 and &10, in some order
+    /// let set = nes![alloc; 10, 2]?;
+    /// let items = set.iter(); // &2 and &10, in some order
     /// ```
     pub fn iter(&self) -> hash_set::Iter<'_, T>
         ensures rest { result ≡ self.now.keys }
@@ -110,8 +110,8 @@ impl<T: Eq + Hash, S: BuildHasher> NESet<T, S> {
     /// Returns a non-empty iterator over the items, in an unspecified order.
     ///
     /// ```
-    /// let set = nes![alloc; 10, 2, 8, 4]?;
-    /// let items = set.nonempty_iter(); // &2, &4, &8 and &10, in some order
+    /// let set = nes![alloc; 10, 2]?;
+    /// let items = set.nonempty_iter(); // &2 and &10, in some order
     /// ```
     pub fn nonempty_iter(&self) -> Iter<'_, T>
         ensures keys { result ≡ self.now.keys }
@@ -221,8 +221,8 @@ impl<T: Eq + Hash, S: BuildHasher> NESet<T, S> {
     /// Returns whether the set holds an item equal to `value`.
     ///
     /// ```
-    /// let set = nes![alloc; 2, 4, 6]?;
-    /// let (there, absent) = (set.contains(&6), set.contains(&8)); // true and false
+    /// let set = nes![alloc; 2, 4]?;
+    /// let (there, absent) = (set.contains(&4), set.contains(&8)); // true and false
     /// ```
     pub fn contains(&self, value: &T) -> bool
         ensures { result ≡ contains T.eq self.now value.now }
@@ -309,8 +309,8 @@ impl<T: Eq + Hash, S: BuildHasher> NESet<T, S> {
     /// Returns whether no item is in both sets.
     ///
     /// ```
-    /// let (a, b) = (nes![alloc; 2, 4, 6]?, nes![alloc; 6, 8, 10]?);
-    /// let disjoint = a.is_disjoint(&b); // false: 6 is in both
+    /// let (a, b) = (nes![alloc; 2, 4]?, nes![alloc; 4, 6]?);
+    /// let disjoint = a.is_disjoint(&b); // false: 4 is in both
     /// ```
     pub fn is_disjoint(&self, other: &NESet<T, S>) -> bool
         ensures { IsTrue result ↔ IsDisjoint T.eq self.now other.now }
@@ -502,7 +502,7 @@ impl<T: Eq + Hash, S: BuildHasher> NESet<T, S> {
     /// or if the clone of the hasher gives it another hash.
     ///
     /// ```
-    /// let set = nes![alloc; 2, 4, 6]?;
+    /// let set = nes![alloc; 2, 4]?;
     /// let same = set.clone()? == set; // true
     /// ```
     pub fn clone(&self) -> Result<Self, AllocError>

@@ -61,7 +61,7 @@ module _ {K V S : Type 0} {eq : K → K → Bool} (laws : IsEquivalence eq) wher
         (keys_of m.entries) (λ q. refl)) (subst (λ l. 0 < l) (sym (length-keys_of m.entries)) some)
         in subst (λ l. 0 < l) (length-keys_of n.entries) keys
 
-  -- What collecting makes of the pairs, if there is at least one.
+  -- The map that is collected from the pairs, if there is at least one.
   pub key_list_map-made : (pairs : List (K × V)) (n : IndexMap K V S) → 0 < length pairs
       → (n.entries ≡ insert_all eq [] pairs) × IsFromIterResult eq pairs n
       → IsKeyListMapOf eq pairs n.entries × (0 < index_map_len n)
@@ -105,7 +105,7 @@ module _ {K S : Type 0} {eq : K → K → Bool} (laws : IsEquivalence eq) where
     nonempty_set-extends some = longer s.keys _ t.keys
         (made.0 ∙ first_seen-inserts laws s.keys xs s.keys (λ q. refl)) some
 
-  -- What collecting makes of the items, if there is at least one.
+  -- The set that is collected from the items, if there is at least one.
   pub key_list_set-made : (xs : List K) (t : IndexSet K S) → 0 < length xs
       → (t.keys ≡ set.insert_all eq [] xs) × set.IsFromIterResult eq xs t
       → IsKeyListSetOf eq xs t.keys × (0 < index_set_len t)

@@ -142,7 +142,7 @@ module _ {K : Type 0} (eq : K → K → Bool) where
       by true h = h
       by false h = ap (λ l. x ∷ l) h
 
-  -- The key list of a list begins with the key list of its front.
+  -- The key list of a list begins with the key list of each prefix.
   pub key_list-prefix : (prefix more : List K)
       → key_list eq (prefix ++ more) ≡ key_list eq prefix ++ first_seen eq prefix more
   key_list-prefix prefix more = first_seen-behind [] prefix more

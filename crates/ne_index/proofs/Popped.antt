@@ -1,4 +1,4 @@
--- What a pop leaves: all but the last.
+-- A pop leaves all items but the last.
 use Rattle.std.proofs.Common.{◌≡◌, ◌-◌, List, [], ◌∷◌, ◌++◌, Option, None, Some, length, take, sym}
 use Rattle.std.proofs.Common.{arith, length-append}
 use Rattle.std.specs.Prelude.{IfSome}

@@ -1,5 +1,4 @@
--- What an index map holds once a value is written at the index of a key that was there or is put
--- there.
+-- What an index map holds after a value is written at the index of a key, old or new.
 use Rattle.std.proofs.Common.{◌≡◌, ◌+◌, Bool, true, false, cond, not, List, [], ◌∷◌, Option, Some}
 use Rattle.std.proofs.Common.{if◌then◌else◌, refl, sym, ap, ◌∙◌, slice_get, position, suc, arith}
 use Rattle.std.proofs.Common.{ℕ, None, is_some, true≢false, unwrap_or}
@@ -57,7 +56,7 @@ module _ {K V : Type 0} {eq : K → K → Bool} (laws : IsEquivalence eq) (k : K
           ∙ ap (λ b. cond b (Some w) (lookup (eq q) m.entries)) (laws.symm q k)
 
 module _ {K V : Type 0} (eq : K → K → Bool) (k : K) where
-  -- the value of a key that is there
+  -- Writing w at the index of a key that is there has the result of `put_entry`.
   pub written-found : (es : List (K × V)) (i : ℕ) → position (eq k) (keys_of es) ≡ Some i
       → (w : V) → set_value_at es i w ≡ put_entry eq es k w
   written-found es i at w =
@@ -65,7 +64,7 @@ module _ {K V : Type 0} (eq : K → K → Bool) (k : K) where
       ∙ put_entry-insert eq es k w
 
   module _ (v : V) where
-    -- the value of a key that was inserted with v
+    -- Writing w at the index of a key that was inserted with v has the result of `put_entry`.
     pub written-inserted : (es : List (K × V)) (w : V)
         → set_value_at (insert_entry eq es k v) (position_or_len (eq k) (keys_of es)) w
         ≡ put_entry eq es k w
@@ -105,7 +104,7 @@ module _ {K V : Type 0} (eq : K → K → Bool) (k : K) where
         by false r = let next : 1 + place ≡ suc place = omega arith in
             ap (λ n. slice_get (e.1 ∷ values_of inserted) n) next ∙ r
 
-  -- a key that is not there has the value v after it is inserted
+  -- A key that was not there has the value v after it is inserted.
   pub value-new : (o : Option V) (v : V) → is_some o ≡ false → Some v ≡ Some (unwrap_or o v)
   value-new None v absent = refl
   value-new (Some x) v absent = absurd (true≢false absent)

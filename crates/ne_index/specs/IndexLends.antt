@@ -1,4 +1,4 @@
--- What an index map is once the mutable reference to one of its values has ended.
+-- What an `NEIndexMap` holds after a mutable borrow of one of its values ends.
 use Rattle.std.specs.declared.hash.BuildHasher as builder
 use Rattle.std.specs.declared.hash.Hasher as hasher
 use Rattle.std.specs.Prelude.{◌≡◌, ℕ, Option, Result, Some}
@@ -16,18 +16,18 @@ module _ (K V S H : RattleType) (key : HashMembers K.Denot)
   map_row = the_row K V S H (record { eq = key.eq }) (record { hash_input = key.hash_input }) build
       hash
 
-  -- The key k has the value that was last written through r. If r is `None`, the map is unchanged.
+  -- After the borrow, m has at k the value last written through r. If r is `None`, m is unchanged.
   abbrev pub LendsValue : MutBor (IndexMap K.Denot V.Denot S.Denot) → K.Denot
       → Option (MutBor V.Denot) → Fml
   LendsValue m k r = LendsSo map_row V m r (λ n w. WritesThrough key.eq (key.eq k) m.now w n)
       (λ n. n ≡ m.now)
 
-  -- The entry at the index i has the value that was last written through r.
+  -- After the borrow, the entry of m at the index i has the value last written through r.
   abbrev pub LendsValueAt : MutBor (IndexMap K.Denot V.Denot S.Denot) → ℕ → MutBor V.Denot → Fml
   LendsValueAt m i r = Lends map_row V m r (with_value_at m.now i)
 
-  -- The map is as after `insert` of the key k with the value that was last written through r. If r
-  -- is an error, the map is unchanged.
+  -- If r is an error, m is unchanged.
+  -- After the borrow, m is as after `insert` of k with the value last written through r.
   abbrev pub LendsInserted : {E : Type 0} → MutBor (IndexMap K.Denot V.Denot S.Denot) → K.Denot
       → Result (MutBor V.Denot) E → Fml
   LendsInserted m k r = LendsSoOk map_row V m r

@@ -1,5 +1,4 @@
--- When a list of keys is the set of the items of another list, in the order in which they first
--- appear there.
+-- For `NEIndexSet`: the set of the items of a list, in the order in which they first appear.
 use Rattle.std.specs.Prelude.{◌≡◌, Bool, List}
 use Rattle.ne_iter.specs.Collected.{IsSetOf}
 use Rattle.ne_iter.specs.KeyList.{key_list}

@@ -14,8 +14,7 @@ abbrev pub keyed : {A B : Type 0} → B × A → A × B
 keyed p = (p.1, p.0)
 
 -- `key_calls` are the calls for the key, and `pairs` those of the closure that makes pairs.
--- `key_of`
--- returns the state of the first closure within a state of the second.
+-- `key_of` returns the state of the first closure within a state of the second.
 module _ {A B F G : Type 0} (key_calls : Mut F (Bor A × Unit {0}) B)
     (pairs : Mut G (A × Unit {0}) (B × A)) (key_of : G → F)
     (each : (f : G) (x : A) (p : B × A) (g : G) → Called pairs f (x, tt) p g

@@ -1,5 +1,5 @@
--- The calls of a closure with the items of a list, one after the other, and what they return. A
--- closure may have state, so each call takes it as the call before left it.
+-- The calls of a closure with the items of a list, in order, and their results. A closure may have
+-- state, so each call takes the closure as the call before left it.
 use Rattle.std.specs.Prelude.{◌≡◌, List, [], ◌∷◌}
 use Rattle.std.specs.Iterator.{FoldTurn}
 use Rattle.std.specs.Fn.{Called, CalledAt, CalledWithState, Mut}

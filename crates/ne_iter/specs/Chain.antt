@@ -28,7 +28,7 @@ module _ {U A : Type 0} (reads : Bool → U → List A → Type 0) where
     pub read_other : others whole other other_items
     pub is : zs ≡ items ++ other_items
 
--- There may be no clause that states the list of the second source.
+-- `others` is the clause on the list of the second source; `meets` serves if there is no clause.
 -- `chain` yields the items of xs, followed by those of a second source.
 abbrev pub ChainsLists : {W A : Type 0} → (W → List A → Type 0) → (W → List A → Type 0) → W
     → List A → (List A → Type 0) → Type 0

@@ -1,4 +1,4 @@
--- What the items of a list make when they are collected into a type of the standard library.
+-- The values that the items of a list make when collected into a type of the standard library.
 use Rattle.std.specs.Prelude.{◌≡◌, Bool, List, [], ◌∷◌, ◌++◌, reverse, map, Option, Result, Ok, Err}
 use Rattle.std.specs.Prelude.{MatchResult}
 use Rattle.std.specs.Bool.{MatchBool}
@@ -12,7 +12,7 @@ module _ {K : Type 0} (eq : K → K → Bool) where
   abbrev pub last_value : {V : Type 0} → List (K × V) → K → Option V
   last_value pairs q = lookup (eq q) (reverse pairs)
 
-  -- Each key is there once, with the value of the last pair whose key equals it.
+  -- Each key of the pairs has one entry, with the value of the last pair whose key equals it.
   -- The entries are the map of the pairs.
   abbrev pub IsMapOf : {V : Type 0} → List (K × V) → List (K × V) → Type 0
   IsMapOf pairs entries = IsDistinct eq (keys_of entries)
@@ -29,12 +29,12 @@ values_or_first_err (Ok x ∷ rs) = result_map_both (λ xs. x ∷ xs) (λ e. e) 
 values_or_first_err (Err e ∷ rs) = Err e
 
 module _ {T V : Type 0} (collected : List T → V → Type 0) (is_complete : V → Bool) where
-  -- The items make v; if v is not complete, the first of them do.
+  -- The items make v; if v is not complete, a prefix of the items makes v.
   abbrev pub PrefixMakes : List T → V → Type 0
   PrefixMakes items v = MatchBool (is_complete v) (collected items v)
       ((prefix : List T) × (more : List T) × (items ≡ prefix ++ more) × collected prefix v)
 
-  -- The items end with the `Err`, so it is the first one of each list that begins with them.
+  -- An `Err` is the last item, so it is the first `Err` of each list that begins with the items.
   -- The result is `Ok` of what the values make if each item is `Ok`, and otherwise the first `Err`.
   abbrev pub ResultsMake : {E : Type 0} → List (Result T E) → Result V E → Type 0
   ResultsMake {E} items result = MatchResult result

@@ -1,6 +1,5 @@
--- What is collected was read to the end of its source. Pairs or items that are inserted in turn,
--- one or many, into an earlier map or set make the map or set of all of them. The crates of maps
--- and sets use these lemmas.
+-- Proofs, for the crates of maps and sets, that a collected value is made of all items of its
+-- source, and that inserting pairs or items makes the map or set of the old and the new ones.
 use Rattle.std.proofs.Common.{◌≡◌, ◌<◌, length, arith, is_some, true≢false, Bool, true, false, cond}
 use Rattle.std.proofs.Common.{◌||◌, List, [], ◌∷◌, ◌++◌, reverse, refl, sym, ap, subst, ◌∙◌}
 use Rattle.std.proofs.Common.{append_assoc, append-nil, Option, None, Some}
@@ -21,7 +20,7 @@ use Rattle.ne_iter.specs.SourceLaws.{some_item}
 use Rattle.ne_iter.specs.Sources.{IsNonEmpty, Reads, SameLists}
 use mathlib.Core.Path.{fun_ext}
 
--- what was made from the items that the source's iterator gave to the end
+-- a value collected from all items that an iterator yields is made of the items of its source
 module _ {U S V T A : Type 0} {becomes : U → S → Type 0} {steps : S → Option A → S → Type 0}
     {makes : U → V → Type 0} {becomes' : V → T → Type 0} {steps' : T → Option A → T → Type 0} where
   pub collects : SameLists becomes steps makes becomes' steps' → IsNonEmpty becomes' steps'
@@ -61,7 +60,7 @@ some_member eq [] q h = absurd (true≢false (sym h))
 some_member eq (k ∷ ks) q h = omega arith
 
 module _ {K V : Type 0} {eq : K → K → Bool} (laws : IsEquivalence eq) where
-  -- the value of the last pair is what the inserts leave
+  -- after the inserts, a key has the value of its last pair, or else the value that it had before
   pub update_all-last_value : (f : K → Option V) (ps : List (K × V)) (q : K)
       → update_all eq f ps q ≡ option_or (last_value eq ps q) (f q)
   update_all-last_value f [] q = refl

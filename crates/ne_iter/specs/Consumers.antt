@@ -18,7 +18,7 @@ abbrev pub less_by : {A : Type 0} → (A → A → Ordering) → A → A → Boo
 less_by cmp x y = is_lt (cmp x y)
 
 module _ {A : Type 0} (less : A → A → Bool) where
-  -- It is less than no item, and each item before it is less than it:
+  -- m is less than no item of xs, and each item before m is less than m.
   -- m is the first greatest item of xs.
   abbrev pub IsFirstGreatest : List A → A → Type 0
   IsFirstGreatest xs m = (place : ℕ) × IsFirstBest (λ x y. less y x) xs (length xs) place
@@ -30,13 +30,13 @@ module _ {A : Type 0} (less : A → A → Bool) where
       × (slice_get xs place ≡ Some m)
 
 module _ {A : Type 0} where
-  -- f may be called with any two items that the iterator may give.
+  -- f may be called with any two items that the iterator may yield.
   abbrev pub CallableOnTwo : {S F R : Type 0} → (S → Option A → S → Type 0)
       → Shared F (Bor A × (Bor A × Unit {0})) R → S → F → Type 0
   CallableOnTwo {S} steps calls it f = (xs : List A) (t : S) (x y : Bor A) → Yields steps it xs t
       → Contains xs x.now → Contains xs y.now → calls.pre f (x, (y, tt))
 
-  -- f is called with what `view` makes of `kept`, the item kept so far, and of x, the next one.
+  -- `kept` is the item kept so far, and x the next one. f is called with both, through `view`.
   -- `next`, the item kept of the two, is x if f returns true, and otherwise `kept`.
   abbrev pub KeepsBetter : {V F : Type 0} → (A → V) → Shared F (Bor V × (Bor V × Unit {0})) Bool
       → F → A → A → A → Type 0
@@ -45,8 +45,8 @@ module _ {A : Type 0} where
 
 module _ {A F : Type 0} (calls : Shared F (Bor A × (Bor A × Unit {0})) Ordering) (f : F)
     (view : View A) (xs : List view.Target) where
-  -- x and y are in xs through `view`. `meant` is `is_lt` for `Less` or `is_gt` for `Greater`.
-  -- What f returns for any two items x and y is `meant` if and only if `test` is true of the two.
+  -- `meant` is `is_lt` for `Less` or `is_gt` for `Greater`. xs has x and y, through `view`.
+  -- The result of f for any two items x and y is `meant` if and only if `test` is true of the two.
   abbrev pub ReturnsOnlyWhere : (Ordering → Bool) → (view.Target → view.Target → Bool) → Type 0
   ReturnsOnlyWhere meant test = (x y : A) (r : Ordering) → Contains xs (view.of x)
       → Contains xs (view.of y) → FnReturnsAtPair calls f x y r
@@ -103,14 +103,14 @@ IsBestOfList beats xs m = Contains xs m × All (λ x. beats x m ≡ false) xs
     × HoldsBefore xs m (All (λ x. beats m x ≡ true))
 
 module _ {A K F : Type 0} (calls : Mut F (Bor A × Unit {0}) K) (f : F) (view : View A) (m : A) where
-  -- If f acts as a function h of what `view` makes of an item, the values of h are the keys.
+  -- If f acts as a function h of the items through `view`, the values of h are the keys.
   -- R relates the key of m to the key of each item of xs.
   abbrev pub RelatesKeys : (K → K → Type 0) → List view.Target → Type 0
   RelatesKeys R xs = (h : view.Target → K) → ActsAsAt calls f (λ x. h (view.of x))
       → Naming (map h xs) (All (R (h (view.of m))))
 
-  -- m, through `view`, is in xs. No key of an item beats its key, which beats each key before it:
-  -- m is the first item of xs with the best key.
+  -- m, through `view`, is in xs. No item's key beats the key of m, which beats each key before it.
+  -- m, through `view`, is the first item of xs with the best key.
   abbrev pub HasBestKey : (K → K → Bool) → List view.Target → Type 0
   HasBestKey beats xs = Contains xs (view.of m) × RelatesKeys (λ best k. beats k best ≡ false) xs
       × HoldsBefore xs (view.of m) (RelatesKeys (λ best k. beats best k ≡ true))
@@ -121,8 +121,8 @@ abbrev pub NoKeyBeats : {S A K F : Type 0} {steps : S → Option A → S → Typ
 NoKeyBeats {K = K} p calls f beats m = CallKeepsClosure calls f → (k : K) × CalledAt calls f m k f
     × AllItems p (λ x. (j : K) × CalledAt calls f x j f × (beats j k ≡ false))
 
--- m is one of its items, none of them beats m, and each list that equals its items contains m.
--- For the automatic proof: m is the best item of the run.
+-- The run yields m, no item beats m, and each list that equals the items of the run contains m.
+-- For the automatic proof: m is the best item of the run p.
 abbrev pub IsBestOfRun : {S A : Type 0} {steps : S → Option A → S → Type 0} → Run steps
     → (A → A → Bool) → A → Type 0
 IsBestOfRun {A = A} p beats m = AnyItem p (λ x. x ≡ m) × AllItems p (λ x. beats x m ≡ false)

@@ -15,14 +15,14 @@ abbrev pub IsEnumerated : {U A : Type 0} → (Bool → U → List A → Type 0) 
 IsEnumerated {A = A} reads source whole ys = (xs : List A) × reads whole source xs
     × (ys ≡ enumerate_from 0 xs)
 
--- For an adapter that numbers the items of xs, it spares `grind` the list of pairs.
--- A run of the iterator that v becomes has at most as many items as xs, and as many if it is whole.
+-- `CountsAs` spares `grind` the list of pairs of an adapter that numbers the items of xs.
+-- For the automatic proof: a run from v is at most as long as xs, and as long as xs if it is whole.
 abbrev pub CountsAs : {V T A B : Type 0} → (V → T → Type 0) → (T → Option B → T → Type 0) → V
     → List A → Type 0
 CountsAs {T = T} becomes steps v xs = (it : T) → becomes v it → EachRunFrom steps it (λ p.
     (p.len ≤ length xs) × (p.whole ≡ true → p.len ≡ length xs))
 
--- The items of xs, themselves or through `view`, each with its number.
+-- `enumerate` yields the items of u, themselves or through `view`, each with its number.
 abbrev pub NumbersLists : {U V T A : Type 0} (view : View A)
     → ((view : View A) → U → List view.Target → Type 0) → (V → List (ℕ × A) → Type 0)
     → ((view : View (ℕ × A)) → V → List view.Target → Type 0)

@@ -1,4 +1,4 @@
--- From the items that extended a map or a set to the list that their source gives.
+-- Proofs, for the crates of maps and sets, that `extend` adds the list that its source yields.
 use Rattle.std.proofs.Common.{ap, append-nil, refl, subst, sym, ◌∙◌}
 use Rattle.std.proofs.iter.runs.Made.{run, to_end}
 use Rattle.std.proofs.lemmas.List.{same_lists}

@@ -1,8 +1,8 @@
--- What `extend` of a map or a set says about the list that its source gives.
+-- The clause of `extend` of a map or a set about the list that its source yields.
 use Rattle.std.specs.Prelude.{◌++◌, List}
 use Rattle.ne_vec.specs.Lists.{EachList, Naming}
 
--- The source may be one for which no clause of this crate states its list.
+-- `meets` is for a source whose list is stated by no clause of this crate.
 -- The old items, followed by those that the source yields, make the new value.
 abbrev pub ExtendsByList : {U A : Type 0} → (U → List A → Type 0) → (U → List A → Type 0) → U
     → List A → (List A → Type 0) → Type 0

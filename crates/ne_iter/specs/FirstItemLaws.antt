@@ -1,4 +1,5 @@
--- The iterators over non-empty lists, chunks and runs return an item first.
+-- Proofs, for the implementations, that iterators over non-empty lists, chunks and runs yield an
+-- item first.
 use Rattle.std.proofs.Common.{arith, ap}
 use Rattle.std.specs.Prelude.{◌≡◌, ◌<◌, Bool, List, length}
 use Rattle.std.specs.Borrow.{Bor}

@@ -25,7 +25,7 @@ module _ {U A : Type 0} (reads : Bool → U → List A → Type 0) where
       (calls : Mut F (A × Unit {0}) W) (source : U) (f : F) (whole : Bool) (zs : List B) : Type 0
     where
       pub items : List A
-      -- the sources that f returned, and what each of them gave
+      -- the sources that f returned, and the list that each of them yielded
       pub sources : List W
       pub lists : List (List B)
       pub f_then : F
@@ -40,7 +40,7 @@ abbrev pub ReturnsLists : {A W B F : Type 0} → Mut F (A × Unit {0}) W → F
 ReturnsLists {A} {W} {F = F} calls f lists inner =
     (x : A) (w : W) (g : F) → Called calls f (x, tt) w g → (g ≡ f) × lists w (inner x)
 
--- `becomes` says which list the source yields that a value returned by f becomes.
+-- `becomes w ys` says that w, a value returned by f, becomes a source that yields the list ys.
 -- `flat_map` yields the lists of the sources that f returns, one after another.
 abbrev pub SpreadsLists : {U A W B V F : Type 0} → Mut F (A × Unit {0}) W → F
     → (U → List A → Type 0) → (W → List B → Type 0) → (V → List B → Type 0) → U → V → Type 0

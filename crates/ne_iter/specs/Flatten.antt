@@ -17,7 +17,7 @@ use Rattle.ne_iter.specs.Sources.{HasFirst, IsNonEmpty}
 abbrev pub flatten_source : {I : Type 0} → Flatten I → I
 flatten_source s = s.iter
 
--- Each of the sources us may give its list of yss to the end; the last one only if whole is true.
+-- Each source of us may yield its list of yss to its end; the last one only if `whole` is true.
 abbrev pub ReadsEach : {U A : Type 0} → (Bool → U → List A → Type 0) → Bool → List U → List (List A)
     → Type 0
 ReadsEach reads whole [] [] = ⊤
@@ -27,7 +27,7 @@ ReadsEach reads whole (u ∷ us) (ys ∷ yss) = reads (whole || ltb 0 (length us
     × ReadsEach reads whole us yss
 
 module _ {U A : Type 0} (reads : Bool → U → List A → Type 0) where
-  -- Each item of the source is itself a source, and `inner` is what it reads.
+  -- Each item of the source is itself a source, and `inner` states the lists that it may yield.
   -- zs are the lists of the source's items, one after the other.
   pub record IsFlattened {B : Type 0} (inner : Bool → A → List B → Type 0) (source : U)
       (whole : Bool) (zs : List B) : Type 0 where
@@ -37,7 +37,7 @@ module _ {U A : Type 0} (reads : Bool → U → List A → Type 0) where
     pub read_each : ReadsEach inner whole sources lists
     pub is : zs ≡ concat lists
 
--- `flatten`: the lists of the items, one after another
+-- `flatten` yields the lists of the source's items, one after another
 abbrev pub FlattensLists : {U W B V : Type 0} → (U → List W → Type 0) → (W → List B → Type 0)
     → (V → List B → Type 0) → U → V → Type 0
 FlattensLists {W = W} {B = B} lists becomes gives u v = EachList lists u (λ us.

@@ -15,7 +15,7 @@ group_by_source s = s.iter
 abbrev pub group_by_callee : {I F : Type 0} → NEGroupBy I F → F
 group_by_callee s = s.f
 
--- The runs rs, followed by one of the single item that is held, if there is one.
+-- The runs rs, followed by a run of only the item that is held, if there is one.
 abbrev pub and_held : {A : Type 0} → List (List A) → Option A → List (List A)
 and_held rs None = rs
 and_held rs (Some x) = rs ++ (x ∷ []) ∷ []
@@ -37,7 +37,7 @@ module _ {U A K F : Type 0} (reads : Bool → U → List A → Type 0)
     pub holds : MatchOption held ((ended ≡ true) ⊎ (drawn ≡ [])) (λ _. rs ≢ [])
     pub over : whole ≡ true → (ended ≡ true) × (held ≡ None)
 
-  -- An `Err` may come in place of a run, and then nothing comes after it.
+  -- An `Err` may be yielded in place of a run. Nothing is yielded after the `Err`.
   -- `group_by` yields the runs of the source's items by the keys that f returned, each in `Ok`.
   abbrev pub GroupByGives : {V E : Type 0} → (Bool → V → List (Result (List A) E) → Type 0) → U → F
       → V → Type 0

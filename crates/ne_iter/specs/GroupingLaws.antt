@@ -16,7 +16,7 @@ nil_mapped f (x ∷ xs) e = cc
 
 module _ {S K A F : Type 0} (steps : S → Option A → S → Type 0) (calls : Mut F (Bor A × Unit {0}) K)
     (eq : K → K → Bool) where
-  -- a grouping that has taken nothing
+  -- a grouping that has taken nothing has returned no runs
   pub fresh_grouping : (g : Grouping S K A F) → g.ahead ≡ Unread
       → HasRead steps calls eq g.source g.closure [] g
   fresh_grouping g e = record {

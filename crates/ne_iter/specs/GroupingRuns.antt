@@ -1,4 +1,4 @@
--- What a grouping has taken and returned, at whatever moment it is stopped.
+-- The items that a grouping has taken and the runs that it has returned, at any moment.
 use Rattle.std.specs.Prelude.{◌≡◌, ◌≢◌, ℕ, ◌+◌, Bool, true, List, [], ◌∷◌, ◌++◌, map, Option, Some}
 use Rattle.std.specs.Prelude.{None, Result, Ok, Err, MatchOption, OnErr, IfOk}
 use Rattle.std.specs.Fn.{Mut}
@@ -13,7 +13,7 @@ use Rattle.ne_iter.specs.Calls.{CallsEachAt}
 use Rattle.ne_iter.specs.Keys.{items_of, same_key, IsDividedBy}
 use Rattle.ne_iter.specs.Grouping.{Grouping, Ahead, Unread, Held, Ended}
 
--- It returns `None` from now on.
+-- The grouping g returns `None` from now on.
 abbrev pub IsOver : {S K A F : Type 0} → Grouping S K A F → Type 0
 IsOver g = g.ahead ≡ Ended
 
@@ -43,15 +43,15 @@ module _ {S K A F : Type 0} (steps : S → Option A → S → Type 0) (calls : M
       (h : Grouping S K A F) : Type 0 where
     -- a grouping that is over returns `None` and stays unchanged
     pub over : IsOver g → (r ≡ None) × (h ≡ g)
-    -- it is over after `None`, and after an `Err`
+    -- the grouping is over after `None` and after an `Err`
     pub stops : MatchOption r (IsOver h) (λ x. OnErr x (IsOver h))
-    -- a run comes after all that it returned before, and after `None` there are no more
+    -- a run follows the runs that were returned before, and `None` adds no run
     pub reads : (s : S) (f : F) (rs : List (List A)) → HasRead s f rs g
         → MatchOption r (HasRead s f rs h) (λ x. IfOk x (λ run. HasRead s f (rs ++ run ∷ []) h))
 
-  -- There are three cases: nothing yet, or `None`, or an `Err`, and it was k before. After `None`
-  -- and after an `Err` it returns only `None`.
-  -- This is what a grouping returned after the runs rs, and what it is now.
+  -- The results after rs are none, or begin with `None`, or begin with an `Err`, before which the
+  -- grouping was k. After `None` and after an `Err`, each result is `None`.
+  -- A grouping returned the runs rs, and then results other than runs, and is now h.
   abbrev pub ReturnsThen : S → F → List (List A) → List (Option (Result (List A) AllocError))
       → Grouping S K A F → Type 0
   ReturnsThen s f rs [] h = HasRead s f rs h
@@ -65,20 +65,20 @@ module _ {S K A F : Type 0} (steps : S → Option A → S → Type 0) (calls : M
   pub record ReturnsOn (s : S) (f : F) (done : List (List A))
       (results : List (Option (Result (List A) AllocError))) (h : Grouping S K A F) : Type 0 where
     pub runs : List (List A)
-    -- what it returned after the runs
+    -- the results after the runs
     pub later : List (Option (Result (List A) AllocError))
     pub are_all : results ≡ map (λ run. Some (Ok run)) runs ++ later
     pub ended : ReturnsThen s f (done ++ runs) later h
 
--- Unless it is over, its source can be read and ends, and its closure can be called with each item:
--- the grouping can be read.
+-- Unless g is over, its source can be read and ends, and its closure can be called with each item.
+-- The grouping g can be read.
 abbrev pub CanRead : {S K A F : Type 0} → (S → Type 0) → (S → Count) → (S → F → Type 0)
     → Grouping S K A F → Type 0
 CanRead can left callable g =
     (IsOver g → ⊥) → can g.source × IsFinite (left g.source) × callable g.source g.closure
 
--- There are at most as many runs ahead as items.
--- The items ahead are those that the source has left, and the one that is held.
+-- A grouping has at most as many runs left as items ahead.
+-- The number of items ahead: those that the source has left, and the one that is held.
 abbrev pub items_ahead : {K A : Type 0} → Ahead K A → ℕ → ℕ
 items_ahead Unread left = left
 items_ahead (Held k x) left = left + 1

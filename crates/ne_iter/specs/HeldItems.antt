@@ -1,4 +1,4 @@
--- The state of a grouping, as what is ahead in contracts: the same three cases.
+-- The `State` of a grouping, as the `Ahead` of contracts, which has the same three cases.
 use Rattle.ne_iter.specs.Grouping.{Ahead, Unread, Held, Ended}
 use Rattle.ne_iter.specs.declared.iter.group_by.State.{State}
 use Rattle.ne_iter.specs.declared.iter.group_by.State.TheVariants.{Unread as unread, Held as held}

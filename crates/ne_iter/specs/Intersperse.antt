@@ -17,7 +17,7 @@ use Rattle.ne_iter.specs.Cloned.{TriesClone}
 use Rattle.ne_iter.specs.declared.iter.intersperse.RawIntersperse.{RawIntersperse}
 use Rattle.ne_iter.specs.Sources.{HasFirst}
 
--- the item that an `Intersperse` has taken, the iterator over those after it, and the separator
+-- the item that an `Intersperse` has taken, the iterator over the items after it, the separator
 abbrev pub intersperse_first : {S X : Type 0} → Intersperse S X → X
 intersperse_first s = s.first
 
@@ -43,13 +43,13 @@ Interspersed {A} {E} clones (x ∷ y ∷ xs) zs = (c : Result A E) × (more : Li
 abbrev pub interspersed : {A : Type 0} → A → List A → List A
 interspersed s xs = join_by (λ x. x ∷ []) (s ∷ []) xs
 
--- The lists that f makes of the items xs, and of the s between each two of them, one after the
--- other, are std's `join` of the items. If f gives the bytes of texts, this is the text they make.
+-- f makes a list of each item of xs and of each s between two items. If f gives the bytes of texts,
+-- these lists, one after the other, are the text that std's `join` makes of the items.
 -- For the automatic proof: the lists of the items with separators are std's `join` of the items.
 abbrev pub JoinsLists : {A : Type 0} → A → List A → Type 0
 JoinsLists {A} s xs = (f : A → List ℕ) → flat_map f (interspersed s xs) ≡ join_by f (f s) xs
 
--- If some values, each in `Ok`, equal this list, they are its values.
+-- If `map Ok values` equals `map Ok (interspersed s xs)`, `values` equals `interspersed s xs`.
 -- For the automatic proof: xs with s between each two items, each in `Ok`, has only its values.
 abbrev pub OnlyItsValues : {A : Type 0} → Type 0 → A → List A → Type 0
 OnlyItsValues {A} E s xs = (values : List A)
@@ -64,7 +64,7 @@ drawn_from s = s.iter
 abbrev pub clones_of : {I X : Type 0} → RawIntersperse I X → X
 clones_of s = s.separator
 
--- The item that was taken and comes next, if there is one.
+-- The item that was taken and is returned next, if there is one.
 abbrev pub in_hand : {I X : Type 0} → RawIntersperse I X → Option X
 in_hand s = s.next
 
@@ -72,16 +72,16 @@ in_hand s = s.next
 abbrev pub is_over : {I X : Type 0} → RawIntersperse I X → Bool
 is_over s = s.is_over
 
--- at most the item held, and two for each item that is left
+-- how many items are left at most: the one held, and two for each that the source has left
 abbrev pub interspersed_left : {I X : Type 0} → (I → Count) → RawIntersperse I X → Count
 interspersed_left left s = count_unless (is_over s)
     (count_map (λ n. 2 * n + option_len (in_hand s)) (left (drawn_from s)))
 
 module _ {S A E : Type 0} (steps : S → Option A → S → Type 0) (tries : A → Result A E → Type 0)
   where
-    -- This is for a call when no item is held. If there is no next item, the result is `None`.
-    -- Otherwise the item is then held, or the clone failed.
-    -- The next item is taken, and the result is what cloning the separator returned.
+    -- `DrawsNext` is a call when no item is held. If there is no next item, the result is `None`.
+    -- Otherwise the next item is held after the call, unless the clone failed.
+    -- The next item is taken, and the result is that of cloning the separator.
     abbrev pub DrawsNext : RawIntersperse S A → Option (Result A E) → RawIntersperse S A → Type 0
     DrawsNext s r t = (o : Option A) × steps (drawn_from s) o (drawn_from t)
         × MatchOption o ((r ≡ None) × (in_hand t ≡ None) × (is_over t ≡ false))
@@ -106,9 +106,9 @@ module _ {S A E : Type 0} (steps : S → Option A → S → Type 0) (tries : A �
         (MatchOption (in_hand s) (DrawsNext s r t) (GivesHeld s r t))
 
 -- If clones of the separator s equal it and cannot fail, a whole run yields x and the items of
--- `rest`, with s between each two, each in `Ok`. If what the run yields equals some values, each in
+-- `rest`, with s between each two, each in `Ok`. If the items of the run equal some values, each in
 -- `Ok`, then these values are that list.
--- Each run of `it` has a run of `rest`, whose items come after x.
+-- Each run of `it` has a run of `rest`, whose items are yielded after x.
 abbrev pub IntersperseRuns : {S A : Type 0} → (S → Option A → S → Type 0) → (A → A → Type 0)
     → (A → Type 0) → A → A → S → RawIntersperse S A → Type 0
 IntersperseRuns {S} {A} steps clones infallible s x rest it =
@@ -121,13 +121,13 @@ IntersperseRuns {S} {A} steps clones infallible s x rest it =
     (λ _. values ≡ interspersed s (x ∷ q.items)))))
 
 module _ {U A : Type 0} (reads : Bool → U → List A → Type 0) where
-  -- What came so far is a prefix of that list, and what came to the end is all of it. The source
-  -- has then ended too, unless a clone failed.
-  -- zs are the items, each in `Ok`, with what cloning the separator returned between each two.
+  -- zs are a prefix of the interspersed items, and all of them if `whole` is true. The source has
+  -- then ended too, unless a clone failed.
+  -- zs are the items, each in `Ok`, with a result of cloning the separator between each two.
   pub record IsInterspersed {E : Type 0} (tries : A → Result A E → Type 0) (source : U)
       (separator : A) (whole : Bool) (zs : List (Result A E)) : Type 0 where
     pub items : List A
-    -- what has not come yet
+    -- the results that are not yielded yet
     pub later : List (Result A E)
     pub read : reads (whole && list_all is_ok zs) source items
     pub spaced : Interspersed (tries separator) items (zs ++ later)

@@ -1,4 +1,4 @@
--- What `retain` keeps of the entries of a map, if its closure depends on the entry alone.
+-- Proof, for the crates of maps, of which entries `retain` keeps if its closure is pure.
 use Rattle.std.proofs.Common.{◌≡◌, Bool, true, false, cond, List, [], ◌∷◌, refl, subst, ◌∙◌, map}
 use Rattle.std.specs.List.{filter}
 use Rattle.std.specs.Map.Calls.{RetainsPairs}

@@ -1,5 +1,5 @@
--- Lists of clones are as long as those of their originals, and equal to them if each clone is equal
--- to its original.
+-- Proofs, for the crates of maps and sets, that a list of clones is as long as its original, and
+-- equal to it if each clone equals its original.
 use Rattle.std.proofs.Common.{◌<◌, List, [], ◌∷◌, length, ap₂, subst}
 use Rattle.std.proofs.lemmas.List.Elements.{length_all_zip}
 use Rattle.std.specs.List.{AllZip, each_same}

@@ -26,12 +26,12 @@ module _ {A X : Type 0} (known : List X → Type 0) (shows : A → X) where
       (viewed_prefix (TakesFirst shows) shows (λ s. s) (λ s t x st. st) (λ s t st. st.0) it ys
       given)
 
-  -- an iterator gives the entries that it has left
+  -- an iterator yields the entries that it has left
   pub lists_known : (w es : List X) → w ≡ es → Listed (IteratesKnown known) (TakesFirst shows) shows
       w es
   lists_known w es same = (triggered w es, all_given w es same)
 
-  -- `fact` is what else is known of the map.
+  -- `fact` is a further fact about the map or set.
   -- A map or set and the iterator over it that it becomes yield the same lists.
   pub SameLists-entries : {U : Type 0} (entries : U → List X) (fact : U → Type 0)
       → SameLists (λ u it. IteratesKnown known (entries u) it × fact u) (TakesFirst shows)

@@ -1,15 +1,15 @@
--- What an iterator over a non-empty map or set has left, and what it yields as a source. The value
--- of std's iterators over them is the list of what they have left.
+-- The entries that an iterator over a non-empty map or set has left, and the list that it yields as
+-- a source. The value of std's iterators is the list of the entries that they have left.
 use Rattle.std.specs.Prelude.{◌≡◌, ◌^◌, ◌<◌, ℕ, List, length}
 use Rattle.std.specs.Map.Iter.{GivesInOrder, ShowsInOrder, TakesFirst, deref}
 use Rattle.ne_vec.specs.Lists.{Listed}
 
--- The entries are fewer than 2 ^ k. What calls of `next` return serves the automatic proof.
--- What is known of an iterator whose items, through `view`, are the entries es.
+-- The entries are fewer than 2 ^ k. `ShowsInOrder view` serves the automatic proof.
+-- The facts about an iterator whose items, through `view`, are the entries es.
 abbrev pub KnownByReference : {A X : Type 0} → ℕ → (A → X) → List X → Type 0
 KnownByReference k view es = (length es < 2 ^ k) × ShowsInOrder view
 
--- The same of an iterator by value.
+-- The facts about an iterator by value whose items are the entries es.
 abbrev pub KnownByValue : {X : Type 0} → List X → Type 0
 KnownByValue {X} es = (length es < 2 ^ 63) × GivesInOrder X
 
@@ -29,7 +29,7 @@ IteratesEntriesByValue = IteratesKnown KnownByValue
 abbrev pub ListsEntries : {A X : Type 0} → (A → X) → List X → List X → Type 0
 ListsEntries view w es = Listed (IteratesEntries view) (TakesFirst view) view w es
 
--- A union may be longer than a set.
+-- A union may be longer than a set, so its items are fewer than 2 ^ 64, and not 2 ^ 63.
 -- The iterator w over a union of two sets is a source of references to the items xs.
 abbrev pub ListsUnion : {X : Type 0} → List X → List X → Type 0
 ListsUnion w xs = Listed (IteratesKnown (KnownByReference 64 deref)) (TakesFirst deref) deref w xs

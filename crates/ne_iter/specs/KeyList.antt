@@ -5,7 +5,7 @@ use Rattle.std.specs.Set.{is_member}
 use Rattle.ne_iter.specs.Collected.{IsMapOf}
 
 module _ {K : Type 0} (eq : K → K → Bool) where
-  -- The keys of a list that comes after `before`: those that equal no key before them.
+  -- The keys of a list that follows `before`, without those that equal an earlier key.
   abbrev pub first_seen : List K → List K → List K
   first_seen before [] = []
   first_seen before (x ∷ xs) = cond (is_member eq before x) (first_seen (before ++ x ∷ []) xs)

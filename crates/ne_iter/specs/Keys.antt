@@ -15,7 +15,7 @@ abbrev pub DividesByKey : {A K : Type 0} → (K → K → Bool) → List (A × K
 DividesByKey {A} {K} eq ps rs = (runs : List (List (A × K)))
     × IsDivision (by_first (same_key eq)) ps runs × (rs ≡ map items_of runs)
 
--- Each key is compared with the key of its run's first item. `grind` does not unfold it.
+-- A key is compared with that of its run's first item. `grind` does not unfold `IsDividedBy`.
 -- rs are the runs of xs by the keys that h gives for the items.
 unfoldable pub IsDividedBy : {A K : Type 0} → (A → K) → (K → K → Bool) → List A → List (List A)
     → Type 0

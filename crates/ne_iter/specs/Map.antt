@@ -15,7 +15,7 @@ abbrev pub map_callee : {I F : Type 0} → Map I F → F
 map_callee s = s.f
 
 module _ {U A : Type 0} (reads : Bool → U → List A → Type 0) where
-  -- ys is what f returns, called with the source's items in order.
+  -- ys are the results of f, called with the source's items in order.
   pub record IsMapped {B F : Type 0} (calls : Mut F (A × Unit {0}) B) (source : U) (f : F)
       (whole : Bool) (ys : List B) : Type 0 where
     pub items : List A

@@ -7,7 +7,7 @@ use Rattle.std.specs.declared.iter.Chain.{Chain}
 use Rattle.std.specs.declared.iter.Once.{Once}
 use Rattle.ne_iter.specs.declared.iter.peekable.Peekable.{Peekable}
 
--- the item that was taken, and the iterator over what comes after it
+-- the item that was taken, and the iterator over the items after it
 abbrev pub peekable_first : {I X : Type 0} → Peekable I X → X
 peekable_first s = s.first
 
@@ -36,8 +36,8 @@ abbrev pub PutsFirst : {I A : Type 0} → A → I → Chain (Once A) I → Type 
 PutsFirst x rest it = (once_item (chain_first it) ≡ Some x) × (chain_second it ≡ rest)
     × (chain_first_done it ≡ false) × (chain_second_done it ≡ false)
 
--- For the automatic proof, of a run of a chain of one item and `rest`.
--- If the run is whole, it yields xs, with the one item in place of its first one.
+-- The one item of the chain takes the place of the first item of xs.
+-- For the automatic proof: a whole run of a chain of one item and `rest` yields xs with that item.
 abbrev pub YieldsRest : {I A : Type 0} → (I → Option A → I → Type 0) → I → List A → Type 0
 YieldsRest steps rest xs = (p : Run (chain_steps once_steps steps)) → Trigger p.len
     → chain_second p.from ≡ rest → chain_first_done p.from ≡ false

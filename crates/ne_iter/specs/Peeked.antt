@@ -5,7 +5,7 @@ use Rattle.std.specs.declared.iter.Ahead.{Ahead}
 use Rattle.std.proofs.Common.{rules}
 use Rattle.ne_iter.specs.Sources.{HasFirst}
 
--- an item was peeked
+-- an item was peeked at
 abbrev pub is_item : {X : Type 0} → Option (Option X) → Bool
 is_item None = false
 is_item (Some None) = false

@@ -19,7 +19,7 @@ scan_callee s = s.f
 
 module _ {U A : Type 0} (reads : Bool → U → List A → Type 0) where
   -- The state is init at the first call, and at each later one what the call before left.
-  -- ys is what f returns, called with the source's items in order and a `&mut` to a state.
+  -- ys are the results of f, called with the source's items in order and a `&mut` to a state.
   pub record IsScanned {S B F : Type 0}
       (calls : Mut F (MutBor S × (A × Unit {0})) (B × (MutBor S × Unit {0}))) (source : U)
       (init : S) (f : F) (whole : Bool) (ys : List B) : Type 0 where
@@ -49,7 +49,7 @@ module _ {I S A B F : Type 0} (steps : I → Option A → I → Type 0)
       (λ y. (x : A) × steps (scanned_from s) (Some x) (scanned_from t)
       × CalledWithState calls (callee_of s) (state_of s) x y (callee_of t) (state_of t))
 
-  -- The closure may be called with each item that comes, whatever state its calls before left.
+  -- The closure may be called with each item yielded, whatever state the calls before left.
   abbrev pub CallableInScan : I → F → S → Type 0
   CallableInScan it f s = CallableAtEachTurn {P = F × S} steps
       (λ p x q. (y : B) × CalledWithState calls p.0 p.1 x y q.0 q.1)

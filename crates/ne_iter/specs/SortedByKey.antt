@@ -9,13 +9,13 @@ use Rattle.ne_vec.specs.KeyOrder.{KeysAscend, KeepsTies}
 use Rattle.ne_vec.specs.Lists.{View}
 
 module _ {A K F : Type 0} (calls : Mut F (Bor A × Unit {0}) K) (f : F) where
-  -- It speaks of an f that acts as a function h of what `view` makes of an item.
+  -- `AscendsByKey` is about an f that acts as a function h of the items through `view`.
   -- The keys that f returns for ys ascend.
   abbrev pub AscendsByKey : (K → K → Ordering) → View A → List A → Type 0
   AscendsByKey cmp view ys = (h : view.Target → K) → ActsAsAt calls f (λ x. h (view.of x))
       → KeysAscend h cmp (map view.of ys)
 
-  -- ys, through `view`, are the items of xs, and where their keys tie, they keep their order.
+  -- ys, through `view`, are the items of xs, and items whose keys tie keep their order.
   abbrev pub PermutesByKey : (K → K → Bool) → (view : View A) → List view.Target → List A → Type 0
   PermutesByKey eq view xs ys = IsPermutation xs (map view.of ys)
       × ((h : view.Target → K) → ActsAsAt calls f (λ x. h (view.of x))

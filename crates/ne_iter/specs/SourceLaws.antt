@@ -3,7 +3,7 @@ use Rattle.std.proofs.Common.{arith, subst, sym}
 use Rattle.std.specs.Prelude.{length, ◌<◌, true, List, Option, None, refl, [], ◌∷◌, ◌≡◌}
 use Rattle.ne_iter.specs.Sources.{SameLists, Reads, IsNonEmpty}
 
--- a source that is never empty gives no empty list
+-- a source that is never empty yields no empty list
 pub some_item : {U S A : Type 0} (becomes : U → S → Type 0) (steps : S → Option A → S → Type 0)
     → IsNonEmpty becomes steps → (u : U) (xs : List A) → Reads becomes steps true u xs
     → 0 < length xs
@@ -11,7 +11,7 @@ some_item becomes steps full u [] h = let end = h.given.2 refl in
     absurd (full u h.it h.made end.0 (subst (λ it. steps it None end.0) (sym h.given.1) end.1))
 some_item becomes steps full u (x ∷ xs) h = omega arith
 
--- a value that becomes itself
+-- a source that becomes itself yields the same lists
 pub SameLists-self : {U S A : Type 0} (becomes : U → S → Type 0) (steps : S → Option A → S → Type 0)
     → SameLists becomes steps (λ s r. r ≡ s) becomes steps
 SameLists-self becomes steps u whole xs = (
@@ -19,7 +19,7 @@ SameLists-self becomes steps u whole xs = (
   (λ v e h. subst (λ q. Reads becomes steps whole q xs) e h),
 )
 
--- a value that becomes a source from which the same iterators are made
+-- a source that becomes one with the same iterators yields the same lists
 pub SameLists-through : {U S V A : Type 0} (becomes : U → S → Type 0)
     (steps : S → Option A → S → Type 0) (makes : U → V → Type 0) (becomes' : V → S → Type 0)
     → ((u : U) (it : S) → becomes u it → (v : V) × makes u v × becomes' v it)
@@ -34,7 +34,7 @@ SameLists-through becomes steps makes becomes' there back u whole xs = (
   (λ v e h. record { it = h.it; made = back u v h.it e h.made; given = h.given }),
 )
 
--- a value that becomes a non-empty source gives an item itself
+-- a source that becomes a non-empty source is non-empty itself
 pub IsNonEmpty-into : {U S V T A : Type 0} (becomes : U → S → Type 0)
     (steps : S → Option A → S → Type 0) (makes : U → V → Type 0) (becomes' : V → T → Type 0)
     (steps' : T → Option A → T → Type 0)

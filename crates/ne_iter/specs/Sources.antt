@@ -12,7 +12,7 @@ pub record Reads {U S A : Type 0} (becomes : U → S → Type 0) (steps : S → 
   pub made : becomes u it
   pub given : DrainsIf steps (whole ≡ true) it xs
 
--- P holds for whatever the source may yield, so far or to its end.
+-- P holds for each list that the source may yield, so far or to its end.
 abbrev pub EachReading : {U A : Type 0} → (Bool → U → List A → Type 0) → U
     → (Bool → List A → Type 0) → Type 0
 EachReading {A = A} reads u P = (whole : Bool) (xs : List A) → reads whole u xs → P whole xs
@@ -25,7 +25,7 @@ HasFirst {S = S} steps it = (t : S) → steps it None t → ⊥
 abbrev pub IsNonEmpty : {U S A : Type 0} → (U → S → Type 0) → (S → Option A → S → Type 0) → Type 0
 IsNonEmpty {U} {S} becomes steps = (u : U) (it : S) → becomes u it → HasFirst steps it
 
--- Same lists: such a source, and the source made from it, may read the same lists.
+-- Same lists: a source, and the source that is made from it, may yield the same lists.
 abbrev pub SameLists : {U S V T A : Type 0} → (U → S → Type 0) → (S → Option A → S → Type 0)
     → (U → V → Type 0) → (V → T → Type 0) → (T → Option A → T → Type 0) → Type 0
 SameLists {U} {V = V} {A = A} becomes steps makes becomes' steps' = (u : U) (whole : Bool)
@@ -33,7 +33,7 @@ SameLists {U} {V = V} {A = A} becomes steps makes becomes' steps' = (u : U) (who
     → (Reads becomes steps whole u xs → (v : V) × makes u v × Reads becomes' steps' whole v xs)
     × ((v : V) → makes u v → Reads becomes' steps' whole v xs → Reads becomes steps whole u xs)
 
--- `rest` may be called if that iterator could be, and has fewer items left if that iterator ends.
+-- `rest` may be called if the iterator could be, and has fewer items left if the iterator ends.
 -- The source u becomes an iterator that first yields x, and is then `rest`.
 abbrev pub DrawsFirst : {U S A : Type 0} → (U → S → Type 0) → (S → Option A → S → Type 0)
     → (S → Type 0) → (S → Count) → U → A → S → Type 0
@@ -46,11 +46,11 @@ Becomes {S = S} becomes u P = (it : S) × becomes u it × P it
 
 module _ {U S A : Type 0} (becomes : U → S → Type 0) (steps : S → Option A → S → Type 0)
     (u : U) (P : Run steps → Type 0) where
-  -- P holds for some run of such an iterator.
+  -- P holds for some run of an iterator that the source u becomes.
   abbrev pub RunsSome : Type 0
   RunsSome = Becomes becomes u (λ it. SomeRun steps it P)
 
-  -- P holds for some run that continued to `None`.
+  -- P holds for some run to `None` of an iterator that the source u becomes.
   abbrev pub RunsWhole : Type 0
   RunsWhole = Becomes becomes u (λ it. WholeRun steps it P)
 
@@ -59,13 +59,13 @@ abbrev pub BeginsRuns : {S A : Type 0} → (S → Option A → S → Type 0) →
 BeginsRuns steps x rest it = EachRunFrom steps rest (λ p.
     SomeRun steps it (λ q. (q.whole ≡ p.whole) × (q.len ≡ p.len + 1) × (q.items ≡ x ∷ p.items)))
 
--- What it has yielded so far is a prefix of xs, and at its end all of xs.
+-- The items that u has yielded so far are a prefix of xs, and at its end all of xs.
 -- The source u yields the list xs and no other.
 abbrev pub ReadsList : {U A : Type 0} → (Bool → U → List A → Type 0) → U → List A → Type 0
 ReadsList {A = A} reads u xs = (whole : Bool) (ys : List A) → reads whole u ys
     → IsPrefix whole xs ys
 
--- The source u gives items of which `view` makes the list xs, and no other.
+-- The source u yields, through `view`, the list xs and no other.
 abbrev pub ReadsListThrough : {U A B : Type 0} → (Bool → U → List A → Type 0) → (A → B) → U → List B
     → Type 0
 ReadsListThrough {A = A} reads view u xs =

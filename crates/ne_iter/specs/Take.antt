@@ -13,7 +13,7 @@ take_source s = s.iter
 abbrev pub take_count : {I : Type 0} → Take I → ℕ
 take_count s = non_zero_usize_get s.n
 
--- If xs are fewer than n and no more come, the source has ended.
+-- If xs are fewer than n and `whole` is true, the source has ended.
 -- xs are the first items of the source, at most n.
 abbrev pub IsTaken : {U A : Type 0} → (Bool → U → List A → Type 0) → ℕ → U → Bool → List A → Type 0
 IsTaken reads n source whole xs = reads (whole && ltb (length xs) n) source xs × (length xs ≤ n)

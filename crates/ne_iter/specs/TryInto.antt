@@ -33,13 +33,13 @@ PeeksRuns becomes steps peeked_steps iterator_of source result = MatchOption res
 abbrev pub PeeksEnds : {U V : Type 0} → (U → Type 0) → (V → Type 0) → U → Option V → Type 0
 PeeksEnds runs ends_peeked source result = runs source → IfSome result ends_peeked
 
--- P holds for each list that the source gives, also if no clause states that list
+-- P holds for each list that the source yields, also if no clause states that list
 abbrev pub EachMet : {U A : Type 0} → (U → List A → Type 0) → (U → List A → Type 0) → U
     → (List A → Type 0) → Type 0
 EachMet {A = A} lists meets u P = EachList lists u P
     × ((xs : List A) → Naming (length xs) (λ _. meets u xs → P xs))
 
--- `try_into_nonempty_iter`: `None` if the list is empty, and otherwise a source that gives it
+-- `try_into_nonempty_iter` returns `None` if the list is empty, and else a source that yields it
 abbrev pub PeeksLists : {U V A : Type 0} → (U → List A → Type 0) → (U → List A → Type 0)
     → (V → List A → Type 0) → U → Option V → Type 0
 PeeksLists lists meets gives u result = MatchOption result (EachMet lists meets u (λ xs. xs ≡ []))

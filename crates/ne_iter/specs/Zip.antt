@@ -17,7 +17,7 @@ abbrev pub zip_second : {A B : Type 0} → Zip A B → B
 zip_second s = s.b
 
 module _ {U A : Type 0} (reads : Bool → U → List A → Type 0) where
-  -- ps are pairs of an item of each side. If no more come, one of the sides has ended.
+  -- ps are pairs of an item of each side. If `whole` is true, one of the sides has ended.
   pub record IsZipped {W B : Type 0} (others : Bool → W → List B → Type 0) (source : U) (other : W)
       (whole : Bool) (ps : List (A × B)) : Type 0 where
     pub items : List A
@@ -30,7 +30,7 @@ module _ {U A : Type 0} (reads : Bool → U → List A → Type 0) where
     pub as_many : length items ≡ length other_items
     pub one_ended : whole ≡ true → IsTrue (ended || other_ended)
 
--- The second list is known for the second source itself, or for what it becomes.
+-- The second list is stated for the second source itself, or for the source that it becomes.
 -- `zip` yields the pairs of the items of two lists.
 abbrev pub PairsOf : {U W A B : Type 0} → (U → List A → Type 0) → (W → List B → Type 0)
     → (W → List B → Type 0) → U → W → (List (A × B) → Type 0) → Type 0
@@ -39,7 +39,7 @@ PairsOf {A = A} {B = B} lists others becomes u w gives =
     × ((xs : List A) (ys : List B)
     → Naming (zip xs ys) (λ ps. lists u xs → becomes w ys → gives ps))
 
--- The same for the items of two sources, and through a view of either.
+-- `zip` yields the pairs of the items of two lists, each of them also through a view.
 abbrev pub ZipsLists : {U W V A B : Type 0} (view : View A) (other_view : View B)
     → ((view : View A) → U → List view.Target → Type 0)
     → ((view : View B) → W → List view.Target → Type 0)

@@ -1,4 +1,4 @@
--- The replies to a list of calls on a map, and the map that the calls leave.
+-- For `run_map`: the replies to a list of calls on a map, and the map that the calls leave.
 use Rattle.ne_laws.specs.declared.map_calls.MapReply.TheVariants as reply
 use Rattle.std.specs.Prelude.{◌≡◌, Bool, List, [], ◌∷◌, ◌++◌, length, is_some}
 use Rattle.std.specs.Int.NonZero.{non_zero_usize_get}
@@ -18,7 +18,7 @@ module _ {K V : Type 0} (eq : K → K → Bool) where
   Replies es Len r fs = (n : NonZeroUsize) × (r ≡ reply.Len n)
       × (non_zero_usize_get n ≡ length es) × (fs ≡ es)
 
-  -- The map es has a key, and so has each map that a call leaves.
+  -- The map es and each map that a call leaves have at least one key, and no two equal keys.
   -- The calls have these replies, in order, each on the map that the call before it left.
   abbrev pub RunsTo : List (K × V) → List (MapCall K V) → List (MapReply V) → List (K × V) → Type 0
   RunsTo es [] rs fs = IsMap eq es × (rs ≡ []) × (fs ≡ es)

@@ -1,4 +1,4 @@
--- A map with at least one key, as the list of its entries in some order.
+-- For the trait `NonEmptyMap`: a map with at least one key, as the list of its entries.
 use Rattle.std.specs.Prelude.{◌≡◌, ◌+◌, ◌<◌, Bool, cond, List, length, Some, is_some, MatchOption}
 use Rattle.std.specs.Prelude.{if◌then◌else◌}
 use Rattle.std.specs.List.{IsDistinct}

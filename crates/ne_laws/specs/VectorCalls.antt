@@ -1,4 +1,4 @@
--- The replies to a list of calls on a vector, and the vector that the calls leave.
+-- For `run_vec`: the replies to a list of calls on a vector, and the vector that the calls leave.
 use Rattle.ne_laws.specs.declared.vector_calls.VecReply.TheVariants as reply
 use Rattle.std.specs.Prelude.{◌≡◌, ◌<◌, ◌≤◌, ℕ, List, [], ◌∷◌, ◌++◌, length, take, reverse, insert}
 use Rattle.std.specs.Prelude.{remove, swap_remove, slice_get, None, Some}
@@ -38,7 +38,7 @@ module _ {T : Type 0} where
   Replies v Len r w = (n : NonZeroUsize) × (r ≡ reply.Len n)
       × (non_zero_usize_get n ≡ length v) × (w ≡ v)
 
-  -- The list v has an item, and so has each list that a call leaves.
+  -- The list v and each list that a call leaves have an item.
   -- The calls have these replies, in order, each on the list that the call before it left.
   abbrev pub RunsTo : List T → List (VecCall T) → List (VecReply T) → List T → Type 0
   RunsTo v [] rs w = (0 < length v) × (rs ≡ []) × (w ≡ v)

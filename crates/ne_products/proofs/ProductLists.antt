@@ -1,4 +1,4 @@
--- From the lists that two sources give to the pairs that their product gives.
+-- From the lists that two sources yield to the pairs that their product yields.
 use Rattle.std.proofs.Common.{refl, subst}
 use Rattle.std.specs.Prelude.{◌≡◌, Bool, true, List, Ok, Option, Result, map}
 use Rattle.std.specs.Iterator.{Count, DrainsIf}
@@ -25,7 +25,7 @@ module _ {U S A : Type 0} (becomes : U → S → Type 0) (steps : S → Option A
       let there = (same w whole ys).0 read in
       lists_read there.0 xs (lists there.0 there.1) whole ys there.2
 
--- The iterator yields the list: what is said of it as a source.
+-- The iterator, as a source, yields the list.
 abbrev Yields : {J B : Type 0} → (J → Option B → J → Type 0) → J → List B → Type 0
 Yields next = ReadsList (Reads (λ i j. j ≡ i) next)
 
@@ -51,7 +51,7 @@ Gives reads paired left copies next clones infallible begins certain u x v = Pro
     (ClonesYield begins copies (Yields next) x) clones infallible (CanRefuse begins certain x)
     paired u v
 
--- The list that a product gives.
+-- The list that a product yields.
 pub product_list : {U V X T J A B E : Type 0} {reads : Bool → U → List A → Type 0}
     {made : V → T → Type 0} {steps : T → Option (Result (A × B) E) → T → Type 0}
     {copies : J → J → Type 0} {next : J → Option B → J → Type 0} (left : J → Count)

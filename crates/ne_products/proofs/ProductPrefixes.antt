@@ -1,4 +1,4 @@
--- The pairs that a product gives if no clone fails and each clone equals its original.
+-- The pairs that a product yields if no clone fails and each clone equals its original.
 use Rattle.std.proofs.Common.{arith, ap, sym, subst, append_assoc, inl, inr, ◌∙◌, ◌⊎◌}
 use Rattle.std.proofs.lemmas.Grind.{flat_map-append}
 use Rattle.std.proofs.lemmas.List.Elements.{Contains-append_left, Contains-append_right}

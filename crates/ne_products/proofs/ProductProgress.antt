@@ -23,7 +23,7 @@ fewer : (k n w r q : ℕ) → k + 1 < n → r < w → (k + 1) * w + r + 1 < n * 
 fewer k n w r q less small = let rowed = mul-le-mul_right w less in omega (arith, rowed, small)
 
 module _ {I J A : Type 0} (lefts : I → Count) (rights : J → Count) where
-  -- What is left if the iterator is not over.
+  -- What is left if the iterator is not exhausted.
   abbrev live_left : ProductIter I J A → Count
   live_left s = count_map (λ n. (n + option_len (row_of s)) * row_size rights (restart_of s)
       + size (rights (right_of s)) + 1) (lefts (left_of s))

@@ -43,11 +43,11 @@ module _ {I J A B : Type 0} (E refused : Type 0) (lefts : I → Option A → I �
   abbrev Cloned : List (A × B) → List (Result (A × B) E) → Type 0
   Cloned = ClonedPairs clones infallible refused
 
-  -- The right side gives bs and nothing else.
+  -- The right side yields bs and nothing else.
   abbrev Gives : J → List B → Type 0
   Gives = AlwaysYields rights (λ b. b)
 
-  -- Each further row gives bs.
+  -- Each clone for a further row yields bs, and `refused` holds if a clone can fail.
   abbrev IsReady : List B → Option J → Type 0
   IsReady bs o = MatchOption o refused (λ c. ((certain c → ⊥) → refused)
       × ((d : J) → copies c d → Gives d bs))
@@ -104,7 +104,7 @@ module _ {I J A B : Type 0} (E refused : Type 0) (lefts : I → Option A → I �
         λ w. absurd (never w),
       )
 
-  -- The end, after which nothing comes.
+  -- The end, after which no result follows.
   at_end : (s t : State) → is_over s ≡ false → s ≡ t
       → (whole ≡ true → (u : State) × Next t None u) → (whole && true) ≡ true → Ends s
   at_end s t live e fin w =
@@ -116,7 +116,7 @@ module _ {I J A B : Type 0} (E refused : Type 0) (lefts : I → Option A → I �
   ready_on bs s t same ready =
       subst (IsReady bs) (sym same) ready
 
-  -- The right side has no item, although its first call does not return `None`: nothing comes.
+  -- The right side has no item, although its first call does not return `None`. No result follows.
   none_came : (s : State) (zs : List (Result (A × B) E)) → is_over s ≡ false → row_of s ≡ None
       → Ready [] s → Gives (right_of s) [] → HasFirst rights (right_of s)
       → DrainsIf Next (whole ≡ true) s zs → Came [] (left_of s) [] zs

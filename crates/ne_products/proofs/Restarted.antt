@@ -7,8 +7,8 @@ use Rattle.ne_vec.specs.Lists.{IsPrefix}
 use Rattle.ne_products.specs.Product.{Restarts}
 use Rattle.ne_products.specs.Restarts.{ClonesAgain}
 
--- If the items of an iterator are always the first of ys, and all of ys at its end, then it gives
--- ys call by call.
+-- If the items of an iterator are always a prefix of ys, and all of ys at its end, then the
+-- iterator yields ys call by call.
 module _ {J B : Type 0} (steps : J → Option B → J → Type 0) where
   abbrev Fronts : List B → J → Type 0
   Fronts ys j = (whole : Bool) (zs : List B) → DrainsIf steps (whole ≡ true) j zs

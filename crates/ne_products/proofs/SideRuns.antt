@@ -1,4 +1,4 @@
--- The source that is one of two gives what the source of its side gives.
+-- A source that is one of two sources yields what the source of its side yields.
 use Rattle.either.specs.declared.Either.TheVariants as side
 use Rattle.std.proofs.Common.{refl, subst, sym}
 use Rattle.std.specs.Prelude.{◌≡◌, Bool, true, List, [], ◌∷◌, Option, None}

@@ -1,4 +1,4 @@
--- The parts of a product, and what a call of its iterator does.
+-- The parts of a `Product` and of its `ProductIter`, and what a call of `next` does.
 use Rattle.std.proofs.Common.{◌⊎◌}
 use Rattle.std.specs.Prelude.{◌≡◌, ℕ, ◌+◌, ◌*◌, ◌≤◌, Bool, true, false, ⊤, Option, None, Some}
 use Rattle.std.specs.Prelude.{MatchOption, Result, MatchResult}
@@ -23,7 +23,7 @@ left_of s = s.left
 abbrev pub right_of : {I J X : Type 0} → ProductIter I J X → J
 right_of s = s.right
 
--- The item of this row.
+-- The item of the left side that this row pairs, if it is held.
 abbrev pub row_of : {I J X : Type 0} → ProductIter I J X → Option X
 row_of s = s.row
 
@@ -31,17 +31,17 @@ row_of s = s.row
 abbrev pub restart_of : {I J X : Type 0} → ProductIter I J X → Option J
 restart_of s = s.restart
 
--- Whether nothing more comes.
+-- Whether a `ProductIter` is exhausted.
 abbrev pub is_over : {I J X : Type 0} → ProductIter I J X → Bool
 is_over s = s.is_over
 
--- A clone of c can be called, and it gives no more items than c.
+-- Each clone of c can be called, and yields no more items than c.
 abbrev pub Restarts : {J : Type 0} → (J → Type 0) → (J → Count) → (J → J → Type 0) → J → Type 0
 Restarts {J} can left clones c = IsFinite (left c)
     × ((d : J) → clones c d → can d × IsFinite (left d) × (size (left d) ≤ size (left c)))
 
--- Unless it is over, both sides can be called, the right side ends, and so does each clone of it:
--- a `ProductIter` can be called.
+-- Unless s is exhausted, both sides can be called, and the right side and each clone of it end.
+-- The `ProductIter` s can be called.
 abbrev pub CanPair : {I J X : Type 0} → (I → Type 0) → (J → Type 0) → (J → Count)
     → (J → J → Type 0) → ProductIter I J X → Type 0
 CanPair can_left can_right left clones s = is_over s ≡ false
@@ -53,14 +53,14 @@ abbrev pub row_size : {J : Type 0} → (J → Count) → Option J → ℕ
 row_size left None = 0
 row_size left (Some c) = size (left c)
 
--- The rest of this row, a whole row for each item that the left side has left, and an `Err`:
--- how many results a `ProductIter` has left, at most.
+-- `pairs_left` counts the rest of this row, a row for each item that is left, and an `Err`.
+-- How many results a `ProductIter` has left, at most.
 abbrev pub pairs_left : {I J X : Type 0} → (I → Count) → (J → Count) → ProductIter I J X → Count
 pairs_left lefts rights s = count_unless (is_over s)
     (count_map (λ n. (n + option_len (row_of s)) * row_size rights (restart_of s)
     + size (rights (right_of s)) + 1) (lefts (left_of s)))
 
--- The clone of the right side is there, or it failed.
+-- `restart_of` the `ProductIter` is a clone of the right side, or `None` if that clone failed.
 -- A `Product` becomes a `ProductIter` that is at the start of both sides.
 abbrev pub MakesProduct : {U V I J X : Type 0} → (U → I → Type 0) → (V → J → Type 0)
     → (J → J → Type 0) → (J → Type 0) → Product U V → ProductIter I J X → Type 0
@@ -72,33 +72,33 @@ MakesProduct lefts rights clones infallible s it = lefts (product_first s) (left
 module _ {I J A B : Type 0} (lefts : I → Option A → I → Type 0)
     (rights : J → Option B → J → Type 0) (clones : A → A → Type 0) (infallible : A → Type 0)
     (copies : J → J → Type 0) (certain : J → Type 0) where
-  -- Either x was already held, or it is drawn now.
-  -- x is the item of this row, and l is the left side then.
+  -- Either s already holds x, or x is drawn from the left side now.
+  -- x is the item of this row, and l is the left side after x was drawn.
   abbrev pub RowItem : ProductIter I J A → A → I → Type 0
   RowItem s x l = ((row_of s ≡ Some x) × (l ≡ left_of s))
       ⊎ ((row_of s ≡ None) × lefts (left_of s) (Some x) l)
 
-  -- P holds for the right side as it was at the start.
+  -- P holds for `restart_of` s, which is the right side as it was at the start.
   -- The right side has ended after the last pair of this row.
   abbrev pub RowEnds : ProductIter I J A → I → (J → Type 0) → Type 0
   RowEnds s l P = (w : A) × (j : J) × (c : J) × RowItem s w l × rights (right_of s) None j
       × (restart_of s ≡ Some c) × P c
 
-  -- Either x is the item of this row and y is the next one of the right side, or x is the next item
-  -- of the left side and y is the first item of a clone of the right side as it was at the start.
-  -- The next pair is that of x and y, and the two sides are then l and r.
+  -- In this row, x is the row's item, and y is the next item of the right side. In a further row, x
+  -- is the next item of the left side, and y is the first item of a clone of the right side.
+  -- The next pair is that of x and y, and the two sides are l and r after it.
   abbrev pub IsNextPair : ProductIter I J A → A → B → I → J → Type 0
   IsNextPair s x y l r = (RowItem s x l × rights (right_of s) (Some y) r)
       ⊎ ((k : I) × (d : J) × RowEnds s k (λ c. copies c d) × lefts k (Some x) l
       × rights d (Some y) r)
 
-  -- A pair is given: a clone of the first part of the next pair, and its second part.
+  -- The call yields p: a clone of the first part of the next pair, and that pair's second part.
   abbrev pub GivesPair : ProductIter I J A → A × B → ProductIter I J A → Type 0
   GivesPair s p t = (x : A) × (row_of t ≡ Some x) × clones x p.0 × (is_over t ≡ false)
       × (restart_of t ≡ restart_of s) × IsNextPair s x p.1 (left_of t) (right_of t)
 
-  -- The left side has ended, before a row or after one, or the right side began again with no item:
-  -- the product has ended.
+  -- The left side has ended, before a row or after one, or the right side began again with no item.
+  -- The product has ended.
   abbrev pub EndsPairs : ProductIter I J A → Type 0
   EndsPairs s = ((u : I) × (row_of s ≡ None) × lefts (left_of s) None u)
       ⊎ (((w : A) × (l : I) × (j : J) × (u : I) × RowItem s w l × rights (right_of s) None j
@@ -106,22 +106,22 @@ module _ {I J A B : Type 0} (lefts : I → Option A → I → Type 0)
       ⊎ ((l : I) × (d : J) × (x : A) × (u : I) × (k : J) × RowEnds s l (λ c. copies c d)
       × lefts l (Some x) u × rights d None k))
 
-  -- It is the clone of the right side that was made beforehand, or a clone of the first part of the
-  -- next pair, or a clone of the right side, as it was at the start, for a further row.
+  -- The failed clone is that of the right side made beforehand, that of the first part of the next
+  -- pair, or that of the right side, as it was at the start, for a further row.
   -- A clone that the next pair needs failed.
   abbrev pub RefusesClone : ProductIter I J A → Type 0
   RefusesClone s = (restart_of s ≡ None)
       ⊎ (((x : A) × (y : B) × (l : I) × (r : J) × IsNextPair s x y l r × (infallible x → ⊥))
       ⊎ ((l : I) × (x : A) × (u : I) × RowEnds s l (λ c. certain c → ⊥) × lefts l (Some x) u))
 
-  -- One call of `next`. After the end, and after an `Err`, it returns `None` and draws nothing.
+  -- One call of `next`. After the end or an `Err`, the call returns `None` and draws nothing.
   abbrev pub PairsNext : {E : Type 0} → ProductIter I J A → Option (Result (A × B) E)
       → ProductIter I J A → Type 0
   PairsNext s r t = MatchBool (is_over s) ((r ≡ None) × (t ≡ s))
       (MatchOption r (EndsPairs s × (is_over t ≡ true)) (λ z. MatchResult z (λ p. GivesPair s p t)
       (λ _. RefusesClone s × (is_over t ≡ true))))
 
--- x is kept for the pairs to come, unless the clone failed.
+-- If the clone succeeds, t holds x as the row's item. If the clone fails, t is s.
 -- A clone of the item x of the row is paired with y, or the clone failed.
 abbrev pub PairsItems : {I J A B E : Type 0} → (A → A → Type 0) → (A → Type 0) → ProductIter I J A
     → A → B → Result (A × B) E → ProductIter I J A → Type 0

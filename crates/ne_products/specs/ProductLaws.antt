@@ -1,4 +1,5 @@
--- If neither side has been drawn from and both have an item, their product gives an item.
+-- The law that the implementation for `Product` uses: if both sides have an item and neither has
+-- been drawn from, the first call returns an item.
 use Rattle.std.proofs.Common.{inl, inr}
 use Rattle.std.proofs.lemmas.Bool.{MatchBool-at_false}
 use Rattle.std.specs.Prelude.{◌≡◌, false, Option, None}

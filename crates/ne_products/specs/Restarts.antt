@@ -1,4 +1,5 @@
--- What a source needs so that a product can iterate over it once for each row.
+-- For `cartesian_product`: what is required of its second source, which is iterated over once for
+-- each row, and the pairs that are then yielded.
 use Rattle.std.specs.Prelude.{◌≡◌, ◌≤◌, Bool, Contains, List, Option, Result, Ok, map}
 use Rattle.std.specs.Iterator.{Count, size}
 use Rattle.std.specs.declared.alloc.AllocError.{AllocError}
@@ -6,8 +7,8 @@ use Rattle.ne_vec.specs.Lists.{Listed, EachList, Naming}
 use Rattle.ne_iter.specs.Collected.{values_or_first_err}
 use Rattle.ne_products.specs.Pairs.{cartesian_product, IsProduct}
 
--- A clone of an iterator that u becomes is one that u can become too, and has no more items left.
--- So a cloned iterator of the source u yields what its original yields.
+-- Each clone of an iterator that u becomes is one that u becomes too, with no more items left.
+-- A cloned iterator of the source u yields what its original yields.
 abbrev pub ClonesAgain : {U J : Type 0} → (U → J → Type 0) → (J → Count) → (J → J → Type 0) → U
     → Type 0
 ClonesAgain {J = J} becomes left copies u = (j c : J) → becomes u j → copies j c
@@ -28,7 +29,7 @@ abbrev pub ClonesYield : {U J B : Type 0} → (U → J → Type 0) → (J → J 
 ClonesYield {J = J} becomes copies yields u ys =
     (j c : J) → becomes u j → copies j c → yields j ys → yields c ys
 
--- j is an iterator that the other side became, ys the list that it and its clones yield.
+-- The other side becomes an iterator j, and ys is the list that j and its clones yield.
 -- `cartesian_product` yields the pairs of the source's items and the items ys.
 abbrev pub ProductGives : {U J V A B E : Type 0} → (Bool → U → List A → Type 0) → Type 0
     → (J → Type 0) → (J → List B → Type 0) → (List B → Type 0) → (A → A → Type 0)
@@ -48,8 +49,8 @@ PairsListed {A = A} {B = B} made next exact v xs ys = exact xs
     ≡ Ok (cartesian_product xs ys))
     × Listed made next (λ x. x) v (map Ok (cartesian_product xs ys))
 
--- The second source may be one that no call mentions.
--- This is the product of the lists that two sources yield.
+-- The second source w may be one that no call mentions.
+-- For the automatic proof: `gives` holds for the lists xs and ys that two sources yield.
 abbrev pub PairsLists : {U W A B : Type 0} → (U → List A → Type 0) → (W → List B → Type 0)
     → (W → List B → Type 0) → (List A → List B → Type 0) → U → W → Type 0
 PairsLists {A = A} {B = B} lists others meets gives u w =

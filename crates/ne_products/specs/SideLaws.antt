@@ -1,4 +1,4 @@
--- A source that is one of two non-empty sources is not empty.
+-- The law that the implementation for `NEEither` uses: one of two non-empty sources is not empty.
 use Rattle.either.specs.declared.Either.TheVariants as side
 use Rattle.std.specs.Prelude.{Option}
 use Rattle.either.specs.Iterator.{either_steps}

@@ -1,4 +1,4 @@
--- A value of one of two types, and a source that is one of two sources.
+-- The two cases of an `NEEither`, as a value of one of two types and as one of two sources.
 use Rattle.either.specs.declared.Either.TheVariants as side
 use Rattle.std.specs.Prelude.{List}
 use Rattle.ne_vec.specs.Lists.{Naming}
@@ -12,7 +12,7 @@ abbrev pub by_side : {U V X : Type 0} → (U → X) → (V → X) → NEEither U
 by_side f g (Left u) = f u
 by_side f g (Right v) = g v
 
--- If f and g name the lists that the two sides give, then the list of the side of e is given.
+-- For the automatic proof: if f and g name the lists of the two sides, `gives` holds for e's list.
 abbrev pub SideLists : {U V A : Type 0} → (U → List A → Type 0) → (V → List A → Type 0)
     → (List A → Type 0) → NEEither U V → Type 0
 SideLists {U} {V} {A} lefts rights gives e = (f : U → List A) (g : V → List A)
@@ -25,14 +25,14 @@ MatchSide (Left u) P Q = P u
 MatchSide (Right v) P Q = Q v
 
 module _ {U V S T : Type 0} (left : U → S → Type 0) (right : V → T → Type 0) where
-  -- The source that is there becomes the iterator of the same side.
+  -- The source in the `NEEither` becomes the iterator of the same side.
   abbrev pub BecomesSide : NEEither U V → Either S T → Type 0
   BecomesSide (Left u) (side.Left s) = left u s
   BecomesSide (Right v) (side.Right t) = right v t
   BecomesSide (Left u) (side.Right t) = ⊥
   BecomesSide (Right v) (side.Left s) = ⊥
 
-  -- The value that is there makes the source of the same side.
+  -- The value in the first `NEEither` makes the source in the second, on the same side.
   abbrev pub MakesSide : NEEither U V → NEEither S T → Type 0
   MakesSide (Left u) (Left s) = left u s
   MakesSide (Right v) (Right t) = right v t

@@ -6,7 +6,7 @@ use Rattle.std.proofs.lemmas.List.Sums.{fails_before_first}
 use Rattle.std.proofs.lemmas.Bool.Decides.{nat_tests}
 use Rattle.ne_runs.specs.Lines.{lines_of}
 
--- The first line is what comes before the first line feed.
+-- The first line is the text before the first line feed.
 pub lines_of-at_feed : (end : ℕ) (text : List ℕ) → end < length text
     → ((k : ℕ) → k < end → eqb (get_or text k 0) 10 ≡ false) → eqb (get_or text end 0) 10 ≡ true
     → lines_of text ≡ take end text ∷ lines_of (drop (suc end) text)

@@ -59,7 +59,7 @@ only_lines text lines are =
           (sym (lines_of-open open_end.prefix open_end.last free open_end.not_empty))
     ]
 
--- A line feed in front adds an empty line.
+-- A line feed before a text adds an empty line.
 with_feed : (text : List ℕ) (lines : List (List ℕ)) → AreLines text lines
     → AreLines (10 ∷ text) ([] ∷ lines)
 with_feed text lines are = record {
@@ -88,7 +88,7 @@ alone byte text are =
       | inr open_end ↦ absurd (no_last open_end.prefix open_end.last open_end.parts)
     ]
 
--- A byte in front of lines of which the last is open.
+-- A byte before a text in which the last line is open.
 onto_open : (byte : ℕ) (prefix : List (List ℕ)) (last line : List ℕ) (lines : List (List ℕ))
     (text : List ℕ) → line ∷ lines ≡ prefix ++ last ∷ [] → last ≢ []
     → text ≡ flat_map ended prefix ++ last → EndsOpen (byte ∷ text) ((byte ∷ line) ∷ lines)
@@ -107,7 +107,7 @@ onto_open byte (first ∷ prefix) last line lines text parts some joined = recor
   joined = ap (λ t. byte ∷ t) joined;
 }
 
--- Any other byte in front is added to the first line.
+-- Any other byte before a text is added to the first line.
 with_byte : (byte : ℕ) → byte ≢ 10 → (text : List ℕ) (lines : List (List ℕ)) → AreLines text lines
     → AreLines (byte ∷ text) (onto_first byte lines)
 with_byte byte other text [] are = record {

@@ -18,8 +18,8 @@ join-cons : (first : ℕ) (rest : List ℕ) → join_with_byte 32 (map decimal (
 join-cons first [] = sym (append-nil (decimal first))
 join-cons first (next ∷ rest) = ap (λ t. decimal first ++ (32 ∷ t)) (join-cons next rest)
 
--- A line feed ends the row that was written. `begun` is the text with the row's first number, and
--- `written` is the text with all of its numbers.
+-- `begun` is the text with the row's first number, and `written` the text with all of its numbers.
+-- A line feed ends the row that was written.
 pub row_written : {E : Type 0} (r : Result (Unit {0}) E) (old begun written new : List ℕ)
     (first : ℕ) (rest : List ℕ) → begun ≡ old ++ decimal first
     → written ≡ begun ++ flat_map behind rest → new ≡ cond (is_ok r) (written ++ 10 ∷ []) written
@@ -28,8 +28,7 @@ row_written (Ok done) old begun written new first rest begins whole ends =
     rw (ends, whole, begins, join-cons first rest) (simp append_assoc)
 row_written (Err error) old begun written new first rest begins whole ends = tt
 
--- A line feed ends the row if the numbers from index i on are still to be written, and there are
--- none.
+-- A line feed ends the row if no number from the index i on is left to write.
 pub row_ended : {E : Type 0} (r : Result (Unit {0}) E) (old begun written new : List ℕ) (first : ℕ)
     (rest : List ℕ) (i : ℕ) → begun ≡ old ++ decimal first
     → written ++ flat_map behind (drop i rest) ≡ begun ++ flat_map behind rest → length rest ≤ i
@@ -42,7 +41,7 @@ row_ended r old begun written new first rest i begins goes_on all ends =
     ∙ ap (λ t. written ++ t) (sym none_left) ∙ goes_on in
     row_written r old begun written new first rest begins whole ends
 
--- What an iterator gave, if it has nothing left, is all that it had.
+-- An iterator that has no item left has yielded all items that it had.
 pub walked : (s t : List ℕ) (xs : List (Bor ℕ)) → Yields (TakesFirst deref) s xs t → t ≡ []
     → flat_map (λ n. behind n.now) xs ≡ flat_map behind s
 walked s t [] gave none = sym (ap (flat_map behind) (gave ∙ none))

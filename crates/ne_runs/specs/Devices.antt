@@ -1,4 +1,4 @@
--- What a reader or a writer of std that a run uses is in contracts.
+-- The state of a reader or a writer of std that a run uses, in contracts.
 use Rattle.std.specs.Prelude.{Bool}
 
 -- A reader or a writer, whether a call on it has failed, and whether all that it took was flushed.

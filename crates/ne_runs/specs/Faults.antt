@@ -32,16 +32,16 @@ fault_status Memory = 4
 abbrev pub most_bytes : ℕ
 most_bytes = 1048576
 
--- The first bad line, counted from 1.
+-- The fault of the first bad line, counted from 1, if there is one.
 abbrev pub bad_line : List (List ℕ) → Option Fault
 bad_line lines = option_map (λ place. BadLine (place + 1)) (position is_bad lines)
 
--- What is wrong with lines: there are none, or one is bad.
+-- The fault of lines, if there are none or one is bad.
 abbrev pub fault_of_lines : List (List ℕ) → Option Fault
 fault_of_lines [] = Some Empty
 fault_of_lines (line ∷ lines) = bad_line (line ∷ lines)
 
--- What is wrong with an input: if it is too long, that; otherwise what is wrong with its lines.
+-- The fault of an input: `TooLong` if it is too long, and otherwise the fault of its lines.
 abbrev pub fault_of : List ℕ → Option Fault
 fault_of input = if nat_lt most_bytes (length input) then Some TooLong else fault_of_lines
     (lines_of input)

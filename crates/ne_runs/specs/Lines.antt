@@ -33,7 +33,7 @@ lines_of (byte ∷ text) = if byte == 10 then [] ∷ lines_of text else onto_fir
 abbrev pub is_number : List ℕ → Bool
 is_number line = nat_le 1 (length line) && nat_le (length line) 9 && all_ascii_digits line
 
--- Any other line.
+-- Any line that is not good: a bad line.
 abbrev pub is_bad : List ℕ → Bool
 is_bad line = not (is_number line)
 

@@ -41,11 +41,11 @@ abbrev pub ends_of : List ℕ → List ℕ
 ends_of numbers = length numbers ∷ slice_index numbers 0 ∷ slice_index numbers (length numbers - 1)
     ∷ []
 
--- One of the numbers, which is at most each of them.
+-- `least` is one of the numbers, and at most each of them.
 abbrev pub IsLeast : List ℕ → ℕ → Type 0
 IsLeast numbers least = Contains numbers least × All (λ n. least ≤ n) numbers
 
--- One of the numbers, which is at least each of them.
+-- `greatest` is one of the numbers, and at least each of them.
 abbrev pub IsGreatest : List ℕ → ℕ → Type 0
 IsGreatest numbers greatest = Contains numbers greatest × All (λ n. n ≤ greatest) numbers
 

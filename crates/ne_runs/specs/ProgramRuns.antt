@@ -1,6 +1,5 @@
--- What a run reads, returns and writes. Before the run, `left` is what the reader has left and
--- `taken` is what the writer has taken; `left'` and `taken'` are the same after the run. `None`
--- says nothing about the bytes.
+-- What a run reads, returns and writes. The reader has `left` left before the run and `left'` after
+-- it, and the writer has taken `taken` and `taken'`. `None` says nothing about the bytes.
 use Rattle.std.specs.Prelude.{◌≡◌, ℕ, ◌+◌, ◌⊎◌, List, [], ◌++◌, length, Option, None, Some, Result}
 use Rattle.std.specs.Prelude.{MatchResult}
 use Rattle.std.specs.Io.KnownBytes.{Appends, Consumes, IsAtEnd}
@@ -11,7 +10,7 @@ use Rattle.ne_runs.specs.declared.mode.Mode.{Mode}
 use Rattle.ne_runs.specs.declared.fault.Fault.{Fault}
 use Rattle.ne_runs.specs.declared.fault.Fault.TheVariants.{Write}
 
--- The writer took a first part of this text and nothing more. The rest of the text is `rest`.
+-- The writer took a prefix of the text and nothing more. The rest of the text is `rest`.
 pub record TakesPart (text rest : List ℕ) (taken taken' : Option (List ℕ)) : Type 0 where
   pub part : List ℕ
   pub joined : text ≡ part ++ rest
@@ -24,10 +23,10 @@ pub record WritesBut (rest : List ℕ) (mode : Mode) (input : List ℕ)
   pub is_text : IsText mode (numbers_of input) text
   pub takes : TakesPart text rest taken taken'
 
--- Either nothing is wrong with the input and the whole text was written, or the fault is what is
--- wrong with the input, or nothing is wrong with it, and a write or the flush failed when some rest
--- of the text, perhaps none, was left.
--- This is how a run ends that has read this input.
+-- If the result is `Ok`, the input has no fault and the whole text was written. An `Err` has the
+-- fault of the input. If there is none, the error is `Write`: a write or the flush failed, and a
+-- rest of the text, perhaps empty, was left.
+-- The result of a run that has read this input, and what the writer took.
 abbrev pub EndsWith : Mode → List ℕ → Option (List ℕ) → Option (List ℕ) → Result (Unit {0}) Fault
     → Type 0
 EndsWith mode input taken taken' result =
@@ -37,8 +36,8 @@ EndsWith mode input taken taken' result =
     ⊎ ((fault_of input ≡ None) × (fault ≡ Write)
     × ((rest : List ℕ) × WritesBut rest mode input taken taken')))
 
--- It reads the whole input, or one byte more than it accepts, and ends as that input requires.
--- This is a run in which no read and no allocation fails.
+-- The run reads the whole input, or one byte more than it accepts, and ends as `EndsWith` says.
+-- A run in which no read and no allocation fails.
 pub record Completes (mode : Mode) (left left' taken taken' : Option (List ℕ))
     (result : Result (Unit {0}) Fault) : Type 0 where
   pub input : List ℕ

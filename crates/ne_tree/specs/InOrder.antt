@@ -1,5 +1,5 @@
--- What is known of an iterator by value over a tree map or a tree set, besides what is known of
--- those over other maps and sets: that the keys ascend.
+-- What an iterator by value over an `NEBTreeMap` or `NEBTreeSet` yields: what such an iterator over
+-- any map or set yields, with keys that ascend.
 use Rattle.std.specs.Prelude.{List}
 use Rattle.std.specs.List.Sorted.{IsStrictlySortedBy}
 use Rattle.std.specs.Map.{keys_of}

@@ -1,5 +1,5 @@
--- The iterator over mutable references to the values of a tree map returns one first, if it has
--- one.
+-- The law that the implementation for `ValuesMut` of tree maps uses: if a value is left, the first
+-- call returns an item.
 use Rattle.std.proofs.Common.{arith, ◌<◌, length}
 use Rattle.std.specs.BTreeMap.IterMut.{values_mut_rest, values_mut_steps}
 use Rattle.std_collections.specs.declared.btree_map.iter.lent.ValuesMut.{ValuesMut}

@@ -1,4 +1,5 @@
--- What a tree map is once the mutable references to its values have ended.
+-- What an `NEBTreeMap` holds after a mutable borrow of its values ends, for `iter_mut`,
+-- `values_mut`, `get_mut` and the functions that these call.
 use Rattle.std.specs.contracts.alloc.Global as global
 use Rattle.std.specs.Prelude.{◌≡◌, Option}
 use Rattle.std.specs.Borrow.{Fml, RattleType, MutBor, LendsSo, follows}
@@ -12,11 +13,11 @@ use Rattle.ne_tree.specs.declared.btree_map.iter.IterMut.{IterMut}
 use Rattle.ne_tree.specs.declared.btree_map.iter.ValuesMut.{ValuesMut}
 use Rattle.ne_tree.specs.contracts.btree_map.NEBTreeMap.{the_row}
 
--- The iterator that a non-empty iterator over mutable references holds and is turned into.
+-- The std iterator that an `IterMut` holds and becomes.
 abbrev pub std_iterator : {K V : Type 0} → IterMut K V → StdIterMut K V
 std_iterator w = w.inner
 
--- The same of an iterator over mutable references to the values alone.
+-- The std iterator that a `ValuesMut` holds and becomes.
 abbrev pub std_values_iterator : {K V : Type 0} → ValuesMut K V → StdValuesMut K V
 std_values_iterator w = w.inner
 
@@ -30,30 +31,30 @@ module _ (K V : RattleType) (key : OrdMembers K.Denot) where
   abbrev pub inner_row : RattleType
   inner_row = row_of K V global.the_row key ghosts
 
-  -- The map keeps its keys, and its values are those that the iterator leaves.
+  -- After the borrow, m has its old keys, and each value is as the references of `it` left it.
   abbrev pub LendsValues : MutBor (BTreeMap K.Denot V.Denot) → StdIterMut K.Denot V.Denot → Fml
   LendsValues m it = follows map_row map_row m.ghost_name (iter_mut_name it)
       (λ n. with_values m.now 0 (values n))
 
-  -- The inner map keeps its keys, and its values are those that the iterator leaves.
+  -- After the borrow, the inner map m has its old keys, and each value is as `it` left it.
   abbrev pub LendsValuesInside : MutBor (BTreeMap K.Denot V.Denot) → StdIterMut K.Denot V.Denot
       → Fml
   LendsValuesInside m it = follows inner_row inner_row m.ghost_name (iter_mut_name it)
       (λ n. with_values m.now 0 (values n))
 
-  -- The map keeps its keys, and its values are those that the iterator over values leaves.
+  -- After the borrow by `values_mut`, m has its old keys, and each value is as `it` left it.
   abbrev pub LendsValuesAlone : MutBor (BTreeMap K.Denot V.Denot) → StdValuesMut K.Denot V.Denot
       → Fml
   LendsValuesAlone m it = follows map_row map_row m.ghost_name (values_mut_name it)
       (λ n. with_values m.now 0 (values n))
 
-  -- The inner map keeps its keys, and its values are those that the iterator over values leaves.
+  -- After the borrow by `values_mut`, the inner map m has its old keys, each value as `it` left it.
   abbrev pub LendsValuesAloneInside : MutBor (BTreeMap K.Denot V.Denot)
       → StdValuesMut K.Denot V.Denot → Fml
   LendsValuesAloneInside m it = follows inner_row inner_row m.ghost_name (values_mut_name it)
       (λ n. with_values m.now 0 (values n))
 
-  -- The key k has the value that was last written through r. If r is `None`, the map is unchanged.
+  -- After the borrow, m has at k the value last written through r. If r is `None`, m is unchanged.
   abbrev pub LendsValue : MutBor (BTreeMap K.Denot V.Denot) → K.Denot → Option (MutBor V.Denot)
       → Fml
   LendsValue m k r = LendsSo map_row V m r (λ n w. WritesThrough key.cmp (key.cmp k) m.now w n)

@@ -247,8 +247,8 @@ impl<K: Ord, V> NEBTreeMap<K, V> {
     /// Returns whether the map holds a key equal to `k`.
     ///
     /// ```
-    /// let map = nebtm![alloc; 2 => 24, 4 => 26, 6 => 23, 8 => 25]?;
-    /// let (there, absent) = (map.contains_key(&2), map.contains_key(&10)); // true and false
+    /// let map = nebtm![alloc; 2 => 24, 4 => 26]?;
+    /// let (there, absent) = (map.contains_key(&2), map.contains_key(&8)); // true and false
     /// ```
     pub fn contains_key(&self, k: &K) -> bool
         ensures { result ≡ is_some (get K.cmp self.now k.now) }
@@ -287,9 +287,9 @@ impl<K: Ord, V> NEBTreeMap<K, V> {
     /// such key. The keys and the other values do not change.
     ///
     /// ```
-    /// let mut map = nebtm![alloc; 2 => 24, 4 => 26, 6 => 23, 8 => 25]?;
+    /// let mut map = nebtm![alloc; 2 => 24, 4 => 26]?;
     /// if let Some(value) = map.get_mut(&4) {
-    ///     *value = 27; // {2: 24, 4: 27, 6: 23, 8: 25}
+    ///     *value = 27; // {2: 24, 4: 27}
     /// }
     /// ```
     pub fn get_mut(&mut self, k: &K) -> Option<&mut V>
@@ -370,7 +370,7 @@ impl<K: Ord, V> NEBTreeMap<K, V> {
     /// order.
     ///
     /// ```
-    /// let map = nebtm![alloc; 2 => 24, 4 => 26, 6 => 23, 8 => 25]?;
+    /// let map = nebtm![alloc; 2 => 24, 4 => 26]?;
     /// let same = map.clone()? == map; // true
     /// ```
     pub fn clone(&self) -> Result<Self, AllocError>

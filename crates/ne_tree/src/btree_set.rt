@@ -87,8 +87,8 @@ impl<T: Ord> NEBTreeSet<T> {
     /// Returns std's iterator over the items, in ascending order.
     ///
     /// ```
-    /// let set = nebts![alloc; 10, 2, 8, 4]?;
-    /// let items = set.iter(); // &2, &4, &8 and &10
+    /// let set = nebts![alloc; 10, 2]?;
+    /// let items = set.iter(); // &2 and &10
     /// ```
     pub fn iter(&self) -> btree_set::Iter<'_, T>
         ensures rest { result ≡ self.now.keys }
@@ -103,8 +103,8 @@ impl<T: Ord> NEBTreeSet<T> {
     /// Returns a non-empty iterator over the items, in ascending order.
     ///
     /// ```
-    /// let set = nebts![alloc; 10, 2, 8, 4]?;
-    /// let items = set.nonempty_iter(); // &2, &4, &8 and &10
+    /// let set = nebts![alloc; 10, 2]?;
+    /// let items = set.nonempty_iter(); // &2 and &10
     /// ```
     pub fn nonempty_iter(&self) -> Iter<'_, T>
         ensures keys { result ≡ self.now.keys }
@@ -159,8 +159,8 @@ impl<T: Ord> NEBTreeSet<T> {
     /// Returns whether the set holds an item equal to `value`.
     ///
     /// ```
-    /// let set = nebts![alloc; 2, 4, 6]?;
-    /// let (there, absent) = (set.contains(&6), set.contains(&8)); // true and false
+    /// let set = nebts![alloc; 2, 4]?;
+    /// let (there, absent) = (set.contains(&4), set.contains(&8)); // true and false
     /// ```
     pub fn contains(&self, value: &T) -> bool
         ensures { result ≡ contains T.cmp self.now value.now }
@@ -172,7 +172,7 @@ impl<T: Ord> NEBTreeSet<T> {
     /// none, so this is std's iterator.
     ///
     /// ```
-    /// let (a, b) = (nebts![alloc; 2, 4, 6]?, nebts![alloc; 6, 8, 10]?);
+    /// let (a, b) = (nebts![alloc; 2, 4, 6]?, nebts![alloc; 6]?);
     /// let left = a.difference(&b); // &2 and &4
     /// ```
     pub fn difference<'a>(&'a self, other: &'a NEBTreeSet<T>) -> btree_set::Difference<'a, T>
@@ -188,7 +188,7 @@ impl<T: Ord> NEBTreeSet<T> {
     /// Returns the item equal to `value`, as it is in the set, or `None` if there is no such item.
     ///
     /// ```
-    /// let set = nebts![alloc; 1, 3, 2]?;
+    /// let set = nebts![alloc; 1, 2]?;
     /// let (two, none) = (set.get(&2), set.get(&0)); // Some(&2) and None
     /// ```
     pub fn get(&self, value: &T) -> Option<&T>
@@ -230,7 +230,7 @@ impl<T: Ord> NEBTreeSet<T> {
     /// be none, so this is std's iterator.
     ///
     /// ```
-    /// let (a, b) = (nebts![alloc; 1, 3, 2]?, nebts![alloc; 3, 5, 4]?);
+    /// let (a, b) = (nebts![alloc; 1, 3]?, nebts![alloc; 3, 5]?);
     /// let shared = a.intersection(&b); // &3
     /// ```
     pub fn intersection<'a>(&'a self, other: &'a NEBTreeSet<T>) -> btree_set::Intersection<'a, T>
@@ -246,8 +246,8 @@ impl<T: Ord> NEBTreeSet<T> {
     /// Returns whether no item is in both sets.
     ///
     /// ```
-    /// let (a, b) = (nebts![alloc; 2, 4, 6]?, nebts![alloc; 6, 8, 10]?);
-    /// let disjoint = a.is_disjoint(&b); // false: 6 is in both
+    /// let (a, b) = (nebts![alloc; 2, 4]?, nebts![alloc; 4, 6]?);
+    /// let disjoint = a.is_disjoint(&b); // false: 4 is in both
     /// ```
     pub fn is_disjoint(&self, other: &NEBTreeSet<T>) -> bool
         ensures { IsTrue result ↔ IsDisjoint T.cmp self.now other.now }
@@ -258,7 +258,7 @@ impl<T: Ord> NEBTreeSet<T> {
     /// Returns whether every item of this set is in `other`.
     ///
     /// ```
-    /// let (a, b) = (nebts![alloc; 2, 4, 6]?, nebts![alloc; 2, 4, 6, 8]?);
+    /// let (a, b) = (nebts![alloc; 4]?, nebts![alloc; 2, 4]?);
     /// let subset = a.is_subset(&b); // true
     /// ```
     pub fn is_subset(&self, other: &NEBTreeSet<T>) -> bool
@@ -270,7 +270,7 @@ impl<T: Ord> NEBTreeSet<T> {
     /// Returns whether every item of `other` is in this set.
     ///
     /// ```
-    /// let (a, b) = (nebts![alloc; 2, 4, 6]?, nebts![alloc; 6, 4]?);
+    /// let (a, b) = (nebts![alloc; 2, 4]?, nebts![alloc; 4]?);
     /// let superset = a.is_superset(&b); // true
     /// ```
     pub fn is_superset(&self, other: &NEBTreeSet<T>) -> bool
@@ -286,7 +286,7 @@ impl<T: Ord> NEBTreeSet<T> {
     /// for a new item; the items are then unchanged and the new one is dropped.
     ///
     /// ```
-    /// let mut set = nebts![alloc; 1, 2, 4]?;
+    /// let mut set = nebts![alloc; 2, 4]?;
     /// let old = set.replace(4)?; // Some(4)
     /// ```
     pub fn replace(&mut self, value: T) -> Result<Option<T>, AllocError>
@@ -309,8 +309,8 @@ impl<T: Ord> NEBTreeSet<T> {
     /// two equal items it returns this set's.
     ///
     /// ```
-    /// let (a, b) = (nebts![alloc; 1, 3, 2]?, nebts![alloc; 3, 5, 4]?);
-    /// let all = a.union(&b); // &1, &2, &3, &4 and &5
+    /// let (a, b) = (nebts![alloc; 1, 3]?, nebts![alloc; 3, 2]?);
+    /// let all = a.union(&b); // &1, &2 and &3
     /// ```
     pub fn union<'a>(&'a self, other: &'a NEBTreeSet<T>) -> Union<'a, T>
         ensures items { result ≡ union T.cmp self.now other.now }
@@ -357,7 +357,7 @@ impl<T: Ord> NEBTreeSet<T> {
     /// original; so this also returns `AllocError` if the clones are not in ascending order.
     ///
     /// ```
-    /// let set = nebts![alloc; 2, 4, 6]?;
+    /// let set = nebts![alloc; 2, 4]?;
     /// let same = set.clone()? == set; // true
     /// ```
     pub fn clone(&self) -> Result<Self, AllocError>

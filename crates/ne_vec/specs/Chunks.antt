@@ -18,7 +18,7 @@ chunks n xs = map (chunk n xs) (range_with_len 0 (chunk_count (length xs) n))
 abbrev pub chunks_left : {X : Type 0} → Chunks X → List (List X)
 chunks_left it = chunks (chunks_size it) (chunks_rest it)
 
--- The source c of chunks gives the chunks `parts`.
+-- The source c of chunks yields the chunks `parts`.
 abbrev pub ChunksGive : {X : Type 0} → List (List X) → List (List X) → Type 0
 ChunksGive c parts =
     Listed (λ c it. (0 < length c) × (it ≡ c)) (YieldsFirst (λ left. left)) (λ x. x) c parts

@@ -1,4 +1,4 @@
--- An iterator gives the items that it has left.
+-- Proofs, for the implementations, that an iterator yields the items that it has left.
 use Rattle.std.proofs.Common.{sym, ap, subst, ◌∙◌, ◌≡◌}
 use Rattle.std.specs.Prelude.{List, length, map}
 use Rattle.std.specs.Slice.Iter.{iter_steps}

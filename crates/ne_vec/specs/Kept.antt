@@ -1,4 +1,4 @@
--- What `retain`, `dedup_by` and their variants keep, and when their closures are pure.
+-- The items that `retain`, `dedup_by` and their variants keep, and when their closures are pure.
 use Rattle.std.specs.Prelude.{◌≡◌, Bool, Result, Ok, Err, List}
 use Rattle.std.specs.Borrow.{MutBor}
 use Rattle.std.specs.Fn.{CalledAtMut, CalledAtPairMut}

@@ -7,14 +7,14 @@ use Rattle.std.specs.List.{fold}
 use Rattle.std.specs.Iterator.{DrainsIf}
 use Rattle.std.specs.Iterator.Runs.{EachRunFrom, FoldIsAtMost, Run, Trigger}
 
--- What a contract says of an item x is said of `of x`. If `is_itself` is true, `of x` is x itself.
+-- With a view, a contract speaks of `of x` for each item x. `is_itself` says that `of x` is x.
 -- A view turns each item x of type A into a value `of x` of type Target.
 pub record View (A : Type 0) : Type 1 where
   pub Target : Type 0
   pub of : A → Target
   pub is_itself : Bool
 
--- An item through this view is what f makes of it.
+-- An item x through this view is `f x`.
 abbrev pub view_by : {A B : Type 0} → (A → B) → View A
 view_by {B = B} f = record { Target = B; of = f; is_itself = false }
 
@@ -42,27 +42,27 @@ numbered v = in_pairs itself v
 abbrev pub IsPrefix : {A : Type 0} → Bool → List A → List A → Type 0
 IsPrefix {A} whole xs us = (more : List A) × (xs ≡ us ++ more) × (whole ≡ true → more ≡ [])
 
--- It does not name the view, since `grind` does not match a function such as `λ p. (p.0, p.1.now)`.
--- The trigger of a source and its list: `grind` finds what is said about both at this term.
+-- `list_trigger` names no view, as `grind` matches no function such as `λ p. (p.0, p.1.now)`.
+-- For the automatic proof: the trigger at which `grind` finds facts about a source and its list.
 unfoldable pub list_trigger : {U A : Type 0} → U → List A → ℕ
 list_trigger u xs = 0
 
 module _ {U S A : Type 0} (becomes : U → S → Type 0) (steps : S → Option A → S → Type 0) where
-  -- What an iterator that u becomes has yielded so far, through `view`, is a prefix of xs, and all
-  -- of xs at its end. For the items themselves, `view` is `λ x. x`. `grind` does not unfold it.
+  -- The items that an iterator of u has yielded so far are, through `view`, a prefix of xs, and all
+  -- of xs at its end. `view` is `λ x. x` for the items themselves. `grind` does not unfold `Lists`.
   -- The items that the source u yields, through `view`, are the list xs.
   unfoldable pub Lists : {B : Type 0} → (A → B) → U → List B → Type 0
   Lists view u xs = (it : S) → becomes u it → (whole : Bool) (ys : List A)
       → DrainsIf steps (whole ≡ true) it ys → IsPrefix whole xs (map view ys)
 
-  -- `Lists`, with the trigger by which `grind` finds it.
+  -- The items that u yields, through `view`, are xs: `Lists` with the trigger that `grind` needs.
   abbrev pub Listed : {B : Type 0} → (A → B) → U → List B → Type 0
   Listed view u xs = (list_trigger u xs ≡ 0) × Lists view u xs
 
 module _ {S A : Type 0} (steps : S → Option A → S → Type 0) where
-  -- It has at most as many items as xs, and all of them if it is whole. A fold that never decreases
-  -- is at most the fold over xs. The item at each index is that of xs.
-  -- For the automatic proof: what is known of a run of an iterator that yields xs.
+  -- The run has at most as many items as xs, and all of xs if it is whole. A fold that never
+  -- decreases is at most the fold over xs. The item at each index is that of xs.
+  -- For the automatic proof: the facts about a run p of an iterator that yields xs.
   abbrev pub IsPrefixRun : List A → Run steps → Type 0
   IsPrefixRun xs p = (p.len ≤ length xs) × (p.whole ≡ true → p.items ≡ xs)
       × ((h : ℕ → A → ℕ) (n : ℕ) → ((a : ℕ) (x : A) → a ≤ h a x)
@@ -73,7 +73,7 @@ module _ {S A : Type 0} (steps : S → Option A → S → Type 0) where
   abbrev pub YieldsPrefixes : List A → S → Type 0
   YieldsPrefixes xs it = EachRunFrom steps it (λ p. IsPrefixRun xs p)
 
-  -- For the automatic proof, of a run of an iterator whose items through `view` are xs.
+  -- For the automatic proof: the facts about a run p of an iterator that yields xs through `view`.
   abbrev pub IsPrefixRunThrough : {B : Type 0} → (A → B) → List B → Run steps → Type 0
   IsPrefixRunThrough {B} view xs p = (p.len ≤ length xs) × (p.whole ≡ true → p.len ≡ length xs)
       × ((h : B → ℕ) → p.whole ≡ true → map (λ x. h (view x)) p.items ≡ map h xs)
@@ -83,34 +83,34 @@ module _ {S A : Type 0} (steps : S → Option A → S → Type 0) where
   abbrev pub YieldsPrefixesThrough : {B : Type 0} → (A → B) → List B → S → Type 0
   YieldsPrefixesThrough view xs it = EachRunFrom steps it (λ p. IsPrefixRunThrough view xs p)
 
--- `grind` does not unfold it, and so meets it as a premise at once.
--- For the automatic proof alone: the source u becomes the iterator `it`.
+-- `grind` does not unfold `Became`, and so meets the premise at once.
+-- For the automatic proof: the source u becomes the iterator `it`.
 unfoldable pub Became : {U S : Type 0} → (U → S → Type 0) → U → S → Type 0
 Became becomes u it = becomes u it
 
 module _ {U S A : Type 0} (becomes : U → S → Type 0) (steps : S → Option A → S → Type 0) where
-  -- The iterator is no variable of its own, since `grind` finds only what a conclusion names.
-  -- P holds for each run of an iterator that the source becomes.
+  -- The iterator is `p.from` and no variable, since `grind` finds only what a conclusion names.
+  -- P holds for each run of an iterator that the source u becomes.
   abbrev pub EachRunOf : U → (Run steps → Type 0) → Type 0
   EachRunOf u P = (p : Run steps) → Trigger p.len → Became becomes u p.from → P p
 
-  -- P holds for the items of each of these runs.
+  -- P holds for the items of each run of an iterator that the source u becomes.
   abbrev pub EachPrefix : (List A → Type 0) → U → Type 0
   EachPrefix P u = EachRunOf u (λ p. becomes u p.from → P p.items)
 
-  -- The source yields the items of xs; with what the automatic proof needs of its runs.
+  -- The source u yields xs. The facts about its runs serve the automatic proof.
   abbrev pub YieldsItems : U → List A → Type 0
   YieldsItems u xs = Listed becomes steps (λ x. x) u xs
       × ((it : S) → becomes u it → EachRunFrom steps it (λ p. IsPrefixRun steps xs p))
       × EachRunOf u (λ p. IsPrefixRun steps xs p)
 
-  -- The source yields items that are xs through `view`; with the same.
+  -- The source u yields xs through `view`. The facts about its runs serve the automatic proof.
   abbrev pub YieldsThrough : {B : Type 0} → (A → B) → U → List B → Type 0
   YieldsThrough {B} view u xs = Listed becomes steps view u xs
       × ((it : S) → becomes u it → EachRunFrom steps it (λ p. IsPrefixRunThrough steps view xs p))
       × EachRunOf u (λ p. IsPrefixRunThrough steps view xs p)
 
--- P holds of x. The equation is a trigger: `grind` finds this where a goal names x.
+-- For the automatic proof: P holds of x, and the equation is a trigger for goals that name x.
 abbrev pub Naming : {A : Type 0} → A → (A → Type 0) → Type 0
 Naming x P = (x ≡ x) × P x
 
@@ -118,7 +118,7 @@ Naming x P = (x ≡ x) × P x
 abbrev pub EachList : {U A : Type 0} → (U → List A → Type 0) → U → (List A → Type 0) → Type 0
 EachList {A = A} lists u P = (xs : List A) → lists u xs → (list_trigger u xs ≡ 0) × P xs
 
--- For the automatic proof, it says nothing twice.
+-- If `view.is_itself` is true, the second part is left out, so that no fact is stated twice.
 -- P holds for each list of the source's items, and for each list of its items through `view`.
 abbrev pub EachView : {U A : Type 0} (view : View A)
     → ((view : View A) → U → List view.Target → Type 0) → U

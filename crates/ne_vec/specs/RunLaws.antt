@@ -1,4 +1,4 @@
--- What follows for each run of an iterator from the list that its source gives.
+-- Proofs, for the implementations, from the list that a source yields to each run of its iterator.
 use Rattle.std.proofs.Common.{refl, arith, subst, sym, ap, ◌∙◌, map-id}
 use Rattle.std.proofs.iter.runs.Lists.{nth_left}
 use Rattle.std.proofs.iter.runs.Made.{at-is, took}
@@ -10,7 +10,7 @@ use Rattle.ne_vec.specs.Lists.{Became, YieldsPrefixes, YieldsItems, YieldsThroug
 use Rattle.ne_vec.specs.Lists.{YieldsPrefixesThrough}
 use Rattle.ne_vec.specs.ListLaws.{triggered, of_lists}
 
--- what the calls of a run returned
+-- the calls of a run from `it` yield `p.items`, and then `None` if the run is whole
 pub run_drains : {S A : Type 0} (steps : S → Option A → S → Type 0) (p : Run steps) (it : S)
     → p.from ≡ it → DrainsIf steps (p.whole ≡ true) it p.items
 run_drains steps p it from = subst (λ s. DrainsIf steps (p.whole ≡ true) s p.items) from (took p)

@@ -1,4 +1,4 @@
--- What a search requires of its closure, which it calls with items of a list in any order.
+-- The precondition of a search on its closure, which is called with items of a list in any order.
 use Rattle.std.specs.Prelude.{List, All, Contains}
 use Rattle.std.specs.Borrow.{Bor}
 use Rattle.std.specs.Fn.{Mut, CalledAt, TakesAt}

@@ -40,7 +40,7 @@ module _ {A F : Type 0} (calls : Shared F (Bor A × (Bor A × Unit {0})) Bool) w
       × ((same : A → A → Bool) → ActsAsAtPair s.closure same
       → IsRun (place same) run × Breaks (place same) run t.left))
 
-  -- The source s of runs gives the runs of xs, if its closure f acts as a test of two items.
+  -- The source s of runs yields the runs of xs, if its closure f acts as a test of two items.
   abbrev pub RunsGive : ((A → A → Bool) → List A → A → Bool)
       → F → Cutting A F → List A → Type 0
   RunsGive place f s xs = (same : A → A → Bool) → ActsAsAtPair f same

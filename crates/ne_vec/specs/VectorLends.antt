@@ -7,7 +7,7 @@ use Rattle.std.specs.declared.slice.IterMut.{IterMut as StdIterMut}
 use Rattle.ne_vec.specs.declared.vector.iter.IterMut.{IterMut}
 use Rattle.ne_vec.specs.contracts.vector.NEVec.{the_row}
 
--- std's iterator that a non-empty one holds and becomes
+-- std's iterator that an `IterMut` of this crate holds and becomes
 abbrev pub std_iterator : {X : Type 0} → IterMut X → StdIterMut X
 std_iterator w = w.inner
 
@@ -16,7 +16,7 @@ module _ (T : RattleType) (v : MutBor (List T.Denot)) where
   abbrev pub LendsItem : ℕ → MutBor T.Denot → Fml
   LendsItem i r = Lends (the_row T) T v r (slice_set v.now i)
 
-  -- the same if r is present; if r is `None`, nothing changes
+  -- if r is `Some`, place i has what was last written through r; the other places are unchanged
   abbrev pub LendsItemIf : ℕ → Option (MutBor T.Denot) → Fml
   LendsItemIf i r = LendsIf (the_row T) T v r (slice_set v.now i) v.now
 

@@ -1,5 +1,5 @@
--- The definitions that a user's contracts cite, so that the user's crate lists this library alone.
--- They are those of the crates that this one re-exports.
+-- The definitions that a user's contracts cite, re-exported from the library's crates. So a user's
+-- crate lists only this library.
 pub use Rattle.ne_vec.specs.Chunks
 pub use Rattle.ne_vec.specs.Divisions
 pub use Rattle.ne_vec.specs.Lists

@@ -30,18 +30,18 @@ pub fn new(alloc: Global) -> Result<NEBTreeSet<u32>, AllocError>
 
 /// The example of `iter`.
 pub fn iter(alloc: Global) -> Result<Vec<u32>, AllocError>
-    ensures { IfOk result (λ v. v.items ≡ 2 ∷ 4 ∷ 8 ∷ 10 ∷ []) }
+    ensures { IfOk result (λ v. v.items ≡ 2 ∷ 10 ∷ []) }
 {
-    let set = nebts![alloc; 10, 2, 8, 4]?;
+    let set = nebts![alloc; 10, 2]?;
     let items = set.iter();
     items.copied().collect(alloc)
 }
 
 /// The example of `nonempty_iter`.
 pub fn nonempty_iter(alloc: Global) -> Result<NEVec<u32>, AllocError>
-    ensures { IfOk result (λ v. v ≡ 2 ∷ 4 ∷ 8 ∷ 10 ∷ []) }
+    ensures { IfOk result (λ v. v ≡ 2 ∷ 10 ∷ []) }
 {
-    let set = nebts![alloc; 10, 2, 8, 4]?;
+    let set = nebts![alloc; 10, 2]?;
     let items = set.nonempty_iter();
     items.copied().collect(alloc)
 }
@@ -73,8 +73,8 @@ pub fn try_from_set(
 pub fn contains(alloc: Global) -> Result<(bool, bool), AllocError>
     ensures { IfOk result (λ r. (r.0 ≡ true) × (r.1 ≡ false)) }
 {
-    let set = nebts![alloc; 2, 4, 6]?;
-    let (there, absent) = (set.contains(&6), set.contains(&8));
+    let set = nebts![alloc; 2, 4]?;
+    let (there, absent) = (set.contains(&4), set.contains(&8));
     Ok((there, absent))
 }
 
@@ -82,7 +82,7 @@ pub fn contains(alloc: Global) -> Result<(bool, bool), AllocError>
 pub fn difference(alloc: Global) -> Result<Vec<u32>, AllocError>
     ensures { IfOk result (λ v. v.items ≡ 2 ∷ 4 ∷ []) }
 {
-    let (a, b) = (nebts![alloc; 2, 4, 6]?, nebts![alloc; 6, 8, 10]?);
+    let (a, b) = (nebts![alloc; 2, 4, 6]?, nebts![alloc; 6]?);
     let left = a.difference(&b);
     left.copied().collect(alloc)
 }
@@ -91,7 +91,7 @@ pub fn difference(alloc: Global) -> Result<Vec<u32>, AllocError>
 pub fn get(alloc: Global) -> Result<(Option<u32>, Option<u32>), AllocError>
     ensures { IfOk result (λ r. (r.0 ≡ Some 2) × (r.1 ≡ None)) }
 {
-    let set = nebts![alloc; 1, 3, 2]?;
+    let set = nebts![alloc; 1, 2]?;
     let (two, none) = (set.get(&2), set.get(&0));
     Ok((two.copied(), none.copied()))
 }
@@ -112,7 +112,7 @@ pub fn insert(alloc: Global) -> Result<(bool, bool, NEBTreeSet<u32>), AllocError
 pub fn intersection(alloc: Global) -> Result<Vec<u32>, AllocError>
     ensures { IfOk result (λ v. v.items ≡ 3 ∷ []) }
 {
-    let (a, b) = (nebts![alloc; 1, 3, 2]?, nebts![alloc; 3, 5, 4]?);
+    let (a, b) = (nebts![alloc; 1, 3]?, nebts![alloc; 3, 5]?);
     let shared = a.intersection(&b);
     shared.copied().collect(alloc)
 }
@@ -121,7 +121,7 @@ pub fn intersection(alloc: Global) -> Result<Vec<u32>, AllocError>
 pub fn is_disjoint(alloc: Global) -> Result<bool, AllocError>
     ensures { IfOk result (λ disjoint. disjoint ≡ false) }
 {
-    let (a, b) = (nebts![alloc; 2, 4, 6]?, nebts![alloc; 6, 8, 10]?);
+    let (a, b) = (nebts![alloc; 2, 4]?, nebts![alloc; 4, 6]?);
     let disjoint = a.is_disjoint(&b);
     Ok(disjoint)
 }
@@ -130,7 +130,7 @@ pub fn is_disjoint(alloc: Global) -> Result<bool, AllocError>
 pub fn is_subset(alloc: Global) -> Result<bool, AllocError>
     ensures { IfOk result (λ subset. subset ≡ true) }
 {
-    let (a, b) = (nebts![alloc; 2, 4, 6]?, nebts![alloc; 2, 4, 6, 8]?);
+    let (a, b) = (nebts![alloc; 4]?, nebts![alloc; 2, 4]?);
     let subset = a.is_subset(&b);
     Ok(subset)
 }
@@ -139,7 +139,7 @@ pub fn is_subset(alloc: Global) -> Result<bool, AllocError>
 pub fn is_superset(alloc: Global) -> Result<bool, AllocError>
     ensures { IfOk result (λ superset. superset ≡ true) }
 {
-    let (a, b) = (nebts![alloc; 2, 4, 6]?, nebts![alloc; 6, 4]?);
+    let (a, b) = (nebts![alloc; 2, 4]?, nebts![alloc; 4]?);
     let superset = a.is_superset(&b);
     Ok(superset)
 }
@@ -148,16 +148,16 @@ pub fn is_superset(alloc: Global) -> Result<bool, AllocError>
 pub fn replace(alloc: Global) -> Result<Option<u32>, AllocError>
     ensures { IfOk result (λ old. old ≡ Some 4) }
 {
-    let mut set = nebts![alloc; 1, 2, 4]?;
+    let mut set = nebts![alloc; 2, 4]?;
     let old = set.replace(4)?;
     Ok(old)
 }
 
 /// The example of `union`.
 pub fn union(alloc: Global) -> Result<NEVec<u32>, AllocError>
-    ensures { IfOk result (λ v. v ≡ 1 ∷ 2 ∷ 3 ∷ 4 ∷ 5 ∷ []) }
+    ensures { IfOk result (λ v. v ≡ 1 ∷ 2 ∷ 3 ∷ []) }
 {
-    let (a, b) = (nebts![alloc; 1, 3, 2]?, nebts![alloc; 3, 5, 4]?);
+    let (a, b) = (nebts![alloc; 1, 3]?, nebts![alloc; 3, 2]?);
     let all = a.union(&b);
     all.copied().collect(alloc)
 }
@@ -166,7 +166,7 @@ pub fn union(alloc: Global) -> Result<NEVec<u32>, AllocError>
 pub fn clone(alloc: Global) -> Result<bool, AllocError>
     ensures { IfOk result (λ same. same ≡ true) }
 {
-    let set = nebts![alloc; 2, 4, 6]?;
+    let set = nebts![alloc; 2, 4]?;
     let same = set.clone()? == set;
     Ok(same)
 }
@@ -199,16 +199,16 @@ pub fn take(alloc: Global) -> Result<(Option<u32>, Option<u32>, NEBTreeSet<u32>)
 pub fn first(alloc: Global) -> Result<u32, AllocError>
     ensures { IfOk result (λ first. first ≡ 2) }
 {
-    let set = nebts![alloc; 4, 2, 6]?;
+    let set = nebts![alloc; 4, 2]?;
     let first = set.first();
     Ok(*first)
 }
 
 /// The example of `last`.
 pub fn last(alloc: Global) -> Result<u32, AllocError>
-    ensures { IfOk result (λ last. last ≡ 6) }
+    ensures { IfOk result (λ last. last ≡ 4) }
 {
-    let set = nebts![alloc; 4, 2, 6]?;
+    let set = nebts![alloc; 4, 2]?;
     let last = set.last();
     Ok(*last)
 }
@@ -237,7 +237,7 @@ pub fn pop_last(alloc: Global) -> Result<(Option<u32>, Option<u32>, NEBTreeSet<u
     Ok((popped, none, set))
 }
 
-/// By hand. The even items stay, or there are none.
+/// The example of `retain`.
 pub fn retain(
     alloc: Global,
 ) -> Result<
@@ -247,15 +247,9 @@ pub fn retain(
     ),
     AllocError,
 >
-    ensures even { IfOk result (λ r. (xs : List ℕ) → xs ≡ 4 ∷ 5 ∷ 6 ∷ 7 ∷ []
-        → MatchResult r.0 (λ s. s.keys ≡ filter (λ x. x % 2 == 0) xs)
-        (λ _. filter (λ x. x % 2 == 0) xs ≡ [])) }
-    ensures none { IfOk result (λ r. (xs : List ℕ) → xs ≡ 1 ∷ 3 ∷ []
-        → MatchResult r.1 (λ s. s.keys ≡ filter (λ x. x % 2 == 0) xs) (λ s. s.keys ≡ [])) }
-    ensures value { filter (λ x. x % 2 == 0) (4 ∷ 5 ∷ 6 ∷ 7 ∷ []) ≡ 4 ∷ 6 ∷ [] }
-    ensures no_value { filter (λ x. x % 2 == 0) (1 ∷ 3 ∷ []) ≡ [] }
+    ensures { IfOk result (λ r. (IsOkAnd r.0 (λ s. s.keys ≡ 4 ∷ [])) × (IsErr r.1)) }
 {
-    let even = nebts![alloc; 4, 5, 6, 7]?.retain(|x| *x % 2 == 0);
+    let even = nebts![alloc; 4, 5]?.retain(|x| *x % 2 == 0);
     let none = nebts![alloc; 1, 3]?.retain(|x| *x % 2 == 0);
     Ok((even, none))
 }

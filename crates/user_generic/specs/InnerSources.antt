@@ -1,4 +1,4 @@
--- What the chains over inner sources make.
+-- What `spread` and `spread_pairs` collect from the inner sources that a closure returns.
 use Rattle.std.specs.Prelude.{◌≡◌, ◌≤◌, ℕ, Bool, true, ◌||◌, ◌&&◌, ltb, List, length, zip, IsTrue}
 use Rattle.std.specs.Fn.{Mut}
 use Rattle.std.specs.List.{enumerate_from}
@@ -8,8 +8,8 @@ use Rattle.nonempty_collections.specs.Flatten.{ReadsEach}
 
 module _ {F W B C : Type 0} (inner : Bool → W → List B → Type 0) (complete : C → Bool)
     (collected : List (ℕ × B) → C → Type 0) where
-  -- The items come one list after another, each with its index, and are at most n. `whole` says
-  -- whether they are fewer and c is complete. If so, the lists have ended.
+  -- The lists follow one another. They have at most n items, each with its index. `whole` says
+  -- whether there are fewer and c is complete. If `whole` is true, the lists have ended.
   -- c is made of the lists of the sources that f returns for the items xs.
   pub record JoinsResults {A : Type 0} (calls : Mut F (A × Unit {0}) W) (f : F) (n : ℕ)
       (xs : List A) (whole : Bool) (c : C) : Type 0 where

@@ -1,4 +1,4 @@
--- What the chain of `flatten` and `scan` collects.
+-- What `scan_of_all` collects, a chain of `flatten` and `scan`.
 use Rattle.std.specs.Prelude.{Bool, List}
 use Rattle.std.specs.Borrow.{MutBor}
 use Rattle.std.specs.Fn.{Mut}
@@ -6,7 +6,7 @@ use Rattle.nonempty_collections.specs.Divisions.{concat}
 use Rattle.nonempty_collections.specs.Calls.{CallsWithState}
 use Rattle.nonempty_collections.specs.Flatten.{ReadsEach}
 
--- The state is init at first. If c is complete, the source and the lists of its items have ended.
+-- The first state is init. If c is complete, the source and the lists of its items have ended.
 -- c is made of what f returns for the items of the lists of the source's items, one after another.
 pub record IsScanOfAll {S U A D T F C : Type 0}
     (reads : Bool → S → List U → Type 0) (inner : Bool → U → List A → Type 0)

@@ -1,11 +1,11 @@
--- What the chain of four adapters collects.
+-- What `numbered` collects, a chain of four adapters.
 use Rattle.std.specs.Prelude.{◌≡◌, ◌≤◌, ℕ, Bool, ◌||◌, ◌&&◌, ltb, List, ◌++◌, length}
 use Rattle.std.specs.Fn.{Mut}
 use Rattle.std.specs.List.{enumerate_from}
 use Rattle.nonempty_collections.specs.Calls.{Calls}
 
--- The items are at most n, each with its index. If they are fewer and c is complete, both sources
--- have ended.
+-- There are at most n items, each with its index. If there are fewer and c is complete, both
+-- sources have ended.
 -- c is made of what f returns for the source's items, followed by the items of the other source.
 pub record IsNumbered {S A B F O C : Type 0} (reads : Bool → S → List A → Type 0)
     (calls : Mut F (A × Unit {0}) B) (others : Bool → O → List B → Type 0) (complete : C → Bool)

@@ -1,4 +1,4 @@
--- What the chain of `map` and `group_by` collects.
+-- What `runs_of_results` collects, a chain of `map` and `group_by`.
 use Rattle.std.specs.Prelude.{Bool, true, List}
 use Rattle.std.specs.Borrow.{Bor}
 use Rattle.std.specs.Fn.{Mut}

@@ -1,9 +1,9 @@
--- What the chain into two collections makes.
+-- What `parted` returns, a chain that ends in two collections.
 use Rattle.std.specs.Prelude.{◌≡◌, ◌≤◌, ◌<◌, ℕ, Bool, ◌||◌, List, length, IsTrue}
 use Rattle.std.specs.Fn.{Mut}
 use Rattle.nonempty_collections.specs.Calls.{Calls}
 
--- The items are at most n. If they are fewer, one of the two sources has ended.
+-- Each collection has at most n items. If it has fewer, one of the two sources has ended.
 -- r is made of what f returns for the source's items, and of as many items of the other source.
 pub record IsParted {S A B F O D R Q : Type 0} (reads : Bool → S → List A → Type 0)
     (calls : Mut F (A × Unit {0}) B) (others : Bool → O → List D → Type 0)

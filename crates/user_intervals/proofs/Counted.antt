@@ -18,8 +18,8 @@ use mathlib.Core.Logic.{inl, inr}
 is_less : (m n : ℕ) → m < n → nat_cmp m n ≡ Less
 is_less m n h = grind arith
 
--- From lo on and below hi, each interval has a point and starts where the one before it ends, or
--- later.
+-- The intervals are from lo on and below hi.
+-- Each interval has a point, and starts where the previous one ends or later.
 abbrev Rise : ℕ → ℕ → List (ℕ × ℕ) → Type 0
 Rise lo hi [] = ⊤
 Rise lo hi (p ∷ s) = (lo ≤ p.0) × (p.0 < p.1) × (p.1 < hi) × Rise p.1 hi s
@@ -68,7 +68,7 @@ pub total_fits : (s : List (ℕ × ℕ)) → IsIntervalSet s → total_of s < 18
 total_fits s set =
     let fits = room 0 18446744073709551616 s (omega arith) (set_rises s set) in omega (arith, fits)
 
--- The points of an interval, and of all of them.
+-- The points of an interval.
 abbrev run : ℕ × ℕ → List ℕ
 run p = range_with_len p.0 (length_of p)
 

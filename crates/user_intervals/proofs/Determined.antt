@@ -7,8 +7,8 @@ use Rattle.user_intervals.proofs.Lookups.{agree, same_lists}
 use Rattle.user_intervals.specs.Points.{end_of, IsIntervalSet, IsWithin}
 use mathlib.Core.Logic.{inl, inr}
 
--- What covers all points of f and only those, g, has an interval at the start of each of f, which
--- ends where it ends or later.
+-- If g covers the points of f and no others, g has an interval at the start of each interval of f.
+-- The interval of g ends where that of f ends, or later.
 module _ (f g : ℕ → Option ℕ) (points : HavePoints f) (apart : AreApart f)
     (its_points : HavePoints g) (its_apart : AreApart g) (to : (x : ℕ) → Covers f x → Covers g x)
     (from : (x : ℕ) → Covers g x → Covers f x) where
@@ -68,7 +68,7 @@ has f g points apart its_points its_apart to from s e is =
           s there.0 e there.1 is more)
     ]
 
--- Two sets that cover the same points are one.
+-- Two sets that cover the same points are the same set.
 pub one_set : (s t : List (ℕ × ℕ)) → IsIntervalSet s → IsIntervalSet t
     → ((x : ℕ) → Covers (end_of s) x ↔ Covers (end_of t) x) → s ≡ t
 one_set s t one other same =
@@ -78,7 +78,7 @@ one_set s t one other same =
     (has (end_of t) (end_of s) other.some other.apart one.some one.apart (λ x. (same x).1)
     (λ x. (same x).0) q))
 
--- A set that covers the points of old and those from start to before end is new.
+-- A set that covers the points of old and those from start to before end is the set new.
 pub only_set : (start end : ℕ) (old new : List (ℕ × ℕ)) → IsIntervalSet new
     → ((x : ℕ) → Covers (end_of new) x ↔ (Covers (end_of old) x ⊎ IsWithin start end x))
     → (s : List (ℕ × ℕ)) → IsIntervalSet s

@@ -27,7 +27,7 @@ Follow k ks = AllByRecursion (λ y. nat_cmp k y ≡ Less) ks
 abbrev pub starts : List (ℕ × ℕ) → List ℕ
 starts s = map (λ p. p.0) s
 
--- The first interval, and those behind it.
+-- The first interval is found at its start.
 pub first : (p : ℕ × ℕ) (s : List (ℕ × ℕ)) → end_of (p ∷ s) p.0 ≡ Some p.1
 first p s = rw (at_itself p.0) refl
 
@@ -60,7 +60,7 @@ agree None None to from = refl
 agree None (Some e) to from = from e refl
 agree (Some e) p to from = sym (to e refl)
 
--- In two such lists the same is found at each start: they are one.
+-- If two lists begin at the same start and agree at each start, their tails agree too.
 tail_has : (p q : ℕ × ℕ) (s t : List (ℕ × ℕ)) → p.0 ≡ q.0 → Follow p.0 (starts s)
     → ((k : ℕ) → end_of (p ∷ s) k ≡ end_of (q ∷ t) k) → (k e : ℕ) → end_of s k ≡ Some e
     → end_of t k ≡ Some e

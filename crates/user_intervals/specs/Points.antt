@@ -7,11 +7,11 @@ use Rattle.std.specs.List.Sorted.{IsStrictlySortedBy}
 use Rattle.std.specs.Map.{lookup, remove_entry}
 use Rattle.std.specs.Ordering.{nat_cmp}
 
--- Where the interval of this start ends, if there is one.
+-- The end of the interval with this start, if there is one.
 abbrev pub end_of : List (ℕ × ℕ) → ℕ → Option ℕ
 end_of s start = lookup (is_at (nat_cmp start)) s
 
--- The intervals but for the one of this start, in the same order.
+-- The intervals without the one with this start, in the same order.
 abbrev pub without : ℕ → List (ℕ × ℕ) → List (ℕ × ℕ)
 without start s = remove_entry (is_at (nat_cmp start)) s
 
@@ -23,8 +23,8 @@ IsWithin start end x = (start ≤ x) × (x < end)
 abbrev pub Covers : List (ℕ × ℕ) → ℕ → Type 0
 Covers s x = (start : ℕ) × (end : ℕ) × (end_of s start ≡ Some end) × IsWithin start end x
 
--- There is an interval. The starts ascend, and each end fits in 64 bits. Each interval has a
--- point, and ends before any later one starts.
+-- The starts ascend. Each interval has a point, and ends below 2 ^ 64 and before later starts.
+-- The list s is a set of intervals, with at least one.
 pub record IsIntervalSet (s : List (ℕ × ℕ)) : Type 0 where
   pub nonempty : 0 < length s
   pub rising : IsStrictlySortedBy nat_cmp (map (λ p. p.0) s)
@@ -33,13 +33,13 @@ pub record IsIntervalSet (s : List (ℕ × ℕ)) : Type 0 where
       → end_of s later ≡ Some its_end → start < later → end < later
   pub fits : (start end : ℕ) → end_of s start ≡ Some end → end < 2 ^ 64
 
--- All points from low to before start are covered, and what starts before low ends before it.
+-- s covers all points from low to before start. Intervals that start before low end before low.
 pub record IsJoinedStart (s : List (ℕ × ℕ)) (start low : ℕ) : Type 0 where
   pub before : low ≤ start
   pub covered : (x : ℕ) → low ≤ x → x < start → Covers s x
   pub gap : (other its_end : ℕ) → end_of s other ≡ Some its_end → other < low → its_end < low
 
--- All points from end to before high are covered, and what starts up to high ends up to it.
+-- s covers all points from end to before high. Intervals that start up to high end up to high.
 pub record IsJoinedEnd (s : List (ℕ × ℕ)) (end high : ℕ) : Type 0 where
   pub after : end ≤ high
   pub covered : (x : ℕ) → end ≤ x → x < high → Covers s x
@@ -50,9 +50,10 @@ pub record ArePoints (s : List (ℕ × ℕ)) (points : List ℕ) : Type 0 where
   pub rising : IsStrictlySortedBy nat_cmp points
   pub each : (x : ℕ) → Contains points x ↔ Covers s x
 
--- How many points an interval has, and how many all of them have.
+-- How many points an interval has.
 abbrev pub length_of : ℕ × ℕ → ℕ
 length_of p = p.1 - p.0
 
+-- How many points all intervals have.
 abbrev pub total_of : List (ℕ × ℕ) → ℕ
 total_of s = sum (map length_of s)

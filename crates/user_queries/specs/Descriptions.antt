@@ -10,7 +10,7 @@ use Rattle.user_queries.specs.declared.description.Fault.TheVariants.{SecondTabl
 use Rattle.user_queries.specs.declared.description.Line.{Line}
 use Rattle.user_queries.specs.declared.description.Line.TheVariants.{Table, Column, Where}
 
--- What a line of each kind names, if it is of that kind.
+-- The table that a line names, if the line is a `Table`.
 abbrev pub table_of : Line → Option (String Global)
 table_of (Table name) = Some name
 table_of (Column name) = None
@@ -31,22 +31,23 @@ abbrev pub all_of : Option (List (String Global)) → List (String Global)
 all_of None = []
 all_of (Some conditions) = conditions
 
--- The first line names the table; the second line names a column.
+-- The first line names the table.
 abbrev pub BeginsWithTable : List Line → String Global → Type 0
 BeginsWithTable lines name = slice_get lines 0 ≡ Some (Table name)
 
+-- The second line names a column.
 abbrev pub GoesOnWithColumn : List Line → String Global → Type 0
 GoesOnWithColumn lines name = slice_get lines 1 ≡ Some (Column name)
 
--- Only the first line names its table. It has the columns and conditions of all lines, in order.
--- The lines describe the query.
+-- Only the first line names a table. q has the columns and conditions of all lines, in order.
+-- The lines describe the query q.
 pub record IsDescribedBy (lines : List Line) (q : Query) : Type 0 where
   pub begins : BeginsWithTable lines q.table
   pub tables : filter_map table_of lines ≡ q.table ∷ []
   pub columns : filter_map column_of lines ≡ q.columns
   pub conditions : filter_map condition_of lines ≡ all_of q.conditions
 
--- What each fault says of the lines.
+-- What each fault says about the lines.
 abbrev pub IsWrong : List Line → Fault → Type 0
 IsWrong lines NoTable = (name : String Global) → BeginsWithTable lines name → ⊥
 IsWrong lines NoColumn = (name : String Global) → GoesOnWithColumn lines name → ⊥

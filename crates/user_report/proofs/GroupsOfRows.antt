@@ -24,7 +24,7 @@ use Rattle.user_report.specs.declared.report.Summary.{Summary}
 abbrev goes_on : List Row → Row → Bool
 goes_on = by_first (λ x y. nat_eq x.key y.key)
 
--- All keys are k; all are greater; they ascend.
+-- All rows have the key k.
 abbrev HaveKey : ℕ → List Row → Type 0
 HaveKey k rows = AllByRecursion (λ r. k ≡ r.key) rows
 
@@ -126,7 +126,7 @@ are_lines (g ∷ gs) (s ∷ ss) h = (
   }),
 )
 
--- The rows of a key are the whole group that has it, and none of those that do not.
+-- All rows of a group with the key k are rows of k.
 all_of : (k : ℕ) (g : List Row) → HaveKey k g → rows_of k g ≡ g
 all_of k [] h = refl
 all_of k (r ∷ g) h =
@@ -173,7 +173,7 @@ rows_in_front k g rows h above =
     filter-append (λ r. nat_eq r.key k) g rows
     ∙ ap₂ (λ l m. l ++ m) (all_of k g h) (none_above k rows above) ∙ append-nil g
 
--- The summary is that of the rows with its key.
+-- The summary s is that of the rows with the key of s.
 abbrev Sums : List Row → Summary → Type 0
 Sums rows s = IsSummary (rows_of s.key rows) s
 

@@ -1,4 +1,4 @@
--- A total that is checked at each step is there just if the whole sum fits.
+-- A total that is checked at each step is `Some` if and only if the whole sum fits.
 use Rattle.std.proofs.Common.{◌≡◌, ◌+◌, ◌<◌, ◌≤◌, ◌^◌, ℕ, List, [], ◌∷◌, Bool, true, false, cond}
 use Rattle.std.proofs.Common.{ltb, refl, arith, fold, is_some}
 use Rattle.std.proofs.lemmas.Bool.{ltb-true, ltb-false}

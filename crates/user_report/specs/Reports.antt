@@ -16,7 +16,7 @@ values rows = map (λ r. r.value) rows
 abbrev pub rows_of : ℕ → List Row → List Row
 rows_of k rows = filter (λ r. nat_eq r.key k) rows
 
--- A total plus a further number, if both are there and fit in 64 bits.
+-- A total plus the number n, if there is a total and the sum fits in 64 bits.
 abbrev pub plus : Option ℕ → ℕ → Option ℕ
 plus None n = None
 plus (Some total) n = if ltb (total + n) (2 ^ 64) then Some (total + n) else None
@@ -50,6 +50,6 @@ pub record IsReport (rows : List Row) (lines : List Summary) : Type 0 where
   pub all_keys : All (λ r. Contains (map (λ s. s.key) lines) r.key) rows
   pub each : All (λ s. IsSummary (rows_of s.key rows) s) lines
 
--- What is printed of a line: its numbers in decimal, with a space between each two.
+-- The text of a line: its numbers in decimal, with a space between each two.
 abbrev pub line_text : Summary → List ℕ
 line_text s = join_by decimal (codes " ") (s.key ∷ s.count ∷ s.least ∷ s.greatest ∷ s.total ∷ [])

@@ -17,11 +17,11 @@ number_of text =
     if nat_lt 0 (length digits) && all_ascii_digits digits && nat_lt value (2 ^ 32)
     then Some value else None
 
--- What the field at a place says: its number, or that it is not a number.
+-- The reading of the field at a place: its number, or the fault that it is not a number.
 abbrev pub reading : ℕ → List ℕ → Result ℕ Fault
 reading place text = ok_or (number_of text) (record { place = place })
 
--- What each field says, in order. Places count from 0.
+-- The readings of all fields, in order. Places count from 0.
 abbrev pub readings : List (Bor (List ℕ)) → List (Result ℕ Fault)
 readings fields = map (λ f. reading f.0 f.1.now) (enumerate_from 0 fields)
 
@@ -29,7 +29,7 @@ readings fields = map (λ f. reading f.0 f.1.now) (enumerate_from 0 fields)
 abbrev pub faults_of : List (Bor (List ℕ)) → List Fault
 faults_of fields = filter_map result_err (readings fields)
 
--- What is printed of a fault: people count places from 1.
+-- The text of a fault, in which places count from 1.
 abbrev pub fault_text : Fault → List ℕ
 fault_text fault = codes "field " ++ decimal (min (fault.place + 1) (2 ^ 64 - 1))
     ++ codes " is not a number below 2^32"

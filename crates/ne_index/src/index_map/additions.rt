@@ -220,8 +220,8 @@ impl<K: Eq + Hash, V, S: BuildHasher> NEIndexMap<K, V, S> {
     /// changes depend only on the entry; `called` covers any `f`.
     ///
     /// ```
-    /// let map = neim![alloc; 6 => 24, 4 => 25, 2 => 26]?;
-    /// let even = map.retain(|_k, v| *v % 2 == 0); // Ok({6: 24, 2: 26})
+    /// let map = neim![alloc; 6 => 24, 4 => 25]?;
+    /// let even = map.retain(|_k, v| *v % 2 == 0); // Ok({6: 24})
     /// let none = neim![alloc; 4 => 25]?.retain(|_k, v| *v % 2 == 0); // Err({})
     /// ```
     pub fn retain<F: FnMut(&K, &mut V) -> bool>(self, f: F) -> Result<Self, IndexMap<K, V, S>>

@@ -125,8 +125,8 @@ fn collected<
 /// on others.
 ///
 /// ```
-/// let map = neim![alloc; 0 => 1, 2 => 2, 4 => 3, 6 => 4, 8 => 5, 10 => 6]?;
-/// let value = map[1]; // 2
+/// let map = neim![alloc; 4 => 26, 2 => 24]?;
+/// let value = map[1]; // 24
 /// ```
 impl<K: Eq + Hash, V> Index<usize> for NEIndexMap<K, V> {
     type Output = V;

@@ -169,7 +169,7 @@ impl<T: Eq + Hash, S: BuildHasher> NEIndexSet<T, S> {
     /// any `f`.
     ///
     /// ```
-    /// let even = neis![alloc; 6, 5, 4]?.retain(|x| *x % 2 == 0); // Ok({6, 4})
+    /// let even = neis![alloc; 6, 5]?.retain(|x| *x % 2 == 0); // Ok({6})
     /// let none = neis![alloc; 1, 3]?.retain(|x| *x % 2 == 0); // Err({})
     /// ```
     pub fn retain<F: FnMut(&T) -> bool>(self, f: F) -> Result<Self, IndexSet<T, S>>

@@ -81,7 +81,7 @@ impl<T: Ord> NEBTreeSet<T> {
     /// Returns the least item, which is always there.
     ///
     /// ```
-    /// let set = nebts![alloc; 4, 2, 6]?;
+    /// let set = nebts![alloc; 4, 2]?;
     /// let first = set.first(); // &2
     /// ```
     pub fn first(&self) -> &T
@@ -95,8 +95,8 @@ impl<T: Ord> NEBTreeSet<T> {
     /// Returns the greatest item, which is always there.
     ///
     /// ```
-    /// let set = nebts![alloc; 4, 2, 6]?;
-    /// let last = set.last(); // &6
+    /// let set = nebts![alloc; 4, 2]?;
+    /// let last = set.last(); // &4
     /// ```
     pub fn last(&self) -> &T
         ensures last { slice_get self.now.keys (btree_set_len self.now - 1) ≡ Some result.now }
@@ -164,7 +164,7 @@ impl<T: Ord> NEBTreeSet<T> {
     /// `called` covers any `f`.
     ///
     /// ```
-    /// let even = nebts![alloc; 4, 5, 6, 7]?.retain(|x| *x % 2 == 0); // Ok({4, 6})
+    /// let even = nebts![alloc; 4, 5]?.retain(|x| *x % 2 == 0); // Ok({4})
     /// let none = nebts![alloc; 1, 3]?.retain(|x| *x % 2 == 0); // Err({})
     /// ```
     pub fn retain<F: FnMut(&T) -> bool>(self, f: F) -> Result<Self, BTreeSet<T>>

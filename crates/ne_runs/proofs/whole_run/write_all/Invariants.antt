@@ -2,7 +2,7 @@ use Rattle.ne_runs.proofs.whole_run.write_all.Given as goal
 use Rattle.std.proofs.Common.{◌≡◌, false, length}
 use Rattle.ne_runs.specs.ProgramRuns.{TakesPart}
 
--- So far a first part of the text was taken, and no call failed.
+-- A prefix of the text was taken so far, and no call failed.
 abbrev pub invariant-loop-rest : goal.invariant-loop-rest
 invariant-loop-rest g l = record {
   healthy : g.W.Sink.has_failed l.writer ≡ false;

@@ -6,8 +6,7 @@ use Rattle.std.proofs.lemmas.List.FromFn.{length-enumerate_from}
 use Rattle.std.proofs.lemmas.Result.{IfOk-weaker}
 use Rattle.nonempty_collections.specs.Lists.{IsPrefix}
 
--- From the vectors' items forward through the adapters: what came so far are the first items of
--- each list.
+-- From the vectors' items forward through the adapters: the items so far are a prefix of each list.
 pub returns : goal.returns
 returns c = IfOk-weaker c.numbered.result _ _ (λ v h.
     let n = non_zero_usize_get c.args.n in

@@ -4,7 +4,7 @@ use Rattle.std.proofs.lemmas.Result.{IfOk-weaker}
 use Rattle.nonempty_collections.specs.Divisions.{IsDivision, by_previous}
 use Rattle.nonempty_collections.specs.SliceRuns.{ActsAsAtPair}
 
--- From the lengths back to the runs that came, which are all runs.
+-- From the lengths back to the runs that were yielded, which are all runs.
 pub returns : goal.returns
 returns g c = IfOk-weaker c.collect.result _ _ (λ v h test acts.
     let holds = c.adjacent_runs.ensures.holds in

@@ -5,7 +5,7 @@ use Rattle.std.specs.Ordering.{nat_cmp}
 use Rattle.std.specs.Prelude.{Some}
 use Rattle.user_intervals.specs.Points.{end_of}
 
--- the interval that was put is there, and what starts before or after it is as before
+-- The new interval is in the set, and the intervals that start before or after it are unchanged.
 abbrev pub invariant-loop-start : goal.invariant-loop-start
 invariant-loop-start l = record {
   at : end_of l.map.entries l.low ≡ Some l.high;

@@ -2,7 +2,7 @@ use Rattle.user_queries.proofs.description.query.Given as goal
 use Rattle.std.proofs.Common.{◌≡◌, ◌++◌, [], filter_map}
 use Rattle.user_queries.specs.Descriptions.{table_of, column_of, condition_of, all_of}
 
--- the query has what the first two lines and those so far name, and no other table was named
+-- The query has what the first two lines and those so far name. No other table was named.
 abbrev pub invariant-loop-line : goal.invariant-loop-line
 invariant-loop-line l = record {
   can_next : (goal.iterator-loop-line).can_next l.line-iterator;

@@ -4,7 +4,7 @@ use Rattle.std.proofs.Common.{nat_eq}
 use Rattle.std.specs.Prelude.{Option, Some, None}
 use Rattle.std.specs.Map.{lookup, set_value}
 
--- a key that is not there gets no value
+-- A key that is not there gets no value.
 absent_at : {K X : Type 0} (b : Bool) (e : K × X) (es rest : List (K × X)) (found : Option X)
     (w : X) → (found ≡ None → rest ≡ es) → cond b (Some e.1) found ≡ None
     → cond b ((e.0, w) ∷ es) (e ∷ rest) ≡ e ∷ es

@@ -1,5 +1,5 @@
--- `iter_mut` lends the inner map for the whole borrow. Its invariant is shown again at the end, by
--- what the clause of the inner `iter_mut` says: the map has the same number of keys.
+-- `iter_mut` borrows the inner map for the whole borrow. The invariant holds again at its end,
+-- since a clause of the inner `iter_mut` says that the map has the same number of keys.
 use mathlib.Core.Path.{◌≡◌, refl, sym, subst}
 use Prim.Native.Nat.{ℕ, ◌+◌}
 use mathlib.Core.List.{List, [], ◌∷◌}

@@ -1,5 +1,5 @@
--- `lend_values` lends the inner map for the whole borrow. Its invariant is shown again at the end,
--- by what the clause of the inner `values_mut` says: the map has the same number of keys.
+-- `lend_values` borrows the inner map for the whole borrow. The invariant holds again at its end,
+-- since a clause of the inner `values_mut` says that the map has the same number of keys.
 use mathlib.Core.Path.{◌≡◌, refl, sym, subst}
 use Prim.Native.Nat.{ℕ, ◌+◌}
 use mathlib.Core.List.{List, [], ◌∷◌}
