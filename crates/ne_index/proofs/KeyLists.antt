@@ -120,8 +120,7 @@ module _ {K : Type 0} {eq : K → K → Bool} (laws : IsEquivalence eq) where
       (all_distinct [] xs none_distinct, λ q. all_members [] xs q)
 
 module _ {K : Type 0} (eq : K → K → Bool) where
-  -- The keys that are first seen in two lists, one after the other: those of the first, then the
-  -- new ones of the second.
+  -- The keys first seen in two lists are those of the first, then the new ones of the second.
   first_seen-behind : (before ks more : List K)
       → first_seen eq before (ks ++ more)
       ≡ first_seen eq before ks ++ first_seen eq (before ++ ks) more

@@ -110,7 +110,7 @@ module _ {A K F : Type 0} (calls : Mut F (Bor A × Unit {0}) K) (eq : K → K �
 
   pub divided_by_function : (f : F) (ps : List (A × K)) (rs : List (List A)) (g : F)
       (others : List (List A)) → ActsAsAt calls f h → CallsEachAt calls f ps g
-          → DividesByKey eq ps rs
+      → DividesByKey eq ps rs
       → IsDivision (by_first (λ a b. eq (h a) (h b))) (items_of ps) others
       → ((xs : List (A × K)) (rs others : List (List (A × K)))
       → IsDivision (by_first (same_key eq)) xs rs

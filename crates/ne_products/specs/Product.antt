@@ -53,7 +53,7 @@ abbrev pub row_size : {J : Type 0} → (J → Count) → Option J → ℕ
 row_size left None = 0
 row_size left (Some c) = size (left c)
 
--- `pairs_left` counts the rest of this row, a row for each item that is left, and an `Err`.
+-- `pairs_left` counts the rest of this row, a row for each further left item, and an `Err`.
 -- How many results a `ProductIter` has left, at most.
 abbrev pub pairs_left : {I J X : Type 0} → (I → Count) → (J → Count) → ProductIter I J X → Count
 pairs_left lefts rights s = count_unless (is_over s)
@@ -78,7 +78,7 @@ module _ {I J A B : Type 0} (lefts : I → Option A → I → Type 0)
   RowItem s x l = ((row_of s ≡ Some x) × (l ≡ left_of s))
       ⊎ ((row_of s ≡ None) × lefts (left_of s) (Some x) l)
 
-  -- P holds for `restart_of` s, which is the right side as it was at the start.
+  -- `RowEnds` also says that P holds for `restart_of` s, the right side as it was at the start.
   -- The right side has ended after the last pair of this row.
   abbrev pub RowEnds : ProductIter I J A → I → (J → Type 0) → Type 0
   RowEnds s l P = (w : A) × (j : J) × (c : J) × RowItem s w l × rights (right_of s) None j

@@ -13,7 +13,7 @@ ChecksUnique {A = A} reads eq source result = (xs : List A) × IsDistinct eq xs
     × MatchBool result (reads true source xs)
     ((x : A) × reads false source (xs ++ x ∷ []) × (is_member eq xs x ≡ true))
 
--- Whether no item equals a later one.
+-- For the automatic proof: whether no item equals a later one.
 abbrev pub are_unique : {A : Type 0} → (A → A → Bool) → List A → Bool
 are_unique eq [] = true
 are_unique eq (x ∷ xs) = not (is_member eq xs x) && are_unique eq xs

@@ -32,7 +32,7 @@ fault_status Memory = 4
 abbrev pub most_bytes : ℕ
 most_bytes = 1048576
 
--- The fault of the first bad line, counted from 1, if there is one.
+-- The fault of the first bad line, if there is one. Lines count from 1.
 abbrev pub bad_line : List (List ℕ) → Option Fault
 bad_line lines = option_map (λ place. BadLine (place + 1)) (position is_bad lines)
 

@@ -1,5 +1,5 @@
--- What an iterator by value over an `NEBTreeMap` or `NEBTreeSet` yields: what such an iterator over
--- any map or set yields, with keys that ascend.
+-- What is known of an iterator by value over an `NEBTreeMap` or `NEBTreeSet`: the facts of such
+-- iterators over any map or set, and that the keys ascend.
 use Rattle.std.specs.Prelude.{List}
 use Rattle.std.specs.List.Sorted.{IsStrictlySortedBy}
 use Rattle.std.specs.Map.{keys_of}

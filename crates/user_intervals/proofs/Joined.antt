@@ -51,7 +51,7 @@ module _ (f g : ℕ → Option ℕ) (k end : ℕ) (apart : AreApart f) (at : f k
   pub points_left : (x : ℕ) → Covers g x ↔ (Covers f x × (IsWithin k end x → ⊥))
   points_left x = (left x, stays x)
 
--- The intervals of f from low up to high are replaced by one, which gives g.
+-- g has one interval in place of the intervals of f from low up to high.
 module _ (f g : ℕ → Option ℕ) (low high : ℕ) (at : g low ≡ Some high)
     (within : (s : ℕ) → low < s → s ≤ high → g s ≡ None)
     (below : (s : ℕ) → s < low → g s ≡ f s) (above : (s : ℕ) → high < s → g s ≡ f s) where

@@ -1,4 +1,4 @@
--- Half-open intervals, and the points that they cover. A set of them is seen as the list of their
+-- Half-open intervals and the points that they cover. A set of intervals is seen as the list of its
 -- starts with their ends, in ascending order of the starts.
 use Rattle.std.specs.Prelude.{◌≡◌, ◌<◌, ◌≤◌, ◌-◌, ◌^◌, ◌↔◌, ℕ, List, Option, Some, map, sum}
 use Rattle.std.specs.Prelude.{length, Contains}
@@ -23,7 +23,7 @@ IsWithin start end x = (start ≤ x) × (x < end)
 abbrev pub Covers : List (ℕ × ℕ) → ℕ → Type 0
 Covers s x = (start : ℕ) × (end : ℕ) × (end_of s start ≡ Some end) × IsWithin start end x
 
--- The starts ascend. Each interval has a point, and ends below 2 ^ 64 and before later starts.
+-- The starts ascend. Each interval has a point, ends below 2 ^ 64, and ends before any later start.
 -- The list s is a set of intervals, with at least one.
 pub record IsIntervalSet (s : List (ℕ × ℕ)) : Type 0 where
   pub nonempty : 0 < length s

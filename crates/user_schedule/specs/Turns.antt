@@ -1,4 +1,4 @@
--- The job that has the next turn, and the schedule after it. A schedule is seen as the list of its
+-- The job that has the next turn, and the schedule after that turn. A schedule is the list of its
 -- jobs with their names, in the order in which they were added.
 use Rattle.std.specs.Prelude.{ℕ, ◌+◌, ltb, List, nat_eq, if◌then◌else◌}
 use Rattle.std.specs.Map.{remove_entry, set_value}

@@ -9,6 +9,6 @@ invariant-loop-chunk g l = record {
   bound : vec_len l.input ≤ 1048577;
 }
 
--- The room that is left: each turn adds at least one byte.
+-- The room that is left: each pass of the loop adds at least one byte.
 abbrev pub decreases-loop-chunk : goal.decreases-loop-chunk
 decreases-loop-chunk g l = 1048577 - vec_len l.input

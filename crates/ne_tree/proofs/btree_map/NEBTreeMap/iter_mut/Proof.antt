@@ -1,5 +1,5 @@
--- `iter_mut` borrows the inner map for the whole borrow. The invariant holds again at its end,
--- since a clause of the inner `iter_mut` says that the map has the same number of keys.
+-- `iter_mut` borrows the inner map for as long as the map is borrowed. The invariant holds again at
+-- the end, since the clause of the inner `iter_mut` says that the number of keys is the same.
 use mathlib.Core.Path.{◌≡◌, refl, sym, subst}
 use Prim.Native.Nat.{ℕ, ◌+◌}
 use mathlib.Core.List.{List, [], ◌∷◌}
@@ -147,7 +147,7 @@ iter_mut_spec 𝓤 𝓛 𝓜 𝓡 wired K V LK LV o₀ d₀ o₁ d₁ o₂ d₂ 
     calls_at ! (framed 𝓤 𝓛.H 𝓜 𝓣) G
     (met 𝓤 𝓛 𝓜 𝓡
     (code.calls-ne_tree::btree_map::inner_iter_mut 𝓡.env wired) K V LK LV o₀ d₀ o₁ d₁ o₂ d₂ o₃ d₃
-        m₀ m₁ m₂
+    m₀ m₁ m₂
     m₃) z (and_then ! (get ! refl) (no_more !)) (λ v.
     use1 𝓛 (later (some (λ (it : It.Denot). ((‵ (flft κ (Share.left q)) ⊛ toks)
     ⊛ ‵ (It.own_val it (v ∷ []))) ⊛

@@ -1,5 +1,5 @@
--- `lend_values` borrows the inner map for the whole borrow. The invariant holds again at its end,
--- since a clause of the inner `values_mut` says that the map has the same number of keys.
+-- `lend_values` borrows the inner map for as long as the map is borrowed. The invariant holds again
+-- at the end, since the clause of the inner `values_mut` says that the number of keys is the same.
 use mathlib.Core.Path.{◌≡◌, refl, sym, subst}
 use Prim.Native.Nat.{ℕ, ◌+◌}
 use mathlib.Core.List.{List, [], ◌∷◌}
