@@ -238,7 +238,7 @@ EXCUSED = [
     (
         "binary_search, binary_search_by, binary_search_by_key, partition_point: closures with "
         "state, and vectors in another order",
-        "Rust leaves the answer open, so the matching sort stands before each",
+        "Rust leaves the result open, so the matching sort stands before each",
     ),
     (
         "how often the closure of a sort or a search is called",
@@ -247,7 +247,7 @@ EXCUSED = [
     ),
     (
         "from_elem, with_capacity, nev_many: sizes far above the length",
-        "where there is no memory the Rust crate ends the process, and the port answers AllocError",
+        "where there is no memory the Rust crate ends the process, and the port returns AllocError",
     ),
     (
         "remove, swap_remove, insert, index, index_mut: places out of range, but for the removals "
@@ -255,10 +255,13 @@ EXCUSED = [
         "the Rust crate panics; in the port that they are in range is a condition of the call. "
         "Both programs say so and make no call",
     ),
-    ("capacity: how much", "the standard library's affair; told is that it is at least the length"),
+    (
+        "capacity: how much",
+        "the standard library's affair; printed is whether it is at least the length",
+    ),
     (
         "collect_hash_map, collect_hash_set: the order",
-        "it is open in both; told are the size and what is found",
+        "it is open in both; printed are the size and what is found",
     ),
     ("shuffle, choose, serde", "features of the Rust crate that ask for crates besides"),
     ("group_by_stopped: far more turns than there are runs", "no difference: each turn is written"),

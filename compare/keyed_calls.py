@@ -176,7 +176,7 @@ CALLS = {
 EXCUSED = [
     (
         "with_capacity, with_capacity_and_hasher, reserve: sizes far above the length",
-        "where there is no memory the Rust crate ends the process, and the port answers AllocError",
+        "where there is no memory the Rust crate ends the process, and the port returns AllocError",
     ),
     (
         "index, swap_indices: places out of range",
@@ -189,17 +189,20 @@ EXCUSED = [
         "where the first set is so much larger Rust's std may give the second set's one of two "
         "equal items; the port gives the first set's",
     ),
-    ("capacity: how much", "the standard library's affair; told is that it is at least the length"),
     (
-        "hashed maps and sets: the order of walks and of what is printed",
-        "it is open in both; told is what they give, sorted",
+        "capacity: how much",
+        "the standard library's affair; printed is whether it is at least the length",
+    ),
+    (
+        "hashed maps and sets: the order of iterators and of what is printed",
+        "it is open in both; printed is what they yield, sorted",
     ),
     (
         "hasher",
         "a hasher has no equality; tests of the crates hold that the one that was given is kept",
     ),
     (
-        "as_mut, values_mut and writing walks of index maps, Debug of walks",
+        "as_mut, values_mut and mutable iterators of index maps, Debug of iterators",
         "the port leaves them out",
     ),
 ]

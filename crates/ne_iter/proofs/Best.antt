@@ -1,5 +1,5 @@
--- The item that is kept is one of those that came, and if a test ranks the items, it is the first
--- least or the first greatest of them. One item beats another by a test.
+-- The item that is kept is one of those yielded. If a test ranks the items, the item kept is the
+-- first least or the first greatest of them. One item beats another by a test.
 use Rattle.std.proofs.Common.{ap, subst, sym, ◌∙◌}
 use Rattle.std.specs.Prelude.{◌≡◌, Bool, true, false, cond, List, [], ◌∷◌, ◌++◌, Option, Some, map}
 use Rattle.std.specs.Borrow.{Bor}
@@ -26,7 +26,7 @@ module _ {V F A : Type 0} (view : A → V) (calls : Shared F (Bor V × (Bor V ×
   kept_has P kept x next (true, says, e) p q = subst P (sym e) q
   kept_has P kept x next (false, says, e) p q = subst P (sym e) p
 
-  -- the item that is kept is one of those that came
+  -- the item that is kept is one of those that were yielded
   pub Contains-kept : (first : A) (xs : List A) (kept : A)
       → FoldsTo (KeepsBetter view calls f) first xs kept → Contains (first ∷ xs) kept
   Contains-kept first xs kept =
@@ -40,7 +40,7 @@ module _ {V F A : Type 0} (view : A → V) (calls : Shared F (Bor V × (Bor V ×
   ReturnsAs beats zs = (x y : A) (t : Bool) → Contains zs x → Contains zs y
       → FnReturnsAtPair calls f (view x) (view y) t → t ≡ beats y x
 
-  -- so the best of them is kept
+  -- so the best of the items zs is kept
   best_of-kept : (beats : A → A → Bool) (zs : List A) → ReturnsAs beats zs
       → (first : A) (xs : List A) (kept : A) → All (Contains zs) (first ∷ xs)
       → FoldsTo (KeepsBetter view calls f) first xs kept → kept ≡ best_of beats first xs

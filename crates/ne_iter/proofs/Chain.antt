@@ -43,7 +43,7 @@ module _ {S T A : Type 0} (steps : S → Option A → S → Type 0) (others : T 
         × DrainsIf steps ((whole || ltb 0 (length ys)) ≡ true) (chain_first s) xs
         × DrainsIf others (whole ≡ true) (chain_second s) ys × (zs ≡ xs ++ ys)
 
-    -- the first call, if it gives an item z
+    -- the first call, if it yields an item z
     first_gave : (whole : Bool) (s j : Chain S T) (z : A) (zs : List A) (o : Option A)
         → chain_second_done s ≡ false → chain_second_done j ≡ chain_second_done s
         → steps (chain_first s) o (chain_first j)
@@ -70,7 +70,7 @@ module _ {S T A : Type 0} (steps : S → Option A → S → Type 0) (others : T 
           (let a = h.0 in let b = p.4 in cc),
         )
 
-    -- the end, if no item came from the second side
+    -- the end, if the second side yielded no item
     none_came : (s j : Chain S T) (o : Option A) → chain_second_done s ≡ false
         → steps (chain_first s) o (chain_first j)
         → MatchOption o (SecondAnswers steps others s None j)
@@ -108,7 +108,7 @@ module _ {S T A : Type 0} (steps : S → Option A → S → Type 0) (others : T 
         first_gave whole s j z zs h.0 live st.0 h.1 h.2 (t, rest, fin)
         (λ q. DrainsIf-chain whole j zs q (let a = st.0 in cc) (t, rest, fin))
 
--- the first list is read to its end before the second gives an item
+-- the first list is read to its end before the second yields an item
 pub append_prefix : {A : Type 0} (whole : Bool) (xs ys us vs : List A)
     → IsPrefix (whole || ltb 0 (length vs)) xs us → IsPrefix whole ys vs
     → IsPrefix whole (xs ++ ys) (us ++ vs)

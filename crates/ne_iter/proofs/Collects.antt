@@ -1,4 +1,4 @@
--- What std's collecting into maps and sets makes from a source that has an item.
+-- The maps and sets of std that are collected from a source that has an item.
 use Rattle.std.specs.BTreeMap as tree
 use Rattle.std.specs.BTreeSet as tree_set
 use Rattle.std.specs.HashMap as hash

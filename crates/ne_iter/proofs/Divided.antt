@@ -1,4 +1,4 @@
--- What groupings say about whole lists: the division of what was taken, by the keys and by a
+-- Facts about groupings for whole lists: the division of the items taken, by their keys and by a
 -- function.
 use Rattle.std.proofs.Common.{◌≡◌, ◌≢◌, Bool, List, [], ◌∷◌, ◌++◌, map, Option, refl, sym, ap}
 use Rattle.std.proofs.Common.{subst, ◌∙◌}
@@ -56,7 +56,7 @@ module _ {S K A F : Type 0} (steps : S → Option A → S → Type 0) (calls : M
       → IsDivision (by_first (same_key eq)) xs (rs ++ last ∷ [])
       → IsDivision (by_first (same_key eq)) (xs ++ more) all → (rest : List (List (A × K)))
       × (all ≡ rs ++ rest)) where
-    -- whatever comes after the items taken, the runs returned are the first ones
+    -- whatever items follow those taken, the runs returned are the first runs
     are_first : (a : Ahead K A) (t : S) (drawn : List (A × K)) (runs : List (List (A × K)))
         (more : List (A × K)) (all : List (List (A × K))) → StandsAt steps calls eq a s drawn t runs
         → (a ≡ Ended → more ≡ []) → IsDivision (by_first (same_key eq)) (drawn ++ more) all

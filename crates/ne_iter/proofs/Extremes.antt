@@ -42,8 +42,8 @@ module _ {A : Type 0} (beats : A → A → Bool) where
         ),
       )
 
-  -- There is a best item, if `beats` is an order. It is in the relation R to each item, if it is so
-  -- to each item that doesn't beat it.
+  -- R holds for an item and each item that doesn't beat it, and so for the best item and each item.
+  -- If `beats` is an order, a list has a best item, and R holds for this item and each item.
   best_there : (R : A → A → Type 0) → ((x y : A) → beats y x ≡ false → R x y)
       → IsStrictWeakOrder beats → (x : A) (xs : List A)
       → (best : A) × (Contains (x ∷ xs) best × All (λ n. R best n) (x ∷ xs))

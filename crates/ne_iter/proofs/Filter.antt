@@ -118,7 +118,7 @@ module _ {S A B F : Type 0} (steps : S → Option A → S → Type 0)
       × DrainsIf steps (whole ≡ true) (filter_map_source s) xs
       × Calls calls (filter_map_callee s) xs os g × (ys ≡ filter_map (λ o. o) os)
 
-  -- what a call says that skipped items and then took o
+  -- the facts about a call that skipped items and then took o
   abbrev Drew : F → Option B → FilterMap S F → Option A → Type 0
   Drew f r t o = MatchOption o ((r ≡ None) × (filter_map_callee t ≡ f))
       (λ x. Called calls f (x, tt) r (filter_map_callee t) × IsSome r)

@@ -13,7 +13,7 @@ use Rattle.ne_iter.specs.SourceLists.{BecomesList}
 use Rattle.ne_iter.proofs.Flatten.{joined_prefixes}
 use Rattle.ne_iter.proofs.SourceLists.{lists_read, read_lists, becomes_read}
 
--- the sources that f returns give the lists that belong to the items, one after another
+-- the sources that f returns yield the lists that belong to the items, one after another
 lists_returned : {A W B F : Type 0} (reads : Bool → W → List B → Type 0)
     (calls : Mut F (A × Unit {0}) W) (f : F) (inner : A → List B)
     → ReturnsLists calls f (ReadsList reads) inner → (xs : List A) (us : List W) (p g : F)

@@ -24,7 +24,7 @@ use Rattle.ne_iter.proofs.SourceLists.{lists_read, read_lists, becomes_read}
 
 module _ {S U J A : Type 0} (steps : S → Option U → S → Type 0) (becomes : U → J → Type 0)
     (inner : J → Option A → J → Type 0) where
-  -- the inner iterator that is held, if there is one, gave ys
+  -- the inner iterator that is held, if there is one, yielded ys
   abbrev Front : Bool → Option J → List A → Type 0
   Front b o ys = MatchOption o (ys ≡ []) (λ j. DrainsIf inner (b ≡ true) j ys)
 
@@ -34,7 +34,7 @@ module _ {S U J A : Type 0} (steps : S → Option U → S → Type 0) (becomes :
       × DrainsIf steps (whole ≡ true) (flatten_source s) us
       × ReadsEach (Reads becomes inner) whole us yss × (zs ≡ ys ++ concat yss)
 
-  -- inner iterators that gave nothing
+  -- inner iterators that yielded nothing
   empties : (whole : Bool) (cs us : List U) (yss : List (List A))
       → FoldsTo {P = Unit {0}} (λ _ x _. (j : J) × (k : J) × becomes x j × inner j None k) tt cs tt
       → ReadsEach (Reads becomes inner) whole us yss → (e : List (List A))
@@ -200,7 +200,7 @@ module _ {S U J A : Type 0} (steps : S → Option U → S → Type 0) (becomes :
       let nothing : m.0 ≡ [] = subst (λ o. Front (whole || ltb 0 (length m.1)) o m.0) none m.3 in
       (m.1, m.2, m.4, m.5, m.6 ∙ ap (λ l. l ++ concat m.2) nothing)
 
--- lists given by sources, one after another: each source u is paired with an x, and gives `inner x`
+-- the lists of sources, one after another: each source is paired with an x, and yields `inner x`
 joined_prefix : {X U A : Type 0} (reads : Bool → U → List A → Type 0) (inner : X → List A)
     (whole : Bool) (xs : List X) (us : List U) (yss : List (List A))
     → AllZip (λ x u. ReadsList reads u (inner x)) xs us → ReadsEach reads whole us yss
@@ -230,7 +230,7 @@ joined_prefix reads inner whole (x ∷ z ∷ xs) (u ∷ v ∷ us) (ys ∷ yss) b
       others.2,
     )
 
--- the same, if only the first of all sources came
+-- the lists of sources, one after another, if only a prefix of the sources was yielded
 pub joined_prefixes : {X U A : Type 0} (reads : Bool → U → List A → Type 0) (inner : X → List A)
     (whole : Bool) (all xs : List X) (us : List U) (yss : List (List A)) → IsPrefix whole all xs
     → AllZip (λ x u. ReadsList reads u (inner x)) xs us → ReadsEach reads whole us yss
@@ -245,7 +245,7 @@ joined_prefixes reads inner whole all xs us yss f beside h =
           ap (λ l. l ++ flat_map inner f.0) a ∙ ap (flat_map inner) b,
     )
 
--- what holds for each item of a list holds for its first ones
+-- a fact that holds for each item of a list holds for each item of a prefix
 all_prefix : {A : Type 0} (P : A → Type 0) (xs more : List A) → All P (xs ++ more) → All P xs
 all_prefix P [] more all = All-nil P
 all_prefix P (x ∷ xs) more all = All-cons P x xs (All-head P x (xs ++ more) all)
@@ -253,7 +253,7 @@ all_prefix P (x ∷ xs) more all = All-cons P x xs (All-head P x (xs ++ more) al
 
 module _ {A U B : Type 0} (reads : Bool → U → List B → Type 0) (source : A → U)
     (lists : A → List B) where
-  -- the source of an item gives the item's list
+  -- the source of an item yields the item's list
   abbrev pub GivesOwnList : A → Type 0
   GivesOwnList x = ReadsList reads (source x) (lists x)
 
@@ -265,7 +265,7 @@ module _ {A U B : Type 0} (reads : Bool → U → List B → Type 0) (source : A
     own_lists xs (All-tail GivesOwnList x xs gives),
   )
 
-  -- lists given by the sources of items, if only the first of the items came
+  -- the lists of the sources of items, if only a prefix of the items was yielded
   pub joined_items : (whole : Bool) (all xs : List A) (yss : List (List B)) → All GivesOwnList all
       → IsPrefix whole all xs → ReadsEach reads whole (map source xs) yss
       → IsPrefix whole (flat_map lists all) (concat yss)
@@ -273,7 +273,7 @@ module _ {A U B : Type 0} (reads : Bool → U → List B → Type 0) (source : A
       joined_prefixes reads lists whole all xs (map source xs) yss f
       (own_lists xs (all_prefix GivesOwnList xs f.0 (subst (All GivesOwnList) f.1 gives))) h
 
--- the same for sources themselves
+-- the lists of sources that are themselves the items, if only a prefix was yielded
 pub joined_sources : {U B : Type 0} (reads : Bool → U → List B → Type 0) (lists : U → List B)
     (whole : Bool) (all us : List U) (yss : List (List B))
     → All (λ u. ReadsList reads u (lists u)) all → IsPrefix whole all us

@@ -1,4 +1,4 @@
--- What the calls of a closure return if it acts as a function.
+-- The results of the calls of a closure that acts as a function.
 use Rattle.std.proofs.Common.{sym, subst, ap}
 use Rattle.std.specs.Prelude.{◌≡◌, List, [], ◌∷◌, map, refl}
 use Rattle.std.specs.Borrow.{Bor}

@@ -22,7 +22,7 @@ use Rattle.ne_iter.proofs.Cloned.{only_ok}
 
 module _ {S A E : Type 0} (steps : S → Option A → S → Type 0) (tries : A → Result A E → Type 0)
     (separator : A) where
-  -- zs were given since x was held, and xs are the items after it
+  -- zs were yielded since x was held, and xs are the items after x
   abbrev Behind : Bool → A → S → List (Result A E) → Type 0
   Behind whole x s zs = (xs : List A) × (more : List (Result A E))
       × DrainsIf steps ((whole && list_all is_ok zs) ≡ true) s xs
@@ -51,7 +51,7 @@ module _ {S A E : Type 0} (steps : S → Option A → S → Type 0) (tries : A �
   no_item s t (None, st, h) = st
   no_item s t (Some x, st, h) = absurd h
 
-  -- what cloning the separator returned, and y is the item after it
+  -- the result of cloning the separator is returned, and y is the item after it
   abbrev Came : RawIntersperse S A → Result A E → RawIntersperse S A → A → Type 0
   Came s c t y = steps (drawn_from s) (Some y) (drawn_from t) × tries (clones_of s) c
       × MatchResult c (λ _. (in_hand t ≡ Some y) × (is_over t ≡ false)) (λ _. is_over t ≡ true)
@@ -61,7 +61,7 @@ module _ {S A E : Type 0} (steps : S → Option A → S → Type 0) (tries : A �
   an_item s t c (None, st, h) = absurd (none-some c (sym h.0))
   an_item s t c (Some y, st, h) = (y, (st, h.0, h.1))
 
-  -- after a failed clone nothing comes
+  -- after a failed clone nothing is yielded
   silent : (W : Type 0) (s : RawIntersperse S A) (zs : List (Result A E)) → is_over s ≡ true
       → DrainsIf Next W s zs → zs ≡ []
   silent W s [] over run = refl

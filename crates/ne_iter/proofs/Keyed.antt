@@ -1,5 +1,5 @@
--- Items with their keys: what the calls of a closure that pairs an item with its key say about the
--- calls for the key, and which of the pairs is kept by their keys.
+-- Items with their keys: from the calls of a closure that pairs an item with its key to the calls
+-- for the key, and the pair that is kept by the keys.
 use Rattle.std.proofs.Common.{ap, subst, ◌∙◌, refl}
 use Rattle.std.specs.Prelude.{◌≡◌, Bool, true, false, cond, List, [], ◌∷◌, map, Option}
 use Rattle.std.specs.Borrow.{Bor}
@@ -19,7 +19,7 @@ module _ {A B F G : Type 0} (key_calls : Mut F (Bor A × Unit {0}) B)
     (pairs : Mut G (A × Unit {0}) (B × A)) (key_of : G → F)
     (each : (f : G) (x : A) (p : B × A) (g : G) → Called pairs f (x, tt) p g
     → (x ≡ p.1) × CalledAt key_calls (key_of f) x p.0 (key_of g)) where
-  -- the pairs are made of the items that came and the keys returned for them
+  -- the pairs are made of the items that were yielded and the keys returned for them
   pub CallsEachAt-pairs : (f : G) (xs : List A) (ps : List (B × A)) (g : G) → Calls pairs f xs ps g
       → (xs ≡ map (λ p. p.0) (map keyed ps))
       × CallsEachAt key_calls (key_of f) (map keyed ps) (key_of g)
@@ -39,7 +39,7 @@ module _ {A B F G : Type 0} (key_calls : Mut F (Bor A × Unit {0}) B)
   called_each f (x ∷ xs) g (h, one, rest) =
       (key_of h, (one.0.0, (each f x one.0 h one.1).1), called_each h xs g rest)
 
-  -- it may be called with each item with which the key may be computed
+  -- the closure that makes pairs may be called with each item whose key may be computed
   pub CallableOnAll-pairs : ((f : G) (x : A)
       → TakesAt key_calls (key_of f) x → Takes pairs f (x, tt))
       → {S : Type 0} (steps : S → Option A → S → Type 0) (it : S) (f : G)

@@ -22,7 +22,7 @@ use Rattle.ne_iter.proofs.FunctionCalls.{values_at}
 use Rattle.ne_iter.proofs.SourceLists.{each_view, read_through}
 use Rattle.ne_iter.proofs.Traced.{unbeaten_at, whole_run_of}
 
--- if no call changes f, it was called for each item as it is
+-- if no call changes f, each call was a call of f itself
 called_at : {A B F : Type 0} (calls : Mut F (Bor A × Unit {0}) B) (f : F)
     → CallKeepsClosure calls f → (ps : List (A × B)) (g : F) → CallsEachAt calls f ps g
     → (i : ℕ) (p : A × B) → slice_get ps i ≡ Some p → CalledAt calls f p.0 p.1 f
@@ -120,7 +120,7 @@ module _ {A B F : Type 0} (calls : Mut F (Bor A × Unit {0}) B) (f : F) (beats :
     unbeaten_at (λ p q. beats p.1 q.1) ps (m, k) best.0 best.1 best.2 i (Some p) here,
   )
 
-  -- the item is in a run that gave the items, and no key there beats its key
+  -- the item is in a run that yielded the items, and no key there beats its key
   pub best_key_run_of : {U S : Type 0} {becomes : U → S → Type 0}
       {steps : S → Option A → S → Type 0} {u : U} → Reads becomes steps true u (items_of ps)
       → RunsWhole becomes steps u (λ p. AnyItem p (λ x. x ≡ m) × NoKeyBeats p calls f beats m)

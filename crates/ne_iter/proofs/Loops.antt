@@ -1,5 +1,5 @@
--- A loop over the items after the first one, and what its run says about the whole source. `begun`
--- is the loop's iterator, and `left` is the iterator after the first item.
+-- A loop over the items after the first one, and facts about the whole source from the loop.
+-- `begun` is the loop's iterator, and `left` is the iterator after the first item.
 use Rattle.std.proofs.Common.{subst}
 use Rattle.std.specs.Prelude.{◌≡◌, true, false, List, [], ◌∷◌, ◌++◌, Option, Some, None, refl}
 use Rattle.std.specs.Iterator.{Yields}

@@ -1,4 +1,4 @@
--- What is made of a prefix of a list, and of a list of `Result`s.
+-- The values made of a prefix of a list, and of a list of `Result`s.
 use Rattle.std.proofs.Common.{refl, ap, subst, ◌∙◌}
 use Rattle.std.specs.Prelude.{◌≡◌, Bool, true, false, List, [], ◌∷◌, ◌++◌, map, Result, Ok, Err}
 use Rattle.std.specs.Bool.{MatchBool}
@@ -14,7 +14,7 @@ module _ {T V : Type 0} (collected : List T → V → Type 0) (v : V) (xs ys : L
   prefix_made true f h = subst (λ l. collected l v) (whole_prefix xs ys f) h
   prefix_made false f h = (ys, f.0, f.1, h)
 
-  -- the first items made v; if v is complete, all items did
+  -- a prefix of the items made v; if v is complete, all items made v
   pub prefix_makes : (is_complete : V → Bool) → IsPrefix (is_complete v) xs ys → collected ys v
       → PrefixMakes collected is_complete xs v
   prefix_makes is_complete f h = prefix_made (is_complete v) f h
@@ -30,7 +30,7 @@ module _ {T E : Type 0} where
   first_err (v ∷ vs) e more =
       ap (result_map_both (λ xs. v ∷ xs) (λ e. e)) (first_err vs e more)
 
-  -- an `Err` after values is the first one, whatever comes after it
+  -- an `Err` after values is the first one, whatever items follow it
   pub first_err_at : (items : List (Result T E)) (values : List T) (e : E)
       → items ≡ map Ok values ++ Err e ∷ [] → (more : List (Result T E))
       → values_or_first_err (items ++ more) ≡ Err e

@@ -209,7 +209,7 @@ module _ {A : Type 0} (test : A → Bool) where
   drop_passed (u ∷ us) l h =
       ap (λ n. drop n (u ∷ (us ++ l))) (prefix_pass u (us ++ l) h.0) ∙ drop_passed us l h.1
 
-  -- up to the first item that doesn't pass, if it came
+  -- up to the first item that doesn't pass, if it was yielded
   pub drop_passed_prefix : (whole : Bool) (xs us ys : List A)
       → AllByRecursion (λ x. test x ≡ true) us → FailsTest test ys
       → IsPrefix whole xs (us ++ ys) → IsPrefix whole (drop (prefix_len test xs) xs) ys

@@ -1,4 +1,4 @@
--- What the iterators over the runs of a slice give.
+-- The runs that the iterators over the runs of a slice yield.
 use Rattle.std.proofs.Common.{◌≡◌, ◌<◌, Bool, true, List, [], ◌++◌, length, subst}
 use Rattle.std.specs.Borrow.{Bor}
 use Rattle.std.specs.Fn.{Shared}

@@ -1,4 +1,4 @@
--- The order of items by a key, for what a view makes of the items.
+-- The order of items by a key, for the items through a view.
 use Rattle.std.proofs.Common.{arith, ap, sym, subst, ◌∙◌}
 use Rattle.std.proofs.lemmas.List.{get_or-map, length-map}
 use Rattle.std.specs.Prelude.{◌≡◌, ◌<◌, Bool, true, false, List, [], ◌∷◌, refl, map, filter}

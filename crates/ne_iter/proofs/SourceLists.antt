@@ -1,4 +1,4 @@
--- From what a source reads to the list that it yields, and back.
+-- From the readings of a source to the list that it yields, and back.
 use Rattle.std.proofs.Common.{arith, sym, subst, ap, ◌∙◌, refl, append-nil, map-id}
 use Rattle.std.proofs.lemmas.Iterator.Adapters.{option_map_id}
 use Rattle.std.proofs.lemmas.Bool.{OnFalse_from}
@@ -39,7 +39,7 @@ prefix_of whole xs us within ends places =
     same_Some _ _ (sym (ap (option_map (λ y. y)) (slice_get-get_or us k d l)) ∙ places k d l)) in
     (b.0, b.1, λ w. b.2 (ends w))
 
--- the same for what `view` makes of the items
+-- a list whose items, through `view`, are those of xs at the same places is a prefix of xs
 pub viewed_prefix_of : {A B : Type 0} (view : A → B) (whole : Bool) (xs : List B) (us : List A)
     → length us ≤ length xs → (whole ≡ true → length us ≡ length xs)
     → ((k : ℕ) (d : B) → k < length us
@@ -102,7 +102,7 @@ module _ {U S A : Type 0} (becomes : U → S → Type 0) (steps : S → Option A
         viewed_prefix_of view.of whole xs ys f.0 f.1 f.2
 
     module _ (xs : List A) (lists : Lists becomes steps (λ x. x) u xs) (P : List A → Type 0) where
-      -- what holds for a list that was read to its end holds for the list that is given
+      -- what holds for a list that was read to its end holds for the list that is yielded
       pub of_read : (ys : List A) → Reads becomes steps true u ys → P ys → P xs
       of_read ys read = subst P (whole_prefix xs ys (lists_read xs lists true ys read))
 
@@ -117,7 +117,7 @@ module _ {U S A : Type 0} (becomes : U → S → Type 0) (steps : S → Option A
           (run_drains steps p it from) in
           subst P (sym (f.1 ∙ ap (λ l. p.items ++ l) (f.2 whole) ∙ append-nil p.items))
 
--- a value that becomes a source reads what that source does
+-- a value that becomes a source may read each list that the source may read
 module _ {W R V T A : Type 0} (meets : W → R → Type 0) (other : R → Option A → R → Type 0)
     (makes : W → V → Type 0) (becomes : V → T → Type 0) (steps : T → Option A → T → Type 0)
     (same : SameLists meets other makes becomes steps) (w : W) where
@@ -145,7 +145,7 @@ each_view {becomes = becomes} {steps = steps} {u = u} P view law = (
       (triggered u xs, law view xs (reads_through becomes steps u view.of xs known))),
 )
 
--- an iterator of std, which becomes itself: what its runs give
+-- an iterator of std, which becomes itself: the items that its runs yield
 pub yields_prefixes : {T B : Type 0} {next : T → Option B → T → Type 0} (v : T) (ys : List B)
     → ReadsList (Reads (λ s it. it ≡ s) next) v ys → YieldsPrefixes next ys v
 yields_prefixes v ys list = (read_lists _ _ v ys list).1 v refl
@@ -159,7 +159,7 @@ std_yields {next = next} view v ys list p seen from =
     let l = lists p view.of ys prefix.0 (λ w. ap length (prefix.2 w)) prefix.1 in
     (l.4, (l.0, l.1, l.6, l.7))
 
--- the same, if the result is an iterator of std
+-- what holds for each view, if the result is an iterator of std
 pub each_kept : {U S T A : Type 0} {becomes : U → S → Type 0} {steps : S → Option A → S → Type 0}
     {u : U} (next : T → Option A → T → Type 0) (it : T)
     (P : (view : View A) → List view.Target → (List view.Target → Type 0) → Type 0) (view : View A)

@@ -1,4 +1,4 @@
--- What a source reads, as a run in std's terms.
+-- The readings of a source, as runs in std's terms.
 use Rattle.std.proofs.Common.{refl, subst, sym, ap, arith}
 use Rattle.std.proofs.iter.runs.Made.{run, took}
 use Rattle.std.proofs.lemmas.Option.{slice_get_within, get_or_from_slice_get}
@@ -29,7 +29,7 @@ module _ {A : Type 0} (beats : A → A → Bool) (xs : List A) (m : A) (place : 
       (subst (λ y. beats y (slice_index_or xs place x) ≡ false) (get_or_from_slice_get xs k x x e)
       (best.1 k x (slice_get_within xs k x e)))
 
-  -- the best item of a list is an item of a run that gave the list, and no item beats it
+  -- the best item of a list is an item of a run that yielded the list, and no item beats it
   pub best_run_of : {U S : Type 0} {becomes : U → S → Type 0} {steps : S → Option A → S → Type 0}
       {u : U} → Reads becomes steps true u xs
       → RunsWhole becomes steps u (λ p. AnyItem p (λ x. x ≡ m)

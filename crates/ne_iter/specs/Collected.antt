@@ -35,7 +35,7 @@ module _ {T V : Type 0} (collected : List T → V → Type 0) (is_complete : V �
       ((prefix : List T) × (more : List T) × (items ≡ prefix ++ more) × collected prefix v)
 
   -- An `Err` is the last item, so it is the first `Err` of each list that begins with the items.
-  -- The result is `Ok` of what the values make if each item is `Ok`, and otherwise the first `Err`.
+  -- The result is `Ok` of the value made if each item is `Ok`, and otherwise the first `Err`.
   abbrev pub ResultsMake : {E : Type 0} → List (Result T E) → Result V E → Type 0
   ResultsMake {E} items result = MatchResult result
       (λ v. (values : List T) × (items ≡ map Ok values)

@@ -24,7 +24,7 @@ module _ {A : Type 0} (less : A → A → Bool) where
   IsFirstGreatest xs m = (place : ℕ) × IsFirstBest (λ x y. less y x) xs (length xs) place
       × (slice_get xs place ≡ Some m)
 
-  -- m is the first least item of xs: no item is less, and it is less than each item before it.
+  -- m is the first least item of xs: no item is less than m, which is less than each before it.
   abbrev pub IsFirstLeast : List A → A → Type 0
   IsFirstLeast xs m = (place : ℕ) × IsFirstBest less xs (length xs) place
       × (slice_get xs place ≡ Some m)

@@ -1,4 +1,4 @@
--- What `filter` and `filter_map` yield.
+-- The items that `filter` and `filter_map` yield.
 use Rattle.std.specs.Prelude.{◌≡◌, Bool, List, Option, filter, filter_map}
 use Rattle.std.specs.Fn.{Mut}
 use Rattle.std.specs.Borrow.{Bor}
@@ -9,7 +9,7 @@ module _ {U A : Type 0} (reads : Bool → U → List A → Type 0) where
   -- xs are the source's items for which f returns true.
   pub record IsFiltered {F : Type 0} (calls : Mut F (Bor A × Unit {0}) Bool) (source : U) (f : F)
       (whole : Bool) (xs : List A) : Type 0 where
-    -- each item with what f returned for it
+    -- each item with the result of f for it
     pub tested : List (A × Bool)
     pub f_then : F
     pub read : reads whole source (items_of tested)

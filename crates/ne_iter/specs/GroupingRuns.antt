@@ -19,8 +19,8 @@ IsOver g = g.ahead ≡ Ended
 
 module _ {S K A F : Type 0} (steps : S → Option A → S → Type 0) (calls : Mut F (Bor A × Unit {0}) K)
     (eq : K → K → Bool) where
-  -- There are three cases: nothing was taken, or the items are divided into the runs and one more,
-  -- of the item that is held, or the source has ended and the items are divided into the runs.
+  -- If nothing was taken, there are no runs. If an item is held, the runs and one of only this item
+  -- are the division of the items. If the source has ended, the runs are the division of the items.
   -- The items taken, each with its key, took the source from s to t.
   abbrev pub StandsAt : Ahead K A → S → List (A × K) → S → List (List (A × K)) → Type 0
   StandsAt Unread s drawn t runs = (drawn ≡ []) × (runs ≡ []) × (s ≡ t)

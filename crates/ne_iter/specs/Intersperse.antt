@@ -27,9 +27,8 @@ intersperse_rest s = s.rest
 abbrev pub intersperse_separator : {S X : Type 0} → Intersperse S X → X
 intersperse_separator s = s.separator
 
--- `clones` holds for what a clone of the separator may return. zs end at the first clone that
--- failed.
--- zs are the items xs, each in `Ok`, with what cloning the separator returned between each two.
+-- `clones` holds for each result of cloning the separator. zs end at the first clone that failed.
+-- zs are the items xs, each in `Ok`, with a result of cloning the separator between each two.
 abbrev pub Interspersed : {A E : Type 0} → (Result A E → Type 0) → List A → List (Result A E)
     → Type 0
 Interspersed clones [] zs = zs ≡ []
@@ -97,8 +96,8 @@ module _ {S A E : Type 0} (steps : S → Option A → S → Type 0) (tries : A �
       pub in_hand_then : in_hand t ≡ None
       pub is_on : is_over t ≡ false
 
-    -- If a clone failed, it returns `None` and takes nothing. `DrawsNext` holds if no item is held.
-    -- One call of `next` returns the item that is held, or what cloning the separator returned.
+    -- After a failed clone, the call returns `None`. If no item is held, the call is `DrawsNext`.
+    -- One call of `next` returns the item that is held, or the result of cloning the separator.
     abbrev pub InterspersesNext : RawIntersperse S A → Option (Result A E) → RawIntersperse S A
         → Type 0
     InterspersesNext s r t = (clones_of t ≡ clones_of s)

@@ -1,5 +1,5 @@
--- The iterators over maps and sets that have an entry return one first, and give all entries that
--- they have left.
+-- Proofs, for the crates of maps and sets, that their iterators yield all entries that they have
+-- left, and yield an entry first if there is one.
 use Rattle.std.proofs.Common.{arith, ap, subst, refl, ◌≡◌, ◌<◌, ◌∙◌, length, List, map}
 use Rattle.std.specs.Map.Iter.{LendsFirst, TakesFirst}
 use Rattle.ne_vec.specs.Lists.{IsPrefix, Listed, Lists}
@@ -8,7 +8,7 @@ use Rattle.ne_iter.specs.KeyIterators.{IteratesKnown}
 use Rattle.ne_iter.specs.Sources.{HasFirst, SameLists}
 use Rattle.ne_iter.specs.SourceLaws.{SameLists-through}
 
--- an iterator whose value is the list of what it has left
+-- an iterator whose value is the list of the entries that it has left
 pub HasFirst-entries : {A X : Type 0} (shows : A → X) (it : List X) → 0 < length it
     → HasFirst (TakesFirst shows) it
 HasFirst-entries shows it some t ended = omega (arith, some, ap length ended.0)

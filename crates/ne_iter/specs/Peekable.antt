@@ -23,7 +23,7 @@ abbrev pub with_head : {A : Type 0} → A → List A → List A
 with_head x [] = []
 with_head x (y ∷ xs) = x ∷ xs
 
--- w is what was written to the first item, or the first item itself.
+-- w is the item last written to the first place, or the first item itself.
 -- `peekable` yields the source's items, the first one as it was last written.
 abbrev pub PeekableGives : {U I A : Type 0} → (Bool → U → List A → Type 0)
     → (Bool → Peekable I A → List A → Type 0) → U → Peekable I A → Type 0

@@ -18,7 +18,7 @@ abbrev pub scan_callee : {I S F : Type 0} → Scan I S F → F
 scan_callee s = s.f
 
 module _ {U A : Type 0} (reads : Bool → U → List A → Type 0) where
-  -- The state is init at the first call, and at each later one what the call before left.
+  -- The state is init at the first call. Each later call takes the state that the call before left.
   -- ys are the results of f, called with the source's items in order and a `&mut` to a state.
   pub record IsScanned {S B F : Type 0}
       (calls : Mut F (MutBor S × (A × Unit {0})) (B × (MutBor S × Unit {0}))) (source : U)
@@ -41,7 +41,7 @@ callee_of s = s.f
 
 module _ {I S A B F : Type 0} (steps : I → Option A → I → Type 0)
     (calls : Mut F (MutBor S × (A × Unit {0})) (B × (MutBor S × Unit {0}))) where
-  -- One call of `next` returns what the closure returns for the next item, or `None` at the end.
+  -- One call of `next` returns the closure's result for the next item, or `None` at the end.
   abbrev pub ScansNext : ScanIter I S F → Option B → ScanIter I S F → Type 0
   ScansNext s r t = MatchOption r
       (steps (scanned_from s) None (scanned_from t)

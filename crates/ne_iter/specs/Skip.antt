@@ -1,4 +1,4 @@
--- What `skip` and `skip_while` yield.
+-- The items that `skip` and `skip_while` yield.
 use Rattle.std.specs.Prelude.{◌≡◌, ℕ, Bool, true, false, List, [], ◌∷◌, ◌++◌, ⊤, drop}
 use Rattle.std.specs.Fn.{Mut, CalledAt}
 use Rattle.std.specs.Borrow.{Bor}
@@ -14,7 +14,7 @@ module _ {U A : Type 0} (reads : Bool → U → List A → Type 0) where
   -- ys are the source's items from the first one for which f returns false.
   pub record IsSkippedWhile {F : Type 0} (calls : Mut F (Bor A × Unit {0}) Bool) (source : U)
       (f : F) (whole : Bool) (ys : List A) : Type 0 where
-    -- the items before that one
+    -- the items before the first one for which f returns false
     pub skipped : List A
     pub f_then : F
     pub read : reads whole source (skipped ++ ys)

@@ -1,6 +1,6 @@
--- What a method says about the list that its source yields. `grind` uses such a fact if it finds a
--- term that matches the first call in its conclusion. For this, the conclusion has the trigger of
--- the source and its list (`list_trigger`), or an equation of the new list with itself (`Naming`).
+-- The forms of clauses about the list that a source yields. `grind` finds such a clause by the
+-- trigger of the source and its list (`list_trigger`), or by an equation of the new list with
+-- itself (`Naming`).
 use Rattle.std.specs.Prelude.{◌≡◌, ℕ, ◌<◌, ◌≤◌, ◌∷◌, drop, map, true, Some, List, length, Option}
 use Rattle.std.specs.Prelude.{slice_index_or}
 use Rattle.std.specs.Iterator.Runs.{Run, EachRunFrom}

@@ -1,11 +1,11 @@
--- What a source of items may yield, and the two laws of sources.
+-- The lists that a source of items may yield, and the two laws of sources.
 use Rattle.std.specs.Prelude.{◌≡◌, Bool, true, List, Option, Some, None, map, ◌+◌, ◌∷◌}
 use Rattle.std.specs.Iterator.{Count, DrainsIf, MakesProgress}
 use Rattle.std.specs.Iterator.Runs.{EachRunFrom, Run, SomeRun, WholeRun}
 use Rattle.ne_vec.specs.Lists.{IsPrefix}
 
 -- `becomes` is the `into_iter_gives` of the source, and `steps` the `next_gives` of its iterator.
--- The source u may yield the items xs first, in this order. If whole is true, it may then end.
+-- The source u may yield the items xs first, in this order. If `whole` is true, u may then end.
 pub record Reads {U S A : Type 0} (becomes : U → S → Type 0) (steps : S → Option A → S → Type 0)
     (whole : Bool) (u : U) (xs : List A) : Type 0 where
   pub it : S
@@ -21,7 +21,7 @@ EachReading {A = A} reads u P = (whole : Bool) (xs : List A) → reads whole u x
 abbrev pub HasFirst : {S A : Type 0} → (S → Option A → S → Type 0) → S → Type 0
 HasFirst {S = S} steps it = (t : S) → steps it None t → ⊥
 
--- Never empty: the first call of any iterator that such a source becomes returns an item.
+-- Never empty: the first call of any iterator that a source becomes returns an item.
 abbrev pub IsNonEmpty : {U S A : Type 0} → (U → S → Type 0) → (S → Option A → S → Type 0) → Type 0
 IsNonEmpty {U} {S} becomes steps = (u : U) (it : S) → becomes u it → HasFirst steps it
 

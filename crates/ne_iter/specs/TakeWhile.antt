@@ -1,4 +1,4 @@
--- What `take_while` yields.
+-- The items that `take_while` yields.
 use Rattle.std.specs.Prelude.{Bool, true, false, List, [], ◌∷◌, ◌++◌}
 use Rattle.std.specs.Fn.{Mut, CalledAt}
 use Rattle.std.specs.Borrow.{Bor}
@@ -6,7 +6,7 @@ use Rattle.std.proofs.Common.{◌⊎◌}
 use Rattle.ne_iter.specs.Calls.{ReturnsEachAt}
 
 module _ {U A : Type 0} (reads : Bool → U → List A → Type 0) where
-  -- After the items xs an item came, and f, called with a reference to it, returned false.
+  -- The source yielded an item after xs, and f, called with a reference to it, returned false.
   pub record FailsAtItem {F : Type 0} (calls : Mut F (Bor A × Unit {0}) Bool) (source : U)
       (xs : List A) (f : F) : Type 0 where
     pub item : A

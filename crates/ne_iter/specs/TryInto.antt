@@ -1,4 +1,4 @@
--- What `try_into_nonempty_iter` returns.
+-- The result of `try_into_nonempty_iter`.
 use Rattle.std.specs.Prelude.{◌≡◌, Option, MatchOption, IfSome, List, [], ◌∷◌, Bool, true, false}
 use Rattle.std.specs.Prelude.{◌<◌, length}
 use Rattle.std.specs.Iterator.Runs.{EachRunFrom, IsIdenticalRun}

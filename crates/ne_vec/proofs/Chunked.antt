@@ -23,7 +23,7 @@ no_items : {X : Type 0} (xs : List X) → length xs ≡ 0 → xs ≡ []
 no_items [] e = refl
 no_items (x ∷ xs) e = absurd (Prim.omega (arith, e))
 
--- ---- how many there are
+-- ---- the number of chunks
 
 pub chunks_counted : {X : Type 0} (n : ℕ) (xs : List X)
     → length (chunks n xs) ≡ chunk_count (length xs) n
@@ -74,7 +74,7 @@ one_more n m p q =
     parts_up m n p ∙ ap (λ k. k / n) split ∙ add-div_right (m - 1) p ∙ add-one _
     ∙ ap suc (behind ∙ sym (parts_up (m - n) n p))
 
--- ---- the first one
+-- ---- the first chunk
 
 next_chunk : {X : Type 0} (n : ℕ) (xs : List X) (j : ℕ) → chunk n xs (j + 1) ≡ chunk n (drop n xs) j
 next_chunk n xs j =
@@ -106,7 +106,7 @@ whole : {X : Type 0} (n : ℕ) (xs : List X) → length xs ≤ n → take n xs �
 whole n xs h = sym (append-nil (take n xs)) ∙ ap (λ ys. take n xs ++ ys)
     (sym (drop_of_length-le xs h)) ∙ take-append-drop n xs
 
--- what std's iterator cuts off is the first chunk, and it has the others left
+-- std's iterator cuts off the first chunk, and has the others left
 pub first_chunk : {X : Type 0} (n m : ℕ) (xs part left : List X) → 0 < n → m ≡ n → 0 < length xs
     → xs ≡ part ++ left → length part ≡ min n (length xs) → chunks n xs ≡ part ∷ chunks m left
 first_chunk n m xs part left p same q e l =
@@ -128,7 +128,7 @@ first_chunk n m xs part left p same q e l =
     chunks_step n xs p q ∙ ap (λ y. y ∷ chunks n (drop n xs)) prefix
     ∙ ap (λ ys. part ∷ chunks n ys) back ∙ ap (λ k. part ∷ chunks k left) (sym same)
 
--- ---- all of them
+-- ---- all chunks
 
 joined_up_to : {X : Type 0} (m n : ℕ) (xs : List X) → 0 < n → length xs ≤ m
     → concat (chunks n xs) ≡ xs

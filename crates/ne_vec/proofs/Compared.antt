@@ -37,7 +37,7 @@ both_some_equal (Some Less) p e = absurd cc
 both_some_equal (Some Equal) p e = (refl, e)
 both_some_equal (Some Greater) p e = absurd cc
 
--- Lists compare by what follows items that tie at each place.
+-- Items that tie at each place are passed over: lists compare as the items after them.
 module _ {A : Type 0} (cmp : A → A → Ordering) where
   abbrev pub Tie : List A → List A → Type 0
   Tie v w = AllZip (λ a b. cmp a b ≡ Equal) v w
@@ -91,7 +91,7 @@ module _ {A : Type 0} (cmp : A → A → Ordering) where
   pub ties_equal : (v w : List A) → (slice_cmp cmp v w ≡ Equal) ↔ Tie v w
   ties_equal v w = (ties_from v w, ties_to v w)
 
--- The same, if two items may have no order.
+-- Items that tie at each place are passed over, also if two items may have no order.
 module _ {A : Type 0} (cmp : A → A → Option Ordering) where
   abbrev pub PartlyTie : List A → List A → Type 0
   PartlyTie v w = AllZip (λ a b. cmp a b ≡ Some Equal) v w

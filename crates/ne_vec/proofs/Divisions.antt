@@ -1,11 +1,11 @@
--- The division of a list as a function, that there is no other, and what further items change.
+-- The division of a list as a function. There is no other division; further items extend it.
 use Rattle.std.proofs.Common.{◌≡◌, ◌≢◌, Bool, true, false, cond, List, [], ◌∷◌, ◌++◌, refl, sym, ap}
 use Rattle.std.proofs.Common.{subst, ◌∙◌, ◌⊎◌, inl, inr, append_assoc, append-nil}
 use Rattle.std.specs.List.{AllByRecursion}
 use Rattle.ne_vec.specs.Divisions.{concat, Adjacent, IsRun, Breaks, IsDivision, runs_from}
 use Rattle.ne_vec.proofs.Lists.{nil_is_no_append, head_is, tail_is}
 
--- where the last item of a list is in a split of it
+-- an item y in a split of the list r, followed by x, is x itself or an item of r
 split_last : {A : Type 0} (r prefix : List A) (x y : A) (back : List A)
     → r ++ x ∷ [] ≡ prefix ++ y ∷ back → ((prefix ≡ r) × (y ≡ x))
     ⊎ ((inner : List A) × (r ≡ prefix ++ y ∷ inner))
@@ -34,7 +34,7 @@ module _ {A : Type 0} (goes_on : List A → A → Bool) where
       → runs_from goes_on r (x ∷ xs) ≡ r ∷ runs_from goes_on (x ∷ []) xs
   cut_off r x xs e = rw e refl
 
-  -- ---- it is a division
+  -- ---- the function makes a division
 
   pub run_one : (x : A) → IsRun goes_on (x ∷ [])
   run_one x = record {
@@ -108,7 +108,7 @@ module _ {A : Type 0} (goes_on : List A → A → Bool) where
     breaks = breaks_cut (x ∷ []) xs;
   }
 
-  -- ---- and there is no other
+  -- ---- there is no other division
 
   cut_only : (xs r s t : List A) (rs : List (List A)) → t ≡ r ++ s → r ≢ [] → s ++ concat rs ≡ xs
       → IsRun goes_on t → AllByRecursion (IsRun goes_on) rs → Adjacent (Breaks goes_on) (t ∷ rs)

@@ -27,7 +27,7 @@ drop_at (y ∷ xs) zero x e = (xs, let e = e in cc)
 drop_at (y ∷ xs) (suc n) x e = drop_at xs n x e
 
 module _ {A F : Type 0} (calls : Shared F (Bor A × (Bor A × Unit {0})) Bool) where
-  -- a closure that may be called with any two items may be so with any two that remain
+  -- a closure that may be called with any two items may be called with any two of those that remain
   pub callable_later : (f : F) (xs : List A) (n : ℕ)
       → CallableAtPairs calls f xs → CallableAtPairs calls f (drop n xs)
   callable_later f xs n callable =
@@ -53,7 +53,7 @@ module _ {A : Type 0} (goes_on : List A → A → Bool) where
       (subst (IsRun goes_on) (sym (take_one_more xs n x e))
       (run_more goes_on (take n xs) x run on))
 
-  -- if it doesn't, the run ends there
+  -- if the item at place n doesn't continue the run, the run ends there
   pub run_breaks : (xs : List A) (n : ℕ) (x : A) → slice_get xs n ≡ Some x
       → IsRun goes_on (take n xs) → goes_on (take n xs) x ≡ false → IsFirstRun goes_on xs n
   run_breaks xs n x e run off =
@@ -105,7 +105,7 @@ module _ {A : Type 0} (goes_on : List A → A → Bool) where
     breaks = breaks_before run rest all breaks d;
   }
 
--- the runs that came, followed by the division of the items left
+-- the runs that were yielded, followed by the division of the items left
 pub runs_before : {A F : Type 0} (calls : Shared F (Bor A × (Bor A × Unit {0})) Bool)
     (place : (A → A → Bool) → List A → A → Bool) (same : A → A → Bool)
     (s t : Cutting A F) (rs all : List (List A))

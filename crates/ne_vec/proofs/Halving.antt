@@ -1,4 +1,4 @@
--- What a binary search knows after each step, and what it requires of its closure.
+-- The invariant of a binary search, and the precondition on its closure.
 use Rattle.std.proofs.Common.{◌≡◌, ◌⊎◌, inl, inr, ℕ, zero, suc, ◌+◌, ◌<◌, ◌≤◌, Bool, true, false}
 use Rattle.std.proofs.Common.{List, [], ◌∷◌, length, refl, sym, ap, subst, arith}
 use Rattle.std.specs.Prelude.{slice_index_or, All, Contains}
@@ -25,7 +25,7 @@ module _ {F A R : Type 0} (calls : Mut F (Bor A × Unit {0}) R) (xs : List A) wh
       callable (x ∷ shown) h (all_cons (Contains xs) x shown (i, inside, sym read) among)
       (g, (r, called), folds)
 
-  -- it may be called with the item at a place
+  -- the closure may be called with the item at a place
   pub items_take : (f : F) (i : ℕ) (x : Bor A) → i < length xs
       → x.now ≡ slice_index_or xs i x.now → CallableAtItems calls f xs → calls.pre f (x, tt)
   items_take f i x inside read callable =
@@ -39,7 +39,7 @@ module _ {F A R : Type 0} (calls : Mut F (Bor A × Unit {0}) R) (xs : List A) wh
       stays_callable shown j g later
       (mut_next calls f (called.shown, tt) r j j called.called refl always)
 
-  -- it may be called with the items if it may be called with any value
+  -- the closure may be called with the items if it may be called with any value
   pub items_always : (f : F) → always_mut calls f → CallableAtItems calls f xs
   items_always f always shown g among folds k d inside y read =
       ((stays_callable shown f g folds always).at ((y, tt) ∷ [])).0

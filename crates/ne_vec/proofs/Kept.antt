@@ -1,4 +1,4 @@
--- What `retain_mut` and `dedup_by` keep.
+-- The items that `retain_mut` and `dedup_by` keep.
 use Rattle.std.proofs.Common.{◌≡◌, ◌<◌, Bool, true, false, cond, List, [], ◌∷◌, ◌++◌, length, map}
 use Rattle.std.proofs.Common.{refl, ap, subst, ◌∙◌, arith}
 use Rattle.std.specs.List.{filter, dedup, dedup_from}
@@ -58,7 +58,7 @@ module _ {A : Type 0} (same : A → A → Bool) where
         | false ↦ ap (λ l. k ∷ l) (firsts_from xs x [])
       ]
 
-  -- what `dedup` keeps are the first items of the runs
+  -- the items that `dedup` keeps are the first items of the runs
   pub keeps_firsts : (xs ys : List A) → ys ≡ dedup same xs → KeepsFirsts same xs ys
   keeps_firsts [] ys e = ([], divides goes_on [], e)
   keeps_firsts (x ∷ xs) ys e = (

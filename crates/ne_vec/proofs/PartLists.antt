@@ -1,4 +1,4 @@
--- The lists that the chunks and the runs of a slice give, as sources.
+-- The lists that the chunks and the runs of a slice yield, as sources.
 use Rattle.std.proofs.Common.{refl, sym, ap, subst, ◌∙◌}
 use Rattle.std.specs.Prelude.{◌≡◌, ◌<◌, Bool, List, [], ◌∷◌, ◌++◌, length}
 use Rattle.std.specs.Borrow.{Bor}
@@ -28,7 +28,7 @@ module _ {A F : Type 0} (calls : Shared F (Bor A × (Bor A × Unit {0})) Bool)
   is_divide same [] = refl
   is_divide same (x ∷ xs) = refl
 
-  -- the runs that came are the first, and those of the items left are the others
+  -- the runs yielded are a prefix of the runs, and those of the items left are the others
   runs_came : (same : A → A → Bool) (s t : Cutting A F) (rs : List (List A))
       → ActsAsAtPair calls s.closure same → Yields (CutsRun calls place) s rs t
       → runs_of place same s.left ≡ rs ++ runs_of place same t.left

@@ -1,4 +1,4 @@
--- A sort by a key that depends on the item alone: its keys ascend, and ties keep their order.
+-- A sort by a key that depends on only the item: its keys ascend, and ties keep their order.
 use Rattle.std.proofs.Common.{sym, subst, ◌∙◌}
 use Rattle.std.proofs.lemmas.Cmp.{eq_by_cmp_equiv}
 use Rattle.std.proofs.lemmas.Fn.{always_returns_same}

@@ -23,7 +23,7 @@ abbrev pub ActsAsAtPairMut : {F X : Type 0} → Mut F (MutBor X × (MutBor X × 
 ActsAsAtPairMut {F} {X} g f h = (x y : X) (r : Bool) (f' : F) (x' y' : X)
     → CalledAtPairMut g f x y r f' x' y' → (f' ≡ f) × (r ≡ h x y) × (x' ≡ x) × (y' ≡ y)
 
--- ys are the first items of the runs of xs, where an item continues a run by `same(item, first)`
+-- ys are the first items of the runs of xs; an item continues a run if `same item first` is true
 abbrev pub KeepsFirsts : {X : Type 0} → (X → X → Bool) → List X → List X → Type 0
 KeepsFirsts {X} same xs ys = (rs : List (List X))
     × IsDivision (by_first (λ kept later. same later kept)) xs rs × (ys ≡ heads rs)

@@ -15,7 +15,7 @@ module _ {T E : Type 0} where
   are_values first value empty begun values yielded is none one same = ap (λ r. r ∷ yielded) is
       ∙ sym (same ∙ ap (λ l. map Ok l ++ yielded) (one ∙ ap (λ l. l ++ value ∷ []) none))
 
-  -- the same, if an `Err` came then
+  -- the values so far, if an `Err` was yielded after them
   up_to_err : (items : List (Result T E)) (item : Result T E) (e : E) (values : List T)
       → item ≡ Err e → items ≡ map Ok values → items ++ item ∷ [] ≡ map Ok values ++ Err e ∷ []
   up_to_err items item e values is same = ap (λ r. items ++ r ∷ []) is

@@ -87,7 +87,7 @@ loop-item-preserved g c =
       omega (arith, (came.goes.on i.5).2, i.6),
     )
 
--- an item with another key came
+-- an item with another key was taken
 pub returns-else-goes_on-clause-steps : goal.returns-else-goes_on-clause-steps
 returns-else-goes_on-clause-steps g c =
     let i = c.loop-item.invariant in
