@@ -244,7 +244,7 @@ module _ {U V A S T : Type 0} {becomes : U → S → Type 0} {steps : S → Opti
             subst (IsPrefix whole (drop n xs))
             (drop-map view n parts.0 ∙ sym (ap (map view) parts.2))
             (subst (λ l. IsPrefix whole (drop n l) (drop n viewed)) (sym prefix.1)
-            (drop_prefix n whole shown prefix.0 prefix.2))
+            (drop_prefix n whole viewed prefix.0 prefix.2))
 
     module _ {F : Type 0} {calls : Mut F (Bor A × Unit {0}) Bool} {f : F} {B : Type 0}
         (view : A → B) (test : B → Bool) (xs : List B)
