@@ -14,6 +14,7 @@ pub mod first_item;
 pub mod instead;
 pub mod joins;
 pub mod keyed;
+pub mod loops;
 pub mod mixed;
 pub mod nested;
 pub mod parts;
