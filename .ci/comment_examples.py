@@ -153,8 +153,9 @@ def examples():
             text = read(path)
             name = re.sub(r"\W", "_", os.path.relpath(path, folder).removesuffix(".rt"))
             name = f"{crate}_{name}"
-            for number, block in enumerate(BLOCK.finditer(text), 1):
+            for block in BLOCK.finditer(text):
                 about = ITEM.search(text, block.end())[1]
-                example = Example(crate, f"{name}.{number}", block[1], about)
-                found.setdefault(name, []).append(example)
+                before = sum(it.about == about for it in found.setdefault(name, []))
+                label = f"{name}.{about}.{before + 1}" if before else f"{name}.{about}"
+                found[name].append(Example(crate, label, block[1], about))
     return found

@@ -79,7 +79,7 @@ def type_of(example, name, wanted):
     if wanted[0] == "{":
         return TABLES[example.crate][":" not in wanted]
     if wanted.startswith(("Ok({", "Err({")):
-        table = TABLES[example.crate]["set" in example.label]
+        table = TABLES[example.crate]["set" in example.label.partition(".")[0]]
         return f"Result<{table}, {INNER.get(example.crate, '')}{table.removeprefix('NE')}>"
     if wanted.startswith("Some("):
         return f"Option<{type_of(example, name, wanted[5:-1])}>"
@@ -238,7 +238,7 @@ def function(example, name):
 
 def module_of(example):
     """Returns the module with the function of an example."""
-    name = example.label.rpartition(".")[0]
+    name = example.label.partition(".")[0]
     files = [it for it in os.listdir(os.path.join(ROOT, FOLDER)) if name.endswith(f"_{it[:-3]}")]
     return MODULES.get(name) or max(files, key=len).removesuffix(".rt")
 
