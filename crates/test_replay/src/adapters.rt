@@ -1,4 +1,4 @@
-//! Adapters, alone and over one another. The last arm of a function tries the calls of the next
+//! Adapters, single and over one another. The last arm of a function tries the calls of the next
 //! one. What takes the check long in an arm is a function of its own.
 
 use crate::call::Call;
@@ -20,7 +20,7 @@ pub fn referenced(items: &NEVec<u32>, call: &Call, out: &mut Transcript) -> Writ
         "collect_vec" => out.made(source.collect::<Vec<&u32>>(out.alloc)),
         "cartesian_product" => product(items, &call.vector(out.alloc)?, out),
         "all_unique" => out.made(source.copied().all_unique(out.alloc)),
-        _ => alone(items.clone()?.into_nonempty_iter(), call, out),
+        _ => single(items.clone()?.into_nonempty_iter(), call, out),
     }
 }
 
@@ -36,7 +36,7 @@ fn product(items: &NEVec<u32>, other: &NEVec<u32>, out: &mut Transcript) -> Writ
 }
 
 // Adapters of numbers.
-fn alone(source: IntoIter<u32>, call: &Call, out: &mut Transcript) -> Written {
+fn single(source: IntoIter<u32>, call: &Call, out: &mut Transcript) -> Written {
     let of = |x: u32| call.closure.of(x);
     match call.name {
         "map" => out.collected(source.map(of)),
@@ -76,7 +76,7 @@ fn peeked(source: IntoIter<u32>, call: &Call, out: &mut Transcript) -> Written {
 // Adapters over one another.
 fn layered(source: IntoIter<u32>, call: &Call, out: &mut Transcript) -> Written {
     match call.name {
-        "flat_map_peekable_take_enumerate" => spread_alone(source, call, out),
+        "flat_map_peekable_take_enumerate" => spread_single(source, call, out),
         "zip_flat_map_peekable_take_enumerate" => {
             spread_beside(source, call.vector(out.alloc)?, call, out)
         }
@@ -89,7 +89,7 @@ fn layered(source: IntoIter<u32>, call: &Call, out: &mut Transcript) -> Written 
     }
 }
 
-fn spread_alone(source: IntoIter<u32>, call: &Call, out: &mut Transcript) -> Written {
+fn spread_single(source: IntoIter<u32>, call: &Call, out: &mut Transcript) -> Written {
     let both = |x: u32| [x, call.closure.of(x)];
     let made: Result<Numbered, AllocError> = spread(out.alloc, source, both, call.size);
     out.made(made)

@@ -36,7 +36,7 @@ pub fn binary_search_by_key(alloc: Global) -> Result<Result<usize, usize>, Alloc
     Ok(place)
 }
 
-/// By hand. The number of items in front that meet a test: at most 8 is proved.
+/// By hand. The number of first items that meet a test: at most 8 is proved.
 pub fn partition_point(alloc: Global) -> Result<usize, AllocError>
     ensures { IfOk result (λ count. count ≤ 8) }
 {
