@@ -37,8 +37,8 @@ impl Transcript {
     }
 
     /// Writes a result, or the length and a checksum of its text, if that is long.
-    pub fn told<T: Debug + Drop>(&mut self, result: T) -> Written {
-        let text = format!(in self.alloc; "{result:?}")?;
+    pub fn result<T: Debug + Drop>(&mut self, value: T) -> Written {
+        let text = format!(in self.alloc; "{value:?}")?;
         self.shortened(text.as_str())
     }
 
@@ -50,16 +50,16 @@ impl Transcript {
     }
 
     /// Writes a result, if there was memory for it.
-    pub fn made<T: Debug + Drop>(&mut self, result: Result<T, AllocError>) -> Written {
-        self.result(result?)
+    pub fn made<T: Debug + Drop>(&mut self, value: Result<T, AllocError>) -> Written {
+        self.result(value?)
     }
 
     /// Writes a result that holds clones, if there was memory for it and for each of them.
     pub fn cloned<T: Debug + Drop>(
         &mut self,
-        result: Result<Result<T, AllocError>, AllocError>,
+        value: Result<Result<T, AllocError>, AllocError>,
     ) -> Written {
-        self.result(result??)
+        self.result(value??)
     }
 
     /// Writes a text as it is.
