@@ -77,10 +77,10 @@ fn holds(call: &str, fact: bool) -> Result<(), Fail> {
 fn gives(
     rt: &impl Print,
     call: &str,
-    result: Result<NEVec<u32>, AllocError>,
+    returned: Result<NEVec<u32>, AllocError>,
     items: &[u32],
 ) -> Result<(), Fail> {
-    match result {
+    match returned {
         Ok(made) => {
             same(call, made.as_slice(), items)?;
             report(rt, "made", call)
@@ -94,7 +94,7 @@ fn gives(
 fn leaves(
     rt: &impl Print,
     call: &str,
-    result: Result<(), AllocError>,
+    returned: Result<(), AllocError>,
     items: &NEVec<u32>,
     before: &[u32],
     after: &[u32],
@@ -102,9 +102,9 @@ fn leaves(
     same(
         call,
         items.as_slice(),
-        if result.is_ok() { after } else { before },
+        if returned.is_ok() { after } else { before },
     )?;
-    report(rt, if result.is_ok() { "made" } else { "refused" }, call)
+    report(rt, if returned.is_ok() { "made" } else { "refused" }, call)
 }
 
 // Fails with the name of the call unless the numbers are these.

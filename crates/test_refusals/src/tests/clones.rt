@@ -43,11 +43,11 @@ fn are(items: &NEVec<Number>, values: &[u32]) -> bool {
 fn gives(
     rt: &impl Print,
     call: &str,
-    result: Result<NEVec<Number>, AllocError>,
+    returned: Result<NEVec<Number>, AllocError>,
     values: &[u32],
 ) -> Result<(), Fail> {
-    let is_made = result.is_ok();
-    let is_right = result.map_or(true, |made| are(&made, values));
+    let is_made = returned.is_ok();
+    let is_right = returned.map_or(true, |made| are(&made, values));
     holds(call, is_right)?;
     report(rt, if is_made { "made" } else { "refused" }, call)
 }

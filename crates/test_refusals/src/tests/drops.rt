@@ -22,14 +22,14 @@ fn prepared(alloc: Global) -> Result<(Rc<u32>, NEVec<Rc<u32>>, Rc<u32>), AllocEr
 fn owned(
     rt: &impl Print,
     call: &str,
-    result: Result<(), AllocError>,
+    returned: Result<(), AllocError>,
     token: &Rc<u32>,
     items: &NEVec<Rc<u32>>,
 ) -> Result<(), Fail> {
     if Rc::strong_count(token) - 1 != items.len().get() {
         return Err(Fail::new(format_args!("{call}: an item is lost, or dropped twice")));
     }
-    report(rt, if result.is_ok() { "made" } else { "refused" }, call)
+    report(rt, if returned.is_ok() { "made" } else { "refused" }, call)
 }
 
 #[test]
@@ -67,12 +67,12 @@ fn extend_one(rt: HostRuntime) -> Result<(), Fail> {
 fn held(
     rt: &impl Print,
     call: &str,
-    result: Result<NEVec<Rc<u32>>, AllocError>,
+    returned: Result<NEVec<Rc<u32>>, AllocError>,
     token: &Rc<u32>,
     count: usize,
 ) -> Result<(), Fail> {
-    let outcome = if result.is_ok() { "made" } else { "refused" };
-    let wanted = if result.is_ok() { count } else { 0 };
+    let outcome = if returned.is_ok() { "made" } else { "refused" };
+    let wanted = if returned.is_ok() { count } else { 0 };
     if Rc::strong_count(token) - 1 != wanted {
         return Err(Fail::new(format_args!("{call}: an item is lost, or dropped twice")));
     }

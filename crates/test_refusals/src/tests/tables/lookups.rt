@@ -23,7 +23,7 @@ fn counts(calls: &str, given: [usize; 3], wanted: [usize; 3]) -> Result<(), Fail
 
 // Counts the results that are `true`.
 fn holding(results: &[bool]) -> usize {
-    results.iter().filter(|result| **result).count()
+    results.iter().filter(|it| **it).count()
 }
 
 // Counts the items.
