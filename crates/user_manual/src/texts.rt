@@ -111,7 +111,10 @@ pub fn by_length<'a>(
 }
 
 /// Returns the texts of a vector that may be empty, if it has one.
-pub fn peeked<'a>(alloc: Global, texts: Vec<&'a str>) -> Result<Option<NEVec<&'a str>>, AllocError>
+pub fn texts_if_any<'a>(
+    alloc: Global,
+    texts: Vec<&'a str>,
+) -> Result<Option<NEVec<&'a str>>, AllocError>
     ensures { IfOk result (λ o. IfSome o (λ v. v ≡ texts.entry.items)) }
 {
     match texts.try_into_nonempty_iter() {
