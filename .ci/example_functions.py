@@ -287,8 +287,11 @@ def not_as_written(examples):
 
 
 def write_functions(examples):
-    """Writes the files of the modules."""
+    """Writes the files of the modules. Stops if a function by hand has the code of no example."""
     for module, wanted in wanted_functions(examples).items():
-        head = head_and_functions(module)[0]
+        head, functions = head_and_functions(module)
+        for comment, text, _ in functions:
+            if comment.startswith("/// By hand") and comment + text not in wanted:
+                stop(f"{module}: no example has this code any more:\n{comment}{text}")
         write(os.path.join(ROOT, FOLDER, f"{module}.rt"), "\n".join([head, *wanted]))
     subprocess.run(["rt", "fmt"], cwd=os.path.join(ROOT, FOLDER, os.pardir), check=True)

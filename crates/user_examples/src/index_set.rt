@@ -254,7 +254,7 @@ pub fn pop(alloc: Global) -> Result<(Option<u32>, Option<u32>, NEIndexSet<u32>),
     Ok((popped, none, set))
 }
 
-/// The example of `retain`.
+/// By hand. The even items stay, or there are none.
 pub fn retain(
     alloc: Global,
 ) -> Result<
@@ -264,7 +264,13 @@ pub fn retain(
     ),
     AllocError,
 >
-    ensures { IfOk result (λ r. (IsOkAnd r.0 (λ s. s.keys ≡ 6 ∷ [])) × (IsErr r.1)) }
+    ensures even { IfOk result (λ r. (xs : List ℕ) → xs ≡ 6 ∷ 5 ∷ []
+        → MatchResult r.0 (λ s. s.keys ≡ filter (λ x. x % 2 == 0) xs)
+        (λ _. filter (λ x. x % 2 == 0) xs ≡ [])) }
+    ensures none { IfOk result (λ r. (xs : List ℕ) → xs ≡ 1 ∷ 3 ∷ []
+        → MatchResult r.1 (λ s. s.keys ≡ filter (λ x. x % 2 == 0) xs) (λ none. none.keys ≡ [])) }
+    ensures value { filter (λ x. x % 2 == 0) (6 ∷ 5 ∷ []) ≡ 6 ∷ [] }
+    ensures no_value { filter (λ x. x % 2 == 0) (1 ∷ 3 ∷ []) ≡ [] }
 {
     let even = neis![alloc; 6, 5]?.retain(|x| *x % 2 == 0);
     let none = neis![alloc; 1, 3]?.retain(|x| *x % 2 == 0);

@@ -237,7 +237,7 @@ pub fn pop_last(alloc: Global) -> Result<(Option<u32>, Option<u32>, NEBTreeSet<u
     Ok((popped, none, set))
 }
 
-/// The example of `retain`.
+/// By hand. The even items stay, or there are none.
 pub fn retain(
     alloc: Global,
 ) -> Result<
@@ -247,7 +247,13 @@ pub fn retain(
     ),
     AllocError,
 >
-    ensures { IfOk result (λ r. (IsOkAnd r.0 (λ s. s.keys ≡ 4 ∷ [])) × (IsErr r.1)) }
+    ensures even { IfOk result (λ r. (xs : List ℕ) → xs ≡ 4 ∷ 5 ∷ []
+        → MatchResult r.0 (λ s. s.keys ≡ filter (λ x. x % 2 == 0) xs)
+        (λ _. filter (λ x. x % 2 == 0) xs ≡ [])) }
+    ensures none { IfOk result (λ r. (xs : List ℕ) → xs ≡ 1 ∷ 3 ∷ []
+        → MatchResult r.1 (λ s. s.keys ≡ filter (λ x. x % 2 == 0) xs) (λ s. s.keys ≡ [])) }
+    ensures value { filter (λ x. x % 2 == 0) (4 ∷ 5 ∷ []) ≡ 4 ∷ [] }
+    ensures no_value { filter (λ x. x % 2 == 0) (1 ∷ 3 ∷ []) ≡ [] }
 {
     let even = nebts![alloc; 4, 5]?.retain(|x| *x % 2 == 0);
     let none = nebts![alloc; 1, 3]?.retain(|x| *x % 2 == 0);
