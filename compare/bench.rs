@@ -513,7 +513,7 @@ fn of<M: Table, S: Bag>(step: &str, n: NonZeroUsize) -> Option<u64> {
             asked(n, |key| map.found(key))
         }
         "remove" => M::of_all(paired(n)).removed(n),
-        "walk" => M::of_all(paired(n)).combined(),
+        "iterate" => M::of_all(paired(n)).combined(),
         "maps" => mixed(M::of_all(paired(n)).length(), M::of_all(paired(n)).length()),
         "equal" => u64::from(M::of_all(paired(n)).is_same(&M::of_all(paired(n)))),
         "set_rising" => S::of_all(rising(n, 3)).length(),

@@ -35,7 +35,7 @@ fn of<M: Table + Drop, S: Bag + Drop>(
         "collect" => length(&pairs::<M>(alloc, n)?),
         "look_up" => look_up(&pairs::<M>(alloc, n)?, n),
         "remove" => remove(pairs::<M>(alloc, n)?, n),
-        "walk" => pairs::<M>(alloc, n)?.combined(),
+        "iterate" => pairs::<M>(alloc, n)?.combined(),
         "maps" => mixed(
             length(&pairs::<M>(alloc, n)?),
             length(&pairs::<M>(alloc, n)?),

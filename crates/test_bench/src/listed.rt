@@ -82,7 +82,7 @@ fn vector_calls(alloc: Global, n: NonZeroUsize) -> Result<Vec<VecCall<u64>>, All
 
 fn vector_run(alloc: Global, calls: Vec<VecCall<u64>>) -> Result<u64, AllocError> {
     let mut items = NEVec::new(alloc, 0)?;
-    Ok(sum_of_replies(run_vec(alloc, &mut items, calls)?))
+    Ok(checksum_of_replies(run_vec(alloc, &mut items, calls)?))
 }
 
 fn vector_directly(alloc: Global, calls: Vec<VecCall<u64>>) -> Result<u64, AllocError> {
@@ -91,7 +91,7 @@ fn vector_directly(alloc: Global, calls: Vec<VecCall<u64>>) -> Result<u64, Alloc
     for call in calls {
         replies.push(made_directly(&mut items, call)?)?;
     }
-    Ok(sum_of_replies(replies))
+    Ok(checksum_of_replies(replies))
 }
 
 fn made_directly(items: &mut NEVec<u64>, call: VecCall<u64>) -> Result<VecReply<u64>, AllocError> {
@@ -114,7 +114,7 @@ fn made_directly(items: &mut NEVec<u64>, call: VecCall<u64>) -> Result<VecReply<
     Ok(VecReply::Done)
 }
 
-fn sum_of_replies(replies: Vec<VecReply<u64>>) -> u64 {
+fn checksum_of_replies(replies: Vec<VecReply<u64>>) -> u64 {
     let mut checksum = 0u64;
     for reply in replies {
         let reply = match reply {
@@ -150,7 +150,7 @@ fn map_run<M: NonEmptyMap<u64, u64> + Drop>(
     mut map: M,
     calls: Vec<MapCall<u64, u64>>,
 ) -> Result<u64, AllocError> {
-    Ok(sum_of_map_replies(run_map(alloc, &mut map, calls)?))
+    Ok(checksum_of_map_replies(run_map(alloc, &mut map, calls)?))
 }
 
 fn map_directly<M: NonEmptyMap<u64, u64> + Drop>(
@@ -167,10 +167,10 @@ fn map_directly<M: NonEmptyMap<u64, u64> + Drop>(
             MapCall::Len => MapReply::Len(map.size()),
         })?;
     }
-    Ok(sum_of_map_replies(replies))
+    Ok(checksum_of_map_replies(replies))
 }
 
-fn sum_of_map_replies(replies: Vec<MapReply<u64>>) -> u64 {
+fn checksum_of_map_replies(replies: Vec<MapReply<u64>>) -> u64 {
     let mut checksum = 0u64;
     for reply in replies {
         let reply = match reply {
