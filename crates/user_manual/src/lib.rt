@@ -2,8 +2,9 @@
 //!
 //! Each shows what no example in a comment shows (`user_examples`): chains, references, texts,
 //! sources of any type, and maps and sets in general. They are proved from the public contracts of
-//! what they call: all but `pairs_of_any_sources` have no proof file and call no law. Most ensure
-//! the exact result. If less is proved today, as of `unzip` of texts, the function ensures that.
+//! what they call. Two have a proof file: `pairs_of_any_sources`, the only one that calls a law,
+//! and `how_many_small`, for its loop. Most ensure the exact result. If less is proved today, as of
+//! `unzip` of texts, the function ensures that.
 #![tactic(auto)]
 
 pub mod adapters;
