@@ -335,6 +335,11 @@ impl<K: Eq + Hash, V, S: BuildHasher> NEMap<K, V, S> {
 
     /// Returns the key equal to `k`, as it is in the map, and its value, or `None` if there is no
     /// such key.
+    ///
+    /// ```
+    /// let map = NEMap::new(alloc, 4, 20)?;
+    /// let pair = map.get_key_value(&4); // Some((&4, &20))
+    /// ```
     pub fn get_key_value(&self, k: &K) -> Option<(&K, &V)>
         ensures key { option_map (λ p. p.0.now) result ≡ get_key K.eq self.now k.now }
         ensures value { option_map (λ p. p.1.now) result ≡ get K.eq self.now k.now }
@@ -413,6 +418,16 @@ impl<K: Eq + Hash, V, S: BuildHasher> NEMap<K, V, S> {
     ///
     /// Returns `AllocError` if the allocation fails or if `capacity` is more than can be allocated;
     /// the hasher and the pair are then dropped.
+    ///
+    /// ```
+    /// let (room, hasher) = (NonZeroUsize::new(9).unwrap(), BuildHasherDefault::new());
+    /// let mut map: NEMap<u32, u32> =
+    ///     NEMap::with_capacity_and_hasher(alloc, room, hasher, 2, 1)?;
+    /// let has_room = map.capacity().get() >= 9; // true
+    /// let is_empty = map.is_empty(); // false
+    /// map.shrink_to_fit()?; // {2: 1}
+    /// let hasher = map.hasher();
+    /// ```
     pub fn with_capacity_and_hasher(
         alloc: Global,
         capacity: NonZeroUsize,

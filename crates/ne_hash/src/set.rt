@@ -409,6 +409,11 @@ impl<T: Eq + Hash, S: BuildHasher> NESet<T, S> {
 
     /// Returns a non-empty iterator over the items of both sets, each once. The order is
     /// unspecified, and so is which of two equal items it returns.
+    ///
+    /// ```
+    /// let (one, two) = (nes![alloc; 1]?, nes![alloc; 2]?);
+    /// let count = one.union(&two).count().get(); // 2
+    /// ```
     pub fn union<'a>(&'a self, other: &'a NESet<T, S>) -> Union<'a, T, S>
         ensures members { IsUnion T.eq self.now other.now result }
         ensures unique { IsDistinct T.eq result }
@@ -424,6 +429,16 @@ impl<T: Eq + Hash, S: BuildHasher> NESet<T, S> {
     ///
     /// Returns `AllocError` if the allocation fails or if `capacity` is more than can be allocated;
     /// the hasher and the item are then dropped.
+    ///
+    /// ```
+    /// let (room, hasher) = (NonZeroUsize::new(9).unwrap(), BuildHasherDefault::new());
+    /// let mut set: NESet<u32> =
+    ///     NESet::with_capacity_and_hasher(alloc, room, hasher, 8)?;
+    /// let has_room = set.capacity().get() >= 9; // true
+    /// let is_empty = set.is_empty(); // false
+    /// set.shrink_to_fit()?; // {8}
+    /// let hasher = set.hasher();
+    /// ```
     pub fn with_capacity_and_hasher(
         alloc: Global,
         capacity: NonZeroUsize,

@@ -406,6 +406,16 @@ impl<K: Eq + Hash, V, S: BuildHasher> NEIndexMap<K, V, S> {
     ///
     /// Returns `AllocError` if the allocation fails or if `capacity` is more than can be allocated;
     /// the hasher and the pair are then dropped.
+    ///
+    /// ```
+    /// let (room, hasher) = (NonZeroUsize::new(9).unwrap(), BuildHasherDefault::new());
+    /// let mut map: NEIndexMap<u32, u32> =
+    ///     NEIndexMap::with_capacity_and_hasher(alloc, room, hasher, 2, 1)?;
+    /// let has_room = map.capacity().get() >= 9; // true
+    /// let is_empty = map.is_empty(); // false
+    /// map.shrink_to_fit()?; // {2: 1}
+    /// let hasher = map.hasher();
+    /// ```
     pub fn with_capacity_and_hasher(
         alloc: Global,
         capacity: NonZeroUsize,

@@ -241,6 +241,11 @@ impl<T: Eq + Hash, S: BuildHasher> NEIndexSet<T, S> {
     }
 
     /// Returns the item equal to `value`, as it is in the set, or `None` if there is no such item.
+    ///
+    /// ```
+    /// let set = NEIndexSet::new(alloc, 8)?;
+    /// let (eight, none) = (set.get(&8), set.get(&6)); // Some(&8) and None
+    /// ```
     pub fn get(&self, value: &T) -> Option<&T>
         ensures item { option_copied result ≡ get T.eq self.now value.now }
         ensures found { is_some result ≡ contains T.eq self.now value.now }
@@ -423,6 +428,16 @@ impl<T: Eq + Hash, S: BuildHasher> NEIndexSet<T, S> {
     ///
     /// Returns `AllocError` if the allocation fails or if `capacity` is more than can be allocated;
     /// the hasher and the item are then dropped.
+    ///
+    /// ```
+    /// let (room, hasher) = (NonZeroUsize::new(9).unwrap(), BuildHasherDefault::new());
+    /// let mut set: NEIndexSet<u32> =
+    ///     NEIndexSet::with_capacity_and_hasher(alloc, room, hasher, 8)?;
+    /// let has_room = set.capacity().get() >= 9; // true
+    /// let is_empty = set.is_empty(); // false
+    /// set.shrink_to_fit()?; // {8}
+    /// let hasher = set.hasher();
+    /// ```
     pub fn with_capacity_and_hasher(
         alloc: Global,
         capacity: NonZeroUsize,

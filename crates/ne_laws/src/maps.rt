@@ -17,6 +17,13 @@ use std::num::NonZeroUsize;
 /// In contracts it is the list of its entries, in some order: `lookup (K.eq k) (M.entries m)` is
 /// the value of the key `k`, and `IsMap K.eq (M.entries m)` says that no two keys are equal and
 /// that there is at least one.
+///
+/// ```
+/// let mut map = NEMap::new(alloc, 1, 10)?;
+/// let absent = map.put(2, 20)?; // None
+/// let old = map.set(&1, 11); // Some(10)
+/// let (has, size) = (map.has(&2), map.size().get()); // true and 2
+/// ```
 pub trait NonEmptyMap<K: Eq, V> {
     /// The keys with their values, in some order.
     ghost entries: { Self → List (K × V) };

@@ -110,6 +110,11 @@ impl<'a, T> NESlice<'a, T> {
     /// Returns `false`, as there is always an item.
     ///
     /// It exists for code that is written for slices too. In the Rust crate it is deprecated.
+    ///
+    /// ```
+    /// let items = nev![alloc; 5]?;
+    /// let is_empty = items.as_nonempty_slice().is_empty(); // false
+    /// ```
     pub fn is_empty(&self) -> bool
         ensures never { result ≡ false }
         ensures nonempty { 0 < length self.now }
@@ -119,6 +124,12 @@ impl<'a, T> NESlice<'a, T> {
     }
 
     /// Returns std's iterator over the items, in order.
+    ///
+    /// ```
+    /// let items = nev![alloc; 4, 6]?;
+    /// let slice = items.as_nonempty_slice();
+    /// let halves: Vec<u32> = slice.iter().map(|x| *x / 2).collect(alloc)?; // [2, 3]
+    /// ```
     pub fn iter(&self) -> slice::Iter<'_, T>
         ensures { IteratesOver self.now result }
     {

@@ -354,6 +354,10 @@ impl<T> NEVec<T> {
     /// Returns `false`, as there is always an item.
     ///
     /// It exists for code that is written for `Vec` too. In the Rust crate it is deprecated.
+    ///
+    /// ```
+    /// let is_empty = nev![alloc; 5]?.is_empty(); // false
+    /// ```
     pub fn is_empty(&self) -> bool
         ensures never { result ≡ false }
         ensures nonempty { 0 < length self.now }
@@ -367,6 +371,11 @@ impl<T> NEVec<T> {
     ///
     /// If the items have size 0, std returns `usize::MAX`. The Rust crate relies on std's capacity
     /// not being 0; this returns the greater of std's capacity and the length.
+    ///
+    /// ```
+    /// let items = nev![alloc; 3, 1, 4]?;
+    /// let has_room = items.capacity().get() >= 3; // true
+    /// ```
     pub fn capacity(&self) -> NonZeroUsize
         ensures { length self.now ≤ non_zero_usize_get result }
     {

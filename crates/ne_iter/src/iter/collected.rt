@@ -31,6 +31,10 @@ pub trait FromNonEmptyIterator<T>: Sized {
     /// Collects the items. They must come to an end.
     ///
     /// Returns `AllocError` if the allocation fails; the items taken are then dropped.
+    ///
+    /// ```
+    /// let items = NEVec::from_nonempty_iter(alloc, [1u32, 2])?; // [1, 2]
+    /// ```
     fn from_nonempty_iter<I: IntoNonEmptyIterator<Item = T>>(
         alloc: Global,
         iter: I,

@@ -13,6 +13,12 @@ impl<T> NEVec<T> {
     ///
     /// In the Rust crate this is `SliceRandom::shuffle`. It is not promised that all orders are
     /// equally likely.
+    ///
+    /// ```
+    /// let mut small = SmallRng::seed_from_u64(7);
+    /// let mut items = nev![alloc; 7]?;
+    /// items.shuffle(&mut small); // [7]
+    /// ```
     pub fn shuffle<G: Rng>(&mut self, rng: &mut G)
         ensures permutation { IsPermutation self.old self.new }
         ensures drawn { (self.new, G.stream rng.new) ≡ shuffled self.old 0 (G.stream rng.old) }
