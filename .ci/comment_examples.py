@@ -5,13 +5,11 @@ statement says the value of the name that the statement binds or changes: of eac
 each item of an iterator, separated by commas and `and`.
 """
 
-import glob
-import os
 import re
 
-from common import CRATES, ROOT, read
+from common import read
+from sources import EXAMPLE, files, libraries
 
-BLOCK = re.compile(r"^ *//[/!] ```\n((?: *//[/!].*\n)*?) *//[/!] ```\n", re.M)
 COMMENT = re.compile(r"^ *//[/!] ?", re.M)
 # What a comment is about: the first of these after it.
 ITEM = re.compile(r"^ *(?:pub |final )*(?:fn|struct|macro_rules!) (\w+)", re.M)
@@ -101,10 +99,10 @@ def plain(value, in_any_order):
 class Example:
     """An example: its code, with a line that prints after each comment, and what is wanted."""
 
-    def __init__(self, crate, label, block, about):
+    def __init__(self, crate, file, label, block, about):
         lines = COMMENT.sub("", block).rstrip("\n").split("\n")
-        self.crate, self.label, self.about, self.values = crate, label, about, []
-        self.lines, self.bare = lines, bare("\n".join(lines))
+        self.crate, self.file, self.label, self.about, self.values = crate, file, label, about, []
+        self.bare = bare("\n".join(lines))
         after = {}
         for at, line in enumerate(lines):
             comment = re.search(r"(?:^|[;})] )// (.*)", line)
@@ -127,6 +125,10 @@ class Example:
             code += [line, *after.get(at, [])]
         self.code = "".join(f"    {line}\n" if line else "\n" for line in code)
 
+    def begins(self, code):
+        """Returns whether this code, which has no white space, begins with the example's."""
+        return code.startswith(self.bare)
+
     def wrong(self, printed):
         """Returns what is wrong with the printed values, or ""."""
         some_order = self.crate == "ne_hash"
@@ -147,15 +149,13 @@ class Example:
 def examples():
     """Returns the examples of each file that has any, by the name of its module."""
     found = {}
-    for crate in CRATES:
-        folder = os.path.join(ROOT, "crates", crate, "src")
-        for path in sorted(glob.glob(os.path.join(folder, "**", "*.rt"), recursive=True)):
-            text = read(path)
-            name = re.sub(r"\W", "_", os.path.relpath(path, folder).removesuffix(".rt"))
-            name = f"{crate}_{name}"
-            for block in BLOCK.finditer(text):
+    for crate in libraries():
+        for file in files(crate):
+            text = read(file)
+            name = f"{crate}_" + re.sub(r"\W", "_", file.split("/src/")[1].removesuffix(".rt"))
+            for block in EXAMPLE.finditer(text):
                 about = ITEM.search(text, block.end())[1]
                 before = sum(it.about == about for it in found.setdefault(name, []))
                 label = f"{name}.{about}.{before + 1}" if before else f"{name}.{about}"
-                found[name].append(Example(crate, label, block[1], about))
+                found[name].append(Example(crate, file, label, block[1], about))
     return found

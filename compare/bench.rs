@@ -1,6 +1,6 @@
-// The workloads of `crates/test_bench` on the Rust crate `nonempty-collections`. The port's speed
-// is compared with them. The steps and the numbers are those of the port. Adapters and collecting
-// are in `bench_chains`, consumers in `bench_passes`.
+// The workloads on the Rust crate `nonempty-collections`, with which the port's speed is compared.
+// The steps and the numbers are those of the port. Adapters and collecting are in `bench_chains`,
+// consumers in `bench_passes`.
 mod bench_chains;
 mod bench_passes;
 

@@ -21,11 +21,33 @@ def numbers_of(words, usage):
     return [int(word) for word in words]
 
 
-def build(name="ne_runs", status=2):
+def workloads(folder):
+    """Writes a repository of the libraries and of the crate `test_bench`, the program of the
+    workloads, into this folder, and returns its root. The program's files have the ending `.txt`
+    here, since each `.rt` file of this repository belongs to a crate that the gate proves."""
+    root = os.path.join(folder, "port")
+    with open(os.path.join(HERE, os.pardir, "crates.txt"), encoding="utf-8") as it:
+        lines = re.findall(r"^(?:ne_(?!runs)|nonempty_)\w+: .*$", it.read(), re.M)
+    names = [it.partition(":")[0] for it in lines]
+    sources = [(os.path.join(HERE, os.pardir, "crates", it), it, ("out",)) for it in names]
+    sources.append((os.path.join(HERE, "workloads"), "test_bench/src", ()))
+    for source, name, left_out in sources:
+        for at, folders, files in os.walk(source):
+            folders[:] = [it for it in folders if it not in left_out]
+            to = os.path.join(root, "crates", name, os.path.relpath(at, source))
+            os.makedirs(to, exist_ok=True)
+            for it in files:
+                shutil.copy2(os.path.join(at, it), os.path.join(to, it.removesuffix(".txt")))
+    with open(os.path.join(root, "crates.txt"), "w", encoding="utf-8") as it:
+        it.write("\n".join([*lines, f"test_bench: {' '.join(names)}", ""]))
+    return root
+
+
+def build(name="ne_runs", status=2, root=os.path.join(HERE, os.pardir)):
     """Proves and builds the program of the crate of this name, and returns its path. `status` is
     the exit status of a run without words and without input. If rt waits for another rt that works
     in this copy, its line that says so is printed at once."""
-    crate = os.path.join(HERE, os.pardir, "crates", name)
+    crate = os.path.join(root, "crates", name)
     how = {
         "cwd": crate,
         "stdin": subprocess.DEVNULL,

@@ -1,10 +1,10 @@
-//! The examples of arrays, written by `.ci/examples --write`.
+//! The examples of arrays.
 ghost use Rattle.std.specs.Prelude.{◌≡◌, ◌∷◌, [], IfOk};
 
 use nonempty_collections::{NEVec, NonEmptyArrayExt, NonEmptyIterator};
 use std::alloc::{AllocError, Global};
 
-/// By hand. The items of an array as a slice.
+/// The items of an array as a slice.
 pub fn as_nonempty_slice(alloc: Global) -> Result<NEVec<u32>, AllocError>
     ensures { IfOk result (λ v. v ≡ 1 ∷ 4 ∷ 1 ∷ []) }
 {

@@ -5,12 +5,13 @@ ghost use Rattle.std.specs.Int.NonZero.{non_zero_usize_get};
 ghost use Rattle.std.specs.Ordering.{nat_cmp};
 
 use ne_laws::map_calls::{MapCall, MapReply, run_map};
+use ne_laws::maps::NonEmptyMap;
 use ne_laws::reader::take_runs;
 use ne_laws::vector_calls::{VecCall, VecReply, run_vec};
-use nonempty_collections::{IntoNonEmptyIterator, NEBTreeMap, NEVec, nebtm, nev};
+use nonempty_collections::{IntoNonEmptyIterator, NEBTreeMap, NEMap, NEVec, nebtm, nev};
 use std::alloc::{AllocError, Global};
 
-/// By hand. That the last reply is a `Len` is only run; if it is, its number is 3.
+/// That the last reply is a `Len` is only run; if it is, its number is 3.
 pub fn calls_on_a_map(
     alloc: Global,
 ) -> Result<(Vec<MapReply<u32>>, NEBTreeMap<u32, u32>), AllocError>
@@ -34,7 +35,23 @@ pub fn calls_on_a_map(
     Ok((replies, m))
 }
 
-/// By hand. That one run is taken at most is proved. Which one it is, and the next, is only run.
+/// The example of `NonEmptyMap`.
+pub fn calls_of_the_trait(
+    alloc: Global,
+) -> Result<(Option<u32>, Option<u32>, bool, usize), AllocError>
+    ensures absent { IfOk result (λ r. r.0 ≡ None) }
+    ensures old { IfOk result (λ r. r.1 ≡ Some 10) }
+    ensures has { IfOk result (λ r. r.2 ≡ true) }
+    ensures size { IfOk result (λ r. r.3 ≡ 2) }
+{
+    let mut map = NEMap::new(alloc, 1, 10)?;
+    let absent = map.put(2, 20)?;
+    let old = map.set(&1, 11);
+    let (has, size) = (map.has(&2), map.size().get());
+    Ok((absent, old, has, size))
+}
+
+/// That one run is taken at most is proved. Which one it is, and the next, is only run.
 pub fn first_run(
     alloc: Global,
 ) -> Result<(Vec<NEVec<u32>>, Option<Result<NEVec<u32>, AllocError>>), AllocError>
@@ -46,7 +63,7 @@ pub fn first_run(
     Ok((runs, next))
 }
 
-/// By hand. That the fourth reply is a `Len` is only run; if it is, its number is 2.
+/// That the fourth reply is a `Len` is only run; if it is, its number is 2.
 pub fn calls_on_a_vector(alloc: Global) -> Result<(Vec<VecReply<u32>>, NEVec<u32>), AllocError>
     ensures len { IfOk result (λ r. length r.0.items ≡ 5) }
     ensures pushed { IfOk result (λ r. slice_get r.0.items 0 ≡ Some VecReply.Done) }

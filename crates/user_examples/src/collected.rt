@@ -1,4 +1,4 @@
-//! The examples of what can be collected, written by `.ci/examples --write`.
+//! The examples of what can be collected.
 ghost use Rattle.std.specs.Prelude.{◌≡◌, ◌∷◌, [], IfOk, codes, string_bytes};
 
 use nonempty_collections::{FromNonEmptyIterator, IntoNonEmptyIterator, NEVec, NonEmptyIterator};
@@ -11,6 +11,14 @@ pub fn from_nonempty_iter(alloc: Global) -> Result<(Vec<u32>, String), AllocErro
     let list: Vec<u32> = [1u32, 1, 2].into_nonempty_iter().collect(alloc)?;
     let text: String = ["ab", "", "c"].into_nonempty_iter().collect(alloc)?;
     Ok((list, text))
+}
+
+/// The example of the method `from_nonempty_iter`.
+pub fn of_an_array(alloc: Global) -> Result<NEVec<u32>, AllocError>
+    ensures { IfOk result (λ v. v ≡ 1 ∷ 2 ∷ []) }
+{
+    let items = NEVec::from_nonempty_iter(alloc, [1u32, 2])?;
+    Ok(items)
 }
 
 /// The example of `from_drained`.

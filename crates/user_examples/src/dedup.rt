@@ -1,4 +1,4 @@
-//! The examples of dropping repeated items of a vector, written by `.ci/examples --write`.
+//! The examples of dropping repeated items of a vector.
 ghost use Rattle.std.specs.Prelude.{◌≡◌, ◌∷◌, [], IfOk};
 
 use nonempty_collections::{NEVec, nev};

@@ -1,4 +1,4 @@
-//! The examples of hashed maps, written by `.ci/examples --write`.
+//! The examples of hashed maps.
 ghost use Rattle.std.specs.Prelude.{◌≡◌, ◌+◌, ◌≤◌, [], ◌∷◌, true, false, length, nat_eq};
 ghost use Rattle.std.specs.Prelude.{Contains, IfOk, IsErr, IsOkAnd, None, Some};
 ghost use Rattle.std.specs.HashMap.{get, hash_map_len, spare};
@@ -13,7 +13,7 @@ use std::hash::{BuildHasherDefault, RandomState};
 use std::io;
 use std::num::NonZeroUsize;
 
-/// By hand. Creates a map whose hasher has a random seed.
+/// Creates a map whose hasher has a random seed.
 pub fn random_state(
     alloc: Global,
     rt: &HostRuntime,
@@ -44,7 +44,7 @@ pub fn new(alloc: Global) -> Result<NEMap<u32, u32>, AllocError>
     Ok(map)
 }
 
-/// By hand. Creates a map of one key that has room for more.
+/// Creates a map of one key that has room for more.
 pub fn with_capacity(alloc: Global) -> Result<NEMap<u32, u32>, AllocError>
     ensures entries { IfOk result (λ m. m.entries ≡ (2, 1) ∷ []) }
     ensures room { IfOk result (λ m. 9 ≤ hash_map_len m + spare m) }
@@ -83,7 +83,7 @@ pub fn iter(alloc: Global) -> Result<Vec<(u32, u32)>, AllocError>
     pairs.map(|(k, v)| (*k, *v)).collect(alloc)
 }
 
-/// By hand. The values that the loop writes are only run.
+/// The values that the loop writes are only run.
 pub fn iter_mut(alloc: Global) -> Result<NEMap<u32, u32>, AllocError>
     ensures { IfOk result (λ m. hash_map_len m ≡ 2) }
 {
@@ -105,7 +105,7 @@ pub fn nonempty_iter(alloc: Global) -> Result<NEVec<(u32, u32)>, AllocError>
     pairs.map(|(k, v)| (*k, *v)).collect(alloc)
 }
 
-/// By hand. The values that the loop writes are only run.
+/// The values that the loop writes are only run.
 pub fn nonempty_iter_mut(alloc: Global) -> Result<NEMap<u32, u32>, AllocError>
     ensures { IfOk result (λ m. hash_map_len m ≡ 2) }
 {
@@ -116,7 +116,7 @@ pub fn nonempty_iter_mut(alloc: Global) -> Result<NEMap<u32, u32>, AllocError>
     Ok(map)
 }
 
-/// By hand. Iterates over the keys.
+/// Iterates over the keys.
 pub fn keys(alloc: Global) -> Result<NEVec<u32>, AllocError>
     ensures zero { IfOk result (λ v. is_member nat_eq v 0 ≡ true) }
     ensures two { IfOk result (λ v. is_member nat_eq v 2 ≡ true) }
@@ -135,7 +135,7 @@ pub fn len(alloc: Global) -> Result<usize, AllocError>
     Ok(len)
 }
 
-/// By hand. Iterates over the values.
+/// Iterates over the values.
 pub fn values(alloc: Global) -> Result<NEVec<u32>, AllocError>
     ensures three { IfOk result (λ v. Contains v 3) }
     ensures one { IfOk result (λ v. Contains v 1) }
@@ -159,6 +159,15 @@ pub fn contains_key(alloc: Global) -> Result<(bool, bool), AllocError>
     let map = nem![alloc; 2 => 24, 4 => 26]?;
     let (there, absent) = (map.contains_key(&2), map.contains_key(&8));
     Ok((there, absent))
+}
+
+/// The example of `get_key_value`.
+pub fn get_key_value(alloc: Global) -> Result<Option<(u32, u32)>, AllocError>
+    ensures { IfOk result (λ pair. pair ≡ Some (4, 20)) }
+{
+    let map = NEMap::new(alloc, 4, 20)?;
+    let pair = map.get_key_value(&4);
+    Ok(pair.map(|(k, v)| (*k, *v)))
 }
 
 /// The example of `get_mut`.
@@ -186,6 +195,21 @@ pub fn insert(alloc: Global) -> Result<(Option<u32>, Option<u32>, NEMap<u32, u32
     let none = map.insert(2, 21)?;
     let old = map.insert(4, 22)?;
     Ok((none, old, map))
+}
+
+/// The example of `with_capacity_and_hasher`.
+pub fn with_capacity_and_hasher(alloc: Global) -> Result<(bool, bool, NEMap<u32, u32>), AllocError>
+    ensures room { IfOk result (λ r. r.0 ≡ true) }
+    ensures is_empty { IfOk result (λ r. r.1 ≡ false) }
+    ensures map { IfOk result (λ r. get nat_eq r.2 2 ≡ Some 1) }
+{
+    let (room, hasher) = (NonZeroUsize::new(9).unwrap(), BuildHasherDefault::new());
+    let mut map: NEMap<u32, u32> = NEMap::with_capacity_and_hasher(alloc, room, hasher, 2, 1)?;
+    let has_room = map.capacity().get() >= 9;
+    let is_empty = map.is_empty();
+    map.shrink_to_fit()?;
+    let hasher = map.hasher();
+    Ok((has_room, is_empty, map))
 }
 
 /// The example of `with_hasher`.
@@ -251,7 +275,7 @@ pub fn retain(
     Ok((even, none))
 }
 
-/// By hand. The values that the loop writes are only run.
+/// The values that the loop writes are only run.
 pub fn values_mut(alloc: Global) -> Result<NEMap<u32, u32>, AllocError>
     ensures { IfOk result (λ m. hash_map_len m ≡ 2) }
 {
@@ -262,7 +286,7 @@ pub fn values_mut(alloc: Global) -> Result<NEMap<u32, u32>, AllocError>
     Ok(map)
 }
 
-/// By hand. Iterates over the keys by value.
+/// Iterates over the keys by value.
 pub fn into_keys(alloc: Global) -> Result<NEVec<u32>, AllocError>
     ensures zero { IfOk result (λ v. is_member nat_eq v 0 ≡ true) }
     ensures two { IfOk result (λ v. is_member nat_eq v 2 ≡ true) }
@@ -272,7 +296,7 @@ pub fn into_keys(alloc: Global) -> Result<NEVec<u32>, AllocError>
     keys.collect(alloc)
 }
 
-/// By hand. Iterates over the values by value.
+/// Iterates over the values by value.
 pub fn into_values(alloc: Global) -> Result<NEVec<u32>, AllocError>
     ensures three { IfOk result (λ v. Contains v 3) }
     ensures one { IfOk result (λ v. Contains v 1) }

@@ -1,4 +1,4 @@
-//! The examples of hashed sets, written by `.ci/examples --write`.
+//! The examples of hashed sets.
 ghost use Rattle.std.specs.Prelude.{◌≡◌, ◌+◌, ◌≤◌, [], ◌∷◌, true, false, length, nat_eq};
 ghost use Rattle.std.specs.Prelude.{◌%◌, ◌==◌, ℕ, List, IfOk, MatchResult, None, Some};
 ghost use Rattle.std.specs.HashSet.{contains, hash_set_len, spare};
@@ -14,7 +14,7 @@ use std::hash::{BuildHasherDefault, RandomState};
 use std::io;
 use std::num::NonZeroUsize;
 
-/// By hand. Creates a set whose hasher has a random seed.
+/// Creates a set whose hasher has a random seed.
 pub fn random_state(alloc: Global, rt: &HostRuntime) -> Result<NESet<u32, RandomState>, io::Error>
     ensures { IfOk result (λ s. s.keys ≡ 1 ∷ []) }
 {
@@ -72,7 +72,7 @@ pub fn new(alloc: Global) -> Result<NESet<u32>, AllocError>
     Ok(set)
 }
 
-/// By hand. Creates a set of one item that has room for more.
+/// Creates a set of one item that has room for more.
 pub fn with_capacity(alloc: Global) -> Result<NESet<u32>, AllocError>
     ensures items { IfOk result (λ s. s.keys ≡ 2 ∷ []) }
     ensures room { IfOk result (λ s. 9 ≤ hash_set_len s + spare s) }
@@ -186,13 +186,37 @@ pub fn replace(alloc: Global) -> Result<(Option<u32>, Option<u32>), AllocError>
     Ok((old, none))
 }
 
-/// By hand. Makes room for 20 more items, and returns the capacity.
+/// Makes room for 20 more items, and returns the capacity.
 pub fn reserve(alloc: Global) -> Result<usize, AllocError>
     ensures { IfOk result (λ capacity. 21 ≤ capacity) }
 {
     let mut set = NESet::new(alloc, 2)?;
     set.reserve(20)?;
     Ok(set.capacity().get())
+}
+
+/// The example of `union`.
+pub fn union(alloc: Global) -> Result<usize, AllocError>
+    ensures { IfOk result (λ count. count ≡ 2) }
+{
+    let (one, two) = (nes![alloc; 1]?, nes![alloc; 2]?);
+    let count = one.union(&two).count().get();
+    Ok(count)
+}
+
+/// The example of `with_capacity_and_hasher`.
+pub fn with_capacity_and_hasher(alloc: Global) -> Result<(bool, bool, NESet<u32>), AllocError>
+    ensures room { IfOk result (λ r. r.0 ≡ true) }
+    ensures is_empty { IfOk result (λ r. r.1 ≡ false) }
+    ensures set { IfOk result (λ r. contains nat_eq r.2 8 ≡ true) }
+{
+    let (room, hasher) = (NonZeroUsize::new(9).unwrap(), BuildHasherDefault::new());
+    let mut set: NESet<u32> = NESet::with_capacity_and_hasher(alloc, room, hasher, 8)?;
+    let has_room = set.capacity().get() >= 9;
+    let is_empty = set.is_empty();
+    set.shrink_to_fit()?;
+    let hasher = set.hasher();
+    Ok((has_room, is_empty, set))
 }
 
 /// The example of `with_hasher`.
@@ -239,7 +263,7 @@ pub fn take(alloc: Global) -> Result<(Option<u32>, Option<u32>, bool), AllocErro
     Ok((taken, none, stays))
 }
 
-/// By hand. An even item stays, and an odd one does not.
+/// An even item stays, and an odd one does not.
 pub fn retain(
     alloc: Global,
 ) -> Result<

@@ -1,4 +1,4 @@
-//! The examples of index maps, written by `.ci/examples --write`.
+//! The examples of index maps.
 ghost use Rattle.std.specs.Prelude.{◌≡◌, ◌+◌, ◌≤◌, [], ◌∷◌, true, false, IfOk};
 ghost use Rattle.std.specs.Prelude.{None, Some, IsErr, IsOkAnd};
 ghost use Rattle.std.specs.Option.{IsSomeAnd};
@@ -92,7 +92,7 @@ pub fn new(alloc: Global) -> Result<NEIndexMap<u32, u32>, AllocError>
     Ok(map)
 }
 
-/// By hand. Creates a map of one key that has room for more.
+/// Creates a map of one key that has room for more.
 pub fn with_capacity(alloc: Global) -> Result<NEIndexMap<u32, u32>, AllocError>
     ensures entries { IfOk result (λ m. m.entries ≡ (2, 1) ∷ []) }
     ensures room { IfOk result (λ m. 9 ≤ index_map_len m + spare m) }
@@ -165,6 +165,25 @@ pub fn insert(alloc: Global) -> Result<(Option<u32>, Option<u32>, NEIndexMap<u32
     let none = map.insert(2, 21)?;
     let old = map.insert(4, 22)?;
     Ok((none, old, map))
+}
+
+/// The example of `with_capacity_and_hasher`.
+pub fn with_capacity_and_hasher(
+    alloc: Global,
+) -> Result<(bool, bool, NEIndexMap<u32, u32>), AllocError>
+    ensures room { IfOk result (λ r. r.0 ≡ true) }
+    ensures is_empty { IfOk result (λ r. r.1 ≡ false) }
+    ensures map { IfOk result (λ r. r.2.entries ≡ (2, 1) ∷ []) }
+{
+    let (room, hasher) = (NonZeroUsize::new(9).unwrap(), BuildHasherDefault::new());
+    let mut map: NEIndexMap<u32, u32> = NEIndexMap::with_capacity_and_hasher(
+        alloc, room, hasher, 2, 1,
+    )?;
+    let has_room = map.capacity().get() >= 9;
+    let is_empty = map.is_empty();
+    map.shrink_to_fit()?;
+    let hasher = map.hasher();
+    Ok((has_room, is_empty, map))
 }
 
 /// The example of `with_hasher`.

@@ -1,4 +1,4 @@
-//! The examples of index sets, written by `.ci/examples --write`.
+//! The examples of index sets.
 ghost use Rattle.std.specs.Prelude.{◌≡◌, ◌+◌, ◌≤◌, ◌%◌, ◌==◌, [], ◌∷◌, List, ℕ, true, false};
 ghost use Rattle.std.specs.Prelude.{filter, IfOk, MatchResult, None, Some};
 ghost use Rattle.std.specs.Option.{IsSomeAnd};
@@ -56,7 +56,7 @@ pub fn new(alloc: Global) -> Result<NEIndexSet<u32>, AllocError>
     Ok(set)
 }
 
-/// By hand. Creates a set of one item that has room for more.
+/// Creates a set of one item that has room for more.
 pub fn with_capacity(alloc: Global) -> Result<NEIndexSet<u32>, AllocError>
     ensures items { IfOk result (λ s. s.keys ≡ 2 ∷ []) }
     ensures room { IfOk result (λ s. 9 ≤ index_set_len s + spare s) }
@@ -88,13 +88,22 @@ pub fn contains(alloc: Global) -> Result<(bool, bool), AllocError>
     Ok((there, absent))
 }
 
-/// By hand. Iterates over the items that are only in the first set.
+/// Iterates over the items that are only in the first set.
 pub fn difference(alloc: Global) -> Result<Vec<u32>, AllocError>
     ensures { IfOk result (λ v. v.items ≡ 2 ∷ 4 ∷ []) }
 {
     let (a, b) = (neis![alloc; 2, 4, 6]?, neis![alloc; 6]?);
     let left = a.difference(&b);
     Ok(left.copied().collect(alloc)?)
+}
+
+/// The example of `get`.
+pub fn get(alloc: Global) -> Result<(Option<u32>, Option<u32>), AllocError>
+    ensures { IfOk result (λ r. (r.0 ≡ Some 8) × (r.1 ≡ None)) }
+{
+    let set = NEIndexSet::new(alloc, 8)?;
+    let (eight, none) = (set.get(&8), set.get(&6));
+    Ok((eight.copied(), none.copied()))
 }
 
 /// The example of `insert`.
@@ -109,7 +118,7 @@ pub fn insert(alloc: Global) -> Result<(bool, bool, NEIndexSet<u32>), AllocError
     Ok((added, again, set))
 }
 
-/// By hand. Iterates over the items that are in both sets.
+/// Iterates over the items that are in both sets.
 pub fn intersection(alloc: Global) -> Result<Vec<u32>, AllocError>
     ensures { IfOk result (λ v. v.items ≡ 3 ∷ []) }
 {
@@ -158,7 +167,7 @@ pub fn replace(alloc: Global) -> Result<Option<u32>, AllocError>
     Ok(old)
 }
 
-/// By hand. Makes room for 20 more items, and returns the capacity.
+/// Makes room for 20 more items, and returns the capacity.
 pub fn reserve(alloc: Global) -> Result<usize, AllocError>
     ensures { IfOk result (λ capacity. 21 ≤ capacity) }
 {
@@ -174,6 +183,21 @@ pub fn union(alloc: Global) -> Result<usize, AllocError>
     let (one, two) = (neis![alloc; 1]?, neis![alloc; 2]?);
     let count = one.union(&two).count().get();
     Ok(count)
+}
+
+/// The example of `with_capacity_and_hasher`.
+pub fn with_capacity_and_hasher(alloc: Global) -> Result<(bool, bool, NEIndexSet<u32>), AllocError>
+    ensures room { IfOk result (λ r. r.0 ≡ true) }
+    ensures is_empty { IfOk result (λ r. r.1 ≡ false) }
+    ensures set { IfOk result (λ r. r.2.keys ≡ 8 ∷ []) }
+{
+    let (room, hasher) = (NonZeroUsize::new(9).unwrap(), BuildHasherDefault::new());
+    let mut set: NEIndexSet<u32> = NEIndexSet::with_capacity_and_hasher(alloc, room, hasher, 8)?;
+    let has_room = set.capacity().get() >= 9;
+    let is_empty = set.is_empty();
+    set.shrink_to_fit()?;
+    let hasher = set.hasher();
+    Ok((has_room, is_empty, set))
 }
 
 /// The example of `with_hasher`.
@@ -254,7 +278,7 @@ pub fn pop(alloc: Global) -> Result<(Option<u32>, Option<u32>, NEIndexSet<u32>),
     Ok((popped, none, set))
 }
 
-/// By hand. The even items stay, or there are none.
+/// The even items stay, or there are none.
 pub fn retain(
     alloc: Global,
 ) -> Result<

@@ -1,4 +1,4 @@
-//! The examples of sources of no collection, written by `.ci/examples --write`.
+//! The examples of sources of no collection.
 ghost use Rattle.std.specs.Prelude.{◌≡◌, ◌∷◌, [], IfOk};
 
 use nonempty_collections::iter::once;

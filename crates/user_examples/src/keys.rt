@@ -6,7 +6,7 @@ use nonempty_collections::{IntoNonEmptyIterator, NonEmptyIterator, nev};
 use std::alloc::{AllocError, Global};
 use std::collections::{BTreeMap, BTreeSet, HashMap};
 
-/// By hand. A hash map has the last of the values that come with a key.
+/// A hash map has the last of the values that come with a key.
 pub fn hash_map(alloc: Global) -> Result<Option<u32>, AllocError>
     ensures pairs { IfOk result (λ last. (xs : List ℕ) → xs ≡ 3 ∷ 4 ∷ 2 ∷ []
         → last ≡ last_value nat_eq (map (λ x. (x / 2, x)) xs) 1) }
@@ -18,7 +18,7 @@ pub fn hash_map(alloc: Global) -> Result<Option<u32>, AllocError>
     Ok(last)
 }
 
-/// By hand. The list of the entries is only run.
+/// The list of the entries is only run.
 pub fn tree_map(alloc: Global) -> Result<BTreeMap<u32, u32>, AllocError>
     ensures { IfOk result (λ m. (xs : List ℕ) → xs ≡ 4 ∷ 3 ∷ 2 ∷ []
         → IsMapOf nat_eq (map (λ x. (x / 2, x)) xs) m.entries) }
@@ -28,7 +28,7 @@ pub fn tree_map(alloc: Global) -> Result<BTreeMap<u32, u32>, AllocError>
     Ok(map)
 }
 
-/// By hand. The list of the keys is only run.
+/// The list of the keys is only run.
 pub fn tree_set(alloc: Global) -> Result<BTreeSet<u32>, AllocError>
     ensures { IfOk result (λ s. (xs : List ℕ) → xs ≡ 3 ∷ 1 ∷ 4 ∷ 1 ∷ 5 ∷ 9 ∷ 2 ∷ 6 ∷ []
         → IsSetOf nat_eq (map (λ x. x / 2) xs) s.keys) }

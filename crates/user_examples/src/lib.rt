@@ -1,9 +1,8 @@
 //! The examples in the comments of the libraries, with what is proved of their values.
 //!
 //! A function begins with the code of one example. It returns the values that the example's
-//! comments say, and its contract states them, proved from the public contracts of the calls. So
-//! `.ci/examples --write` writes it. A comment that begins with `By hand` is one of a function that
-//! it leaves as it is: its contract says the values in other words, or less than the values.
+//! comments say, and its contract states them, proved from the public contracts of the calls; some
+//! contracts say the values in other words, or less than the values.
 #![tactic(auto)]
 
 pub mod array;

@@ -1,4 +1,4 @@
-//! The examples of the macros, written by `.ci/examples --write`.
+//! The examples of the macros.
 ghost use Rattle.std.specs.Prelude.{◌≡◌, ◌∷◌, [], IfOk, Some};
 
 use nonempty_collections::{NEIndexMap, NEVec, ne_indexmap, nebtm, nebts, nem, nes, nev};

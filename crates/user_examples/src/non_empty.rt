@@ -1,4 +1,4 @@
-//! The examples of non-empty iterators, written by `.ci/examples --write`.
+//! The examples of non-empty iterators.
 //!
 //! If the check does not find a value by itself, one clause says it by a function of the list `xs`,
 //! and another one what that is.
@@ -15,7 +15,7 @@ use nonempty_collections::{IntoNonEmptyIterator, NEVec, NonEmptyIterator, nev};
 use std::alloc::{AllocError, Global};
 use std::num::{NonZeroUsize, Wrapping};
 
-/// By hand. The halves of an array's items.
+/// The halves of an array's items.
 pub fn halves(alloc: Global) -> Result<NEVec<u32>, AllocError>
     ensures items { IfOk result (λ halves. (xs : List ℕ) → xs ≡ 3 ∷ 1 ∷ 2 ∷ []
         → halves ≡ map (λ x. x / 2) xs) }
@@ -72,7 +72,7 @@ pub fn chain(alloc: Global) -> Result<NEVec<u32>, AllocError>
     Ok(all)
 }
 
-/// By hand. A clone of each item.
+/// A clone of each item.
 pub fn cloned(alloc: Global) -> Result<Result<NEVec<u32>, AllocError>, AllocError>
     ensures { IfOk result (λ clones. clones ≡ Ok (1 ∷ 2 ∷ [])) }
 {
@@ -107,7 +107,7 @@ pub fn count(alloc: Global) -> Result<usize, AllocError>
     Ok(count)
 }
 
-/// By hand. The items with their indices.
+/// The items with their indices.
 pub fn enumerate(alloc: Global) -> Result<NEVec<(usize, char)>, AllocError>
     ensures { IfOk result (λ pairs. pairs ≡ (0, 97) ∷ (1, 98) ∷ []) }
 {
@@ -115,7 +115,7 @@ pub fn enumerate(alloc: Global) -> Result<NEVec<(usize, char)>, AllocError>
     pairs.collect(alloc)
 }
 
-/// By hand. The items that meet a test.
+/// The items that meet a test.
 pub fn filter(alloc: Global) -> Result<Vec<u32>, AllocError>
     ensures items { IfOk result (λ fours. (xs : List ℕ) → xs ≡ 4 ∷ 6 ∷ 8 ∷ []
         → fours.items ≡ filter (λ x. x % 4 == 0) xs) }
@@ -126,7 +126,7 @@ pub fn filter(alloc: Global) -> Result<Vec<u32>, AllocError>
     Ok(fours)
 }
 
-/// By hand. The halves of the even items.
+/// The halves of the even items.
 pub fn filter_map(alloc: Global) -> Result<Vec<u32>, AllocError>
     ensures items { IfOk result (λ halves. (xs : List ℕ) → xs ≡ 2 ∷ 3 ∷ 4 ∷ []
         → halves.items ≡ filter_map (λ x. then_some (x % 2 == 0) (x / 2)) xs) }
@@ -148,7 +148,7 @@ pub fn find(alloc: Global) -> Result<Option<u32>, AllocError>
     Ok(even)
 }
 
-/// By hand. The items of two vectors.
+/// The items of two vectors.
 pub fn flatten(alloc: Global) -> Result<NEVec<u32>, AllocError>
     ensures items { IfOk result (λ items. (xs : List (List ℕ))
         → xs ≡ (1 ∷ 2 ∷ []) ∷ (3 ∷ []) ∷ [] → items ≡ flat_map (λ list. list) xs) }
@@ -161,7 +161,7 @@ pub fn flatten(alloc: Global) -> Result<NEVec<u32>, AllocError>
     items.collect(alloc)
 }
 
-/// By hand. The number that has the items as its digits.
+/// The number that has the items as its digits.
 pub fn fold(alloc: Global) -> Result<u32, AllocError>
     ensures digits { IfOk result (λ number. (xs : List ℕ) → xs ≡ 4 ∷ 6 ∷ 8 ∷ []
         → number ≡ fold (λ n x. (n * 10 % 2 ^ 32 + x) % 2 ^ 32) 0 xs) }
@@ -172,7 +172,7 @@ pub fn fold(alloc: Global) -> Result<u32, AllocError>
     Ok(number)
 }
 
-/// By hand. The runs are the one division by the halves. Their list is only run.
+/// The runs are the one division by the halves. Their list is only run.
 pub fn group_by(alloc: Global) -> Result<Result<NEVec<NEVec<u32>>, AllocError>, AllocError>
     ensures { IfOk result (λ runs. IfOk runs
         (λ rs. IsDividedBy (λ x. x / 2) nat_eq (3 ∷ 2 ∷ 1 ∷ []) rs)) }
@@ -184,7 +184,7 @@ pub fn group_by(alloc: Global) -> Result<Result<NEVec<NEVec<u32>>, AllocError>, 
     Ok(runs)
 }
 
-/// By hand. The halves with a separator between them.
+/// The halves with a separator between them.
 pub fn intersperse(alloc: Global) -> Result<Result<NEVec<u32>, AllocError>, AllocError>
     ensures items { IfOk result (λ items. IfOk items (λ v. (xs : List ℕ) → xs ≡ 4 ∷ 6 ∷ []
         → v ≡ interspersed 0 (map (λ x. x / 2) xs))) }
@@ -240,7 +240,7 @@ pub fn min_by_key(alloc: Global) -> Result<u32, AllocError>
     Ok(least)
 }
 
-/// By hand. Which list it is, is only run.
+/// Which list it is, is only run.
 pub fn sorted_by_key(alloc: Global) -> Result<NEVec<(usize, u32)>, AllocError>
     ensures { IfOk result (λ v. KeysAscend (λ x. x.1 / 2) nat_cmp v) }
 {
@@ -261,7 +261,7 @@ pub fn nth(alloc: Global) -> Result<(Option<u32>, Option<u32>), AllocError>
     Ok((third, fourth))
 }
 
-/// By hand. The totals so far.
+/// The totals so far.
 pub fn scan(alloc: Global) -> Result<NEVec<u32>, AllocError>
     ensures totals { IfOk result (λ sums. (xs : List ℕ) → xs ≡ 1 ∷ 2 ∷ 3 ∷ []
         → sums ≡ scan (λ t x. (t + x) % 2 ^ 32) (λ t x. (t + x) % 2 ^ 32) 0 xs) }
@@ -285,7 +285,7 @@ pub fn skip(alloc: Global) -> Result<Vec<u32>, AllocError>
     Ok(rest)
 }
 
-/// By hand. The items from the first one that does not meet a test.
+/// The items from the first one that does not meet a test.
 pub fn skip_while(alloc: Global) -> Result<Vec<u32>, AllocError>
     ensures items { IfOk result (λ rest. (xs : List ℕ) → xs ≡ 2 ∷ 4 ∷ 7 ∷ 8 ∷ 9 ∷ []
         → rest.items ≡ drop (prefix_len (λ x. x % 2 == 0) xs) xs) }
@@ -314,7 +314,7 @@ pub fn take(alloc: Global) -> Result<NEVec<u32>, AllocError>
     items.collect(alloc)
 }
 
-/// By hand. The items before the first one that does not meet a test.
+/// The items before the first one that does not meet a test.
 pub fn take_while(alloc: Global) -> Result<Vec<u32>, AllocError>
     ensures items { IfOk result (λ first. (xs : List ℕ) → xs ≡ 2 ∷ 4 ∷ 7 ∷ 8 ∷ 9 ∷ []
         → first.items ≡ take_while (λ x. x % 2 == 0) xs) }
@@ -325,7 +325,7 @@ pub fn take_while(alloc: Global) -> Result<Vec<u32>, AllocError>
     Ok(first)
 }
 
-/// By hand. The product of the items.
+/// The product of the items.
 pub fn product(alloc: Global) -> Result<u32, AllocError>
     ensures { IfOk result (λ product. product ≡ 24) }
 {
@@ -334,7 +334,7 @@ pub fn product(alloc: Global) -> Result<u32, AllocError>
     Ok(product.0)
 }
 
-/// By hand. The pairs of the items of two vectors.
+/// The pairs of the items of two vectors.
 pub fn zip(alloc: Global) -> Result<NEVec<(u32, u32)>, AllocError>
     ensures items { IfOk result (λ pairs. (xs ys : List ℕ) → xs ≡ 7 ∷ 8 ∷ 9 ∷ [] → ys ≡ 1 ∷ 2 ∷ []
         → pairs ≡ zip xs ys) }
@@ -346,7 +346,7 @@ pub fn zip(alloc: Global) -> Result<NEVec<(u32, u32)>, AllocError>
     pairs.collect(alloc)
 }
 
-/// By hand. The number that has the items as its digits, from the first one on.
+/// The number that has the items as its digits, from the first one on.
 pub fn reduce(alloc: Global) -> Result<u32, AllocError>
     ensures digits { IfOk result (λ number. (xs : List ℕ) → xs ≡ 1 ∷ 2 ∷ 3 ∷ []
         → Some number ≡ reduce (λ n x. (n * 10 % 2 ^ 32 + x) % 2 ^ 32) xs) }

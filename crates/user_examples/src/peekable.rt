@@ -1,4 +1,4 @@
-//! The examples of peeking, written by `.ci/examples --write`.
+//! The examples of peeking.
 ghost use Rattle.std.specs.Prelude.{◌≡◌, ◌∷◌, [], IfOk};
 
 use nonempty_collections::{IntoNonEmptyIterator, NEVec, NonEmptyIterator, nev};

@@ -1,10 +1,10 @@
-//! The examples of products, and of items that differ, written by `.ci/examples --write`.
+//! The examples of products, and of items that differ.
 ghost use Rattle.std.specs.Prelude.{◌≡◌, ◌∷◌, [], IfOk, Ok, false, true};
 
 use nonempty_collections::{IntoNonEmptyIterator, NEVec, NonEmptyIterator, NonEmptyItertools, nev};
 use std::alloc::{AllocError, Global};
 
-/// By hand. The pairs of each row and each column.
+/// The pairs of each row and each column.
 pub fn cartesian_product(alloc: Global) -> Result<Result<NEVec<(u32, u32)>, AllocError>, AllocError>
     ensures { IfOk result (λ r. r ≡ Ok ((0, 7) ∷ (0, 8) ∷ (1, 7) ∷ (1, 8) ∷ [])) }
 {

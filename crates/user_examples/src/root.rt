@@ -4,7 +4,7 @@ ghost use Rattle.std.specs.Prelude.{◌≡◌, ◌∷◌, [], ◌++◌, List, �
 use nonempty_collections::{Error, NEVec, Singleton};
 use std::alloc::{AllocError, Global};
 
-/// By hand. A conversion of an empty vector returns the error `Empty`.
+/// A conversion of an empty vector returns the error `Empty`.
 pub fn error(alloc: Global) -> Result<Result<NEVec<u32>, Error>, AllocError>
     ensures { IfOk result (λ r. r ≡ Err Error.Empty) }
 {
@@ -12,7 +12,7 @@ pub fn error(alloc: Global) -> Result<Result<NEVec<u32>, Error>, AllocError>
     Ok(none)
 }
 
-/// By hand. Makes a vector of an item by `singleton`, and adds another one: `[1, 2]`.
+/// Makes a vector of an item by `singleton`, and adds another one: `[1, 2]`.
 pub fn singleton(alloc: Global) -> Result<NEVec<u32>, AllocError>
     ensures { IfOk result (λ v. (xs : List ℕ) → xs ≡ 1 ∷ [] → v ≡ xs ++ 2 ∷ []) }
 {

@@ -6,7 +6,7 @@ ghost use Rattle.std.specs.List.Sorted.{IsSearchInRange};
 use nonempty_collections::nev;
 use std::alloc::{AllocError, Global};
 
-/// By hand. The index of an item that is there, and the place of one that is not.
+/// The index of an item that is there, and the place of one that is not.
 pub fn binary_search(
     alloc: Global,
 ) -> Result<(Result<usize, usize>, Result<usize, usize>), AllocError>
@@ -18,7 +18,7 @@ pub fn binary_search(
     Ok((found, place))
 }
 
-/// By hand. The index of the item at which a comparison returns `Equal`.
+/// The index of the item at which a comparison returns `Equal`.
 pub fn binary_search_by(alloc: Global) -> Result<Result<usize, usize>, AllocError>
     ensures { IfOk result (λ place. IsSearchInRange place 3) }
 {
@@ -27,7 +27,7 @@ pub fn binary_search_by(alloc: Global) -> Result<Result<usize, usize>, AllocErro
     Ok(place)
 }
 
-/// By hand. The index of the item that has a key.
+/// The index of the item that has a key.
 pub fn binary_search_by_key(alloc: Global) -> Result<Result<usize, usize>, AllocError>
     ensures { IfOk result (λ place. IsSearchInRange place 3) }
 {
@@ -36,7 +36,7 @@ pub fn binary_search_by_key(alloc: Global) -> Result<Result<usize, usize>, Alloc
     Ok(place)
 }
 
-/// By hand. The number of first items that meet a test: at most 8 is proved.
+/// The number of first items that meet a test: at most 8 is proved.
 pub fn partition_point(alloc: Global) -> Result<usize, AllocError>
     ensures { IfOk result (λ count. count ≤ 8) }
 {

@@ -1,5 +1,5 @@
-//! The examples of the slice, written by `.ci/examples --write`.
-ghost use Rattle.std.specs.Prelude.{◌≡◌, ◌∷◌, [], List, ℕ, IfOk, true, length, ltb, map};
+//! The examples of the slice.
+ghost use Rattle.std.specs.Prelude.{◌≡◌, ◌∷◌, [], List, ℕ, IfOk, false, true, length, ltb, map};
 ghost use Rattle.std.specs.Int.{abs_diff};
 ghost use Rattle.nonempty_collections.specs.Divisions.{by_first, by_previous, runs_of};
 
@@ -35,7 +35,7 @@ pub fn last(alloc: Global) -> Result<u32, AllocError>
     Ok(last)
 }
 
-/// By hand. A slice with items is converted, and an empty one is not.
+/// A slice with items is converted, and an empty one is not.
 pub fn try_from_slice(alloc: Global) -> Result<(NEVec<u32>, bool), AllocError>
     ensures some { IfOk result (λ r. r.0 ≡ 5 ∷ 9 ∷ 2 ∷ []) }
     ensures none { IfOk result (λ r. r.1 ≡ true) }
@@ -59,7 +59,26 @@ pub fn len(alloc: Global) -> Result<usize, AllocError>
     Ok(len)
 }
 
-/// By hand. An iterator over the items.
+/// The example of `is_empty`.
+pub fn is_empty(alloc: Global) -> Result<bool, AllocError>
+    ensures { IfOk result (λ is_empty. is_empty ≡ false) }
+{
+    let items = nev![alloc; 5]?;
+    let is_empty = items.as_nonempty_slice().is_empty();
+    Ok(is_empty)
+}
+
+/// The example of `iter`.
+pub fn iter(alloc: Global) -> Result<Vec<u32>, AllocError>
+    ensures { IfOk result (λ v. v.items ≡ 2 ∷ 3 ∷ []) }
+{
+    let items = nev![alloc; 4, 6]?;
+    let slice = items.as_nonempty_slice();
+    let halves: Vec<u32> = slice.iter().map(|x| *x / 2).collect(alloc)?;
+    Ok(halves)
+}
+
+/// An iterator over the items.
 pub fn nonempty_iter(alloc: Global) -> Result<Vec<u32>, AllocError>
     ensures { IfOk result (λ same. same.items ≡ 3 ∷ 1 ∷ 4 ∷ 1 ∷ 5 ∷ 9 ∷ 2 ∷ 6 ∷ []) }
 {
@@ -69,7 +88,7 @@ pub fn nonempty_iter(alloc: Global) -> Result<Vec<u32>, AllocError>
     Ok(same)
 }
 
-/// By hand. The items of the chunks are only run.
+/// The items of the chunks are only run.
 pub fn nonempty_chunks(alloc: Global) -> Result<(usize, usize, usize), AllocError>
     ensures count { IfOk result (λ r. r.0 ≡ 2) }
     ensures first { IfOk result (λ r. r.1 ≡ 2) }
@@ -86,7 +105,7 @@ pub fn nonempty_chunks(alloc: Global) -> Result<(usize, usize, usize), AllocErro
     ))
 }
 
-/// By hand. The numbers are only run.
+/// The numbers are only run.
 pub fn runs_by(alloc: Global) -> Result<NEVec<usize>, AllocError>
     ensures { IfOk result (λ r. (xs : List ℕ) → xs ≡ 1 ∷ 2 ∷ 3 ∷ []
         → r ≡ map (λ c. length c) (runs_of by_first (λ a b. ltb (abs_diff a b) 2) xs)) }
@@ -97,7 +116,7 @@ pub fn runs_by(alloc: Global) -> Result<NEVec<usize>, AllocError>
     runs.map(|c| c.len().get()).collect(alloc)
 }
 
-/// By hand. The numbers are only run.
+/// The numbers are only run.
 pub fn adjacent_runs(alloc: Global) -> Result<NEVec<usize>, AllocError>
     ensures { IfOk result (λ r. (xs : List ℕ) → xs ≡ 1 ∷ 2 ∷ 3 ∷ []
         → r ≡ map (λ c. length c) (runs_of by_previous (λ a b. ltb (abs_diff a b) 2) xs)) }

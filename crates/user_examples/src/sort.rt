@@ -5,7 +5,7 @@ ghost use Rattle.std.specs.Ordering.{nat_cmp};
 use nonempty_collections::{NEVec, nev};
 use std::alloc::{AllocError, Global};
 
-/// By hand. Which list it is, is only run.
+/// Which list it is, is only run.
 pub fn sort(alloc: Global) -> Result<NEVec<u32>, AllocError>
     ensures { IfOk result (λ v. IsSorted nat_cmp v) }
 {
@@ -14,7 +14,7 @@ pub fn sort(alloc: Global) -> Result<NEVec<u32>, AllocError>
     Ok(items)
 }
 
-/// By hand. Which list it is, is only run.
+/// Which list it is, is only run.
 pub fn sort_unstable(alloc: Global) -> Result<NEVec<u32>, AllocError>
     ensures { IfOk result (λ v. IsSorted nat_cmp v) }
 {

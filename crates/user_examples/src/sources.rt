@@ -1,4 +1,4 @@
-//! The examples of what becomes a source, written by `.ci/examples --write`.
+//! The examples of what becomes a source.
 ghost use Rattle.std.specs.Prelude.{◌≡◌, ◌∷◌, [], IfOk};
 
 use nonempty_collections::{IntoNonEmptyIterator, NEVec, NonEmptyIterator};

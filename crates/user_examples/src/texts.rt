@@ -1,4 +1,4 @@
-//! The examples of collecting texts, written by `.ci/examples --write`.
+//! The examples of collecting texts.
 ghost use Rattle.std.specs.Prelude.{◌≡◌, IfOk, codes, string_bytes};
 
 use nonempty_collections::{IntoNonEmptyIterator, NonEmptyIterator};

@@ -1,4 +1,4 @@
-//! The examples of the vector's conversions and indices, written by `.ci/examples --write`.
+//! The examples of the vector's conversions and indices.
 ghost use Rattle.std.specs.Prelude.{◌≡◌, ◌∷◌, [], IfOk, Ok};
 
 use nonempty_collections::{Error, NEVec, nev};
@@ -30,7 +30,7 @@ pub fn index_mut(alloc: Global) -> Result<NEVec<u32>, AllocError>
     Ok(items)
 }
 
-/// By hand. A conversion of std's vector with items.
+/// A conversion of std's vector with items.
 pub fn try_from(alloc: Global) -> Result<Result<NEVec<u32>, Error>, AllocError>
     ensures { IfOk result (λ some. some ≡ Ok (1 ∷ 2 ∷ [])) }
 {

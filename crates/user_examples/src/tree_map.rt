@@ -1,4 +1,4 @@
-//! The examples of tree maps, written by `.ci/examples --write`.
+//! The examples of tree maps.
 ghost use Rattle.std.specs.Prelude.{◌≡◌, [], ◌∷◌, true, false, IfOk, None, Some, IsErr, IsOkAnd};
 ghost use Rattle.std.specs.BTreeMap.{keys};
 ghost use Rattle.std.specs.Option.{IsSomeAnd};
@@ -52,7 +52,7 @@ pub fn iter(alloc: Global) -> Result<Vec<(u32, u32)>, AllocError>
     pairs.map(|(k, v)| (*k, *v)).collect(alloc)
 }
 
-/// By hand. The values that the loop writes are only run.
+/// The values that the loop writes are only run.
 pub fn iter_mut(alloc: Global) -> Result<NEBTreeMap<u32, u32>, AllocError>
     ensures { IfOk result (λ m. keys m ≡ 2 ∷ 4 ∷ []) }
 {
@@ -72,7 +72,7 @@ pub fn nonempty_iter(alloc: Global) -> Result<NEVec<(u32, u32)>, AllocError>
     pairs.map(|(k, v)| (*k, *v)).collect(alloc)
 }
 
-/// By hand. The values that the loop writes are only run.
+/// The values that the loop writes are only run.
 pub fn nonempty_iter_mut(alloc: Global) -> Result<NEBTreeMap<u32, u32>, AllocError>
     ensures { IfOk result (λ m. keys m ≡ 2 ∷ 4 ∷ []) }
 {
@@ -248,7 +248,7 @@ pub fn retain(
     Ok((even, none))
 }
 
-/// By hand. The values that the loop writes are only run.
+/// The values that the loop writes are only run.
 pub fn values_mut(alloc: Global) -> Result<NEBTreeMap<u32, u32>, AllocError>
     ensures { IfOk result (λ m. keys m ≡ 2 ∷ 4 ∷ []) }
 {

@@ -1,4 +1,4 @@
-//! The examples of tree sets, written by `.ci/examples --write`.
+//! The examples of tree sets.
 ghost use Rattle.std.specs.Prelude.{◌≡◌, ◌%◌, ◌==◌, ℕ, List, [], ◌∷◌, true, false, None, Some};
 ghost use Rattle.std.specs.Prelude.{IfOk, MatchResult};
 ghost use Rattle.std.specs.List.{filter};
@@ -237,7 +237,7 @@ pub fn pop_last(alloc: Global) -> Result<(Option<u32>, Option<u32>, NEBTreeSet<u
     Ok((popped, none, set))
 }
 
-/// By hand. The even items stay, or there are none.
+/// The even items stay, or there are none.
 pub fn retain(
     alloc: Global,
 ) -> Result<

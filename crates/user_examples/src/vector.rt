@@ -1,4 +1,4 @@
-//! The examples of the vector, written by `.ci/examples --write`.
+//! The examples of the vector.
 ghost use Rattle.std.specs.Prelude.{◌≡◌, ◌/◌, ◌%◌, ◌==◌, ◌∷◌, [], List, ℕ, IfOk, MatchResult};
 ghost use Rattle.std.specs.Prelude.{None, Ok, Some, codes, true, false, length, filter, map};
 
@@ -105,7 +105,7 @@ pub fn swap_remove(alloc: Global) -> Result<(Option<u32>, NEVec<u32>), AllocErro
     Ok((removed, items))
 }
 
-/// By hand. The even items stay, or there are none.
+/// The even items stay, or there are none.
 pub fn retain(
     alloc: Global,
 ) -> Result<(Result<NEVec<u32>, Vec<u32>>, Result<NEVec<u32>, Vec<u32>>), AllocError>
@@ -122,7 +122,7 @@ pub fn retain(
     Ok((even, none))
 }
 
-/// By hand. The items are halved, and the even halves stay.
+/// The items are halved, and the even halves stay.
 pub fn retain_mut(alloc: Global) -> Result<Result<NEVec<u32>, Vec<u32>>, AllocError>
     ensures { IfOk result (λ r. r ≡ Ok (0 ∷ 2 ∷ 0 ∷ 2 ∷ 4 ∷ [])) }
 {
@@ -151,6 +151,23 @@ pub fn len(alloc: Global) -> Result<usize, AllocError>
 {
     let len = nev![alloc; 3, 1, 4, 1, 5, 9, 2, 6]?.len().get();
     Ok(len)
+}
+
+/// The example of `is_empty`.
+pub fn is_empty(alloc: Global) -> Result<bool, AllocError>
+    ensures { IfOk result (λ is_empty. is_empty ≡ false) }
+{
+    let is_empty = nev![alloc; 5]?.is_empty();
+    Ok(is_empty)
+}
+
+/// The example of `capacity`.
+pub fn capacity(alloc: Global) -> Result<bool, AllocError>
+    ensures { IfOk result (λ has_room. has_room ≡ true) }
+{
+    let items = nev![alloc; 3, 1, 4]?;
+    let has_room = items.capacity().get() >= 3;
+    Ok(has_room)
 }
 
 /// The example of `last`.
@@ -209,7 +226,7 @@ pub fn as_mut_slice(alloc: Global) -> Result<NEVec<u32>, AllocError>
     Ok(items)
 }
 
-/// By hand. The halves of the items, by std's iterator.
+/// The halves of the items, by std's iterator.
 pub fn iter(alloc: Global) -> Result<Vec<u32>, AllocError>
     ensures { IfOk result (λ halves. halves.items ≡ map (λ x. x / 2) (3 ∷ 4 ∷ 5 ∷ 6 ∷ [])) }
 {
@@ -218,7 +235,7 @@ pub fn iter(alloc: Global) -> Result<Vec<u32>, AllocError>
     Ok(halves)
 }
 
-/// By hand. The values that the loop writes are only run.
+/// The values that the loop writes are only run.
 pub fn iter_mut(alloc: Global) -> Result<NEVec<u32>, AllocError>
     ensures { IfOk result (λ v. length v ≡ 4) }
 {
@@ -238,7 +255,7 @@ pub fn nonempty_iter(alloc: Global) -> Result<u32, AllocError>
     Ok(greatest)
 }
 
-/// By hand. The values that the loop writes are only run.
+/// The values that the loop writes are only run.
 pub fn nonempty_iter_mut(alloc: Global) -> Result<NEVec<u32>, AllocError>
     ensures { IfOk result (λ v. length v ≡ 4) }
 {
@@ -324,7 +341,7 @@ pub fn append(alloc: Global) -> Result<NEVec<u32>, AllocError>
     Ok(items)
 }
 
-/// By hand. The items of the chunks are only run.
+/// The items of the chunks are only run.
 pub fn nonempty_chunks(alloc: Global) -> Result<(usize, usize, usize), AllocError>
     ensures count { IfOk result (λ r. r.0 ≡ 2) }
     ensures first { IfOk result (λ r. r.1 ≡ 2) }

@@ -20,7 +20,7 @@ mod two_collections;
 mod vector_calls;
 pub mod vectors;
 
-pub use any_source::{first_items, greatest, halves, joined, small};
+pub use any_source::{first_items, greatest, halves, halves_of_first, joined, small};
 pub use inner_sources::{spread, spread_countdown, spread_pairs};
 pub use map_calls::{
     any_calls, count_and_put, no_calls, put_and_ask, put_twice, write_and_ask, write_there,

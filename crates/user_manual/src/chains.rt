@@ -45,20 +45,6 @@ pub fn first_halves_and_others(
         .collect(alloc)
 }
 
-/// Returns a third of each half and of each other item, with `copied`, `map`, `chain` and `map`.
-pub fn thirds(alloc: Global, items: &NEVec<u32>, others: Vec<u32>) -> Result<NEVec<u32>, AllocError>
-    ensures { IfOk result (λ v.
-        v ≡ map (λ x. x / 3) (map (λ x. x / 2) items.now ++ others.items)) }
-{
-    items
-        .nonempty_iter()
-        .copied()
-        .map(|x| x / 2)
-        .chain(others)
-        .map(|x| x / 3)
-        .collect(alloc)
-}
-
 /// Returns the items of three vectors, with `chain` and `chain` again.
 pub fn three_joined(
     alloc: Global,
@@ -114,19 +100,6 @@ pub fn at_even_indices(alloc: Global, items: NEVec<u32>) -> Result<Vec<u32>, All
         .collect(alloc)
 }
 
-/// Returns the indices of the even items, likewise.
-pub fn indices_of_even(alloc: Global, items: NEVec<u32>) -> Result<Vec<usize>, AllocError>
-    ensures { IfOk result (λ v. v.items
-        ≡ map (λ p. p.0) (filter (λ p. eqb (p.1 % 2) 0) (enumerate_from 0 items))) }
-{
-    items
-        .into_nonempty_iter()
-        .enumerate()
-        .filter(|p| p.1 % 2 == 0)
-        .map(|p| p.0)
-        .collect(alloc)
-}
-
 /// Returns the second parts of the pairs whose first is even, with `filter` and `map`.
 pub fn beside_even(alloc: Global, pairs: NEVec<(u32, u32)>) -> Result<Vec<u32>, AllocError>
     ensures { IfOk result (λ v.
@@ -155,19 +128,16 @@ pub fn first_of_both(
         .collect(alloc)
 }
 
-/// Returns pairs of one of the first `n` items and a half, with `zip` of a `take` and a `map`.
-pub fn first_and_halves(
+/// Returns pairs of an item and a half, with `zip` of a vector and a `map`.
+pub fn items_and_halves(
     alloc: Global,
     items: NEVec<u32>,
     others: NEVec<u32>,
-    n: NonZeroUsize,
 ) -> Result<NEVec<(u32, u32)>, AllocError>
-    ensures { IfOk result (λ v. v ≡ zip (take (non_zero_usize_get n) items)
-        (map (λ x. x / 2) others)) }
+    ensures { IfOk result (λ v. v ≡ zip items (map (λ x. x / 2) others)) }
 {
     items
         .into_nonempty_iter()
-        .take(n)
         .zip(others.into_nonempty_iter().map(|x| x / 2))
         .collect(alloc)
 }
@@ -216,19 +186,6 @@ pub fn first_running_sums(
         })
         .take(n)
         .collect(alloc)
-}
-
-/// Returns the sum of the first `n` halves of two vectors, one after the other.
-pub fn sum_of_both(items: NEVec<u32>, others: NEVec<u32>, n: NonZeroUsize) -> u32
-    requires { sum (take (non_zero_usize_get n) (map (λ x. x / 2) (items ++ others))) < 2 ^ 32 }
-    ensures { result ≡ sum (take (non_zero_usize_get n) (map (λ x. x / 2) (items ++ others))) }
-{
-    items
-        .into_nonempty_iter()
-        .chain(others)
-        .map(|x| x / 2)
-        .take(n)
-        .sum()
 }
 
 /// Returns the greatest of what is before each item, which is 0 at first, with `scan` and `max`.

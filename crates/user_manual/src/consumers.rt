@@ -118,20 +118,6 @@ pub fn by_digit(alloc: Global, items: NEVec<u32>) -> Result<NEVec<u32>, AllocErr
         .collect(alloc)
 }
 
-/// Returns the halves in the order of their last digits, with `map` and `sorted_by_key`.
-pub fn halves_by_digit(alloc: Global, items: NEVec<u32>) -> Result<NEVec<u32>, AllocError>
-    ensures permutation { IfOk result (λ v. IsPermutation (map (λ x. x / 2) items) v) }
-    ensures ascend { IfOk result (λ v. KeysAscend (λ x. x % 10) nat_cmp v) }
-    ensures ties { IfOk result (λ v.
-        KeepsTies (λ x. x % 10) nat_eq (map (λ x. x / 2) items) v) }
-{
-    items
-        .into_nonempty_iter()
-        .map(|x| x / 2)
-        .sorted_by_key(alloc, |x| *x % 10)?
-        .collect(alloc)
-}
-
 /// Returns a hash set of the items.
 pub fn hash_set(alloc: Global, items: NEVec<u32>) -> Result<HashSet<u32>, AllocError>
     ensures { IfOk result (λ s. IsSetOf nat_eq items s.keys) }

@@ -8,7 +8,6 @@
 #![tactic(auto)]
 
 pub mod adapters;
-pub mod any_source;
 pub mod chains;
 pub mod consumers;
 pub mod first_item;

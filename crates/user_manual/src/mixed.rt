@@ -31,19 +31,6 @@ pub fn first_names(
         .collect(alloc)
 }
 
-/// Returns how many items two vectors have together, with `chain`, `copied`, `enumerate` and
-/// `count`.
-pub fn how_many_numbered(items: &NEVec<u32>, others: &NEVec<u32>) -> NonZeroUsize
-    ensures { non_zero_usize_get result ≡ length items.now + length others.now }
-{
-    items
-        .nonempty_iter()
-        .chain(others.nonempty_iter())
-        .copied()
-        .enumerate()
-        .count()
-}
-
 /// Returns the first `n` halves of a slice with their indices, with `enumerate`, `map` and `take`.
 pub fn first_numbered_halves(
     alloc: Global,
@@ -82,18 +69,6 @@ pub fn first_lengths_and_more(
         .collect(alloc)
 }
 
-/// Returns the halves after the first two, with `peekable`, `map` and `skip`.
-pub fn later_halves(alloc: Global, items: NEVec<u32>) -> Result<Vec<u32>, AllocError>
-    ensures { IfOk result (λ v. v.items ≡ drop 2 (map (λ x. x / 2) items)) }
-{
-    items
-        .into_nonempty_iter()
-        .peekable()
-        .map(|x| x / 2)
-        .skip(2)
-        .collect(alloc)
-}
-
 /// Returns the first item, and which items are greater, with `peekable` and `map`.
 pub fn greater_than_first(
     alloc: Global,
@@ -115,23 +90,6 @@ pub fn with_first(alloc: Global, items: NEVec<u32>, x: u32) -> Result<NEVec<u32>
     let mut source = items.into_nonempty_iter().peekable();
     *source.peek_mut() = x;
     source.collect(alloc)
-}
-
-/// Returns the first `n` halves of the vectors in a vector, with `flatten`, `map` and `take`.
-pub fn first_halves_of_all(
-    alloc: Global,
-    vectors: NEVec<NEVec<u32>>,
-    n: NonZeroUsize,
-) -> Result<NEVec<u32>, AllocError>
-    ensures { IfOk result (λ v. v ≡ take (non_zero_usize_get n)
-        (map (λ x. x / 2) (flat_map (λ items. items) vectors))) }
-{
-    vectors
-        .into_nonempty_iter()
-        .flatten()
-        .map(|x| x / 2)
-        .take(n)
-        .collect(alloc)
 }
 
 /// Returns a map made from an array by reference and a vector, with `copied`, `zip` and `take`.

@@ -23,27 +23,12 @@ pub fn first_joined(
         .collect(alloc)
 }
 
-/// Returns half of each amount.
-pub fn half_amounts(
-    alloc: Global,
-    orders: NEVec<(u32, NEVec<u32>)>,
-) -> Result<NEVec<u32>, AllocError>
-    ensures { IfOk result (λ v. v ≡ map (λ x. x / 2) (flat_map (λ order. order.1) orders)) }
+/// Returns the amounts of all orders.
+pub fn amounts(alloc: Global, orders: NEVec<(u32, NEVec<u32>)>) -> Result<NEVec<u32>, AllocError>
+    ensures { IfOk result (λ v. v ≡ flat_map (λ order. order.1) orders) }
 {
     orders
         .into_nonempty_iter()
         .flat_map(|order| order.1)
-        .map(|x| x / 2)
-        .collect(alloc)
-}
-
-/// Returns the items of one source for each half, one after another.
-pub fn spread_halves(alloc: Global, items: NEVec<u32>) -> Result<NEVec<u32>, AllocError>
-    ensures { IfOk result (λ v. v ≡ flat_map (λ x. x / 3 ∷ []) (map (λ x. x / 2) items)) }
-{
-    items
-        .into_nonempty_iter()
-        .map(|x| x / 2)
-        .flat_map(|x| iter::once(x / 3))
         .collect(alloc)
 }

@@ -135,21 +135,6 @@ pub fn total_of_both(sales: &NEVec<Sale>, others: &NEVec<Sale>) -> u32
     sales.nonempty_iter().chain(others).map(|s| s.price).sum()
 }
 
-/// Returns the sum of the prices below 10 of the first `n` sales.
-pub fn total_of_first_cheap(sales: &NEVec<Sale>, n: NonZeroUsize) -> u32
-    requires { sum (map (λ s. s.price)
-        (filter (λ s. ltb s.price 10) (take (non_zero_usize_get n) sales.now))) < 2 ^ 32 }
-    ensures { result ≡ sum (map (λ s. s.price)
-        (filter (λ s. ltb s.price 10) (take (non_zero_usize_get n) sales.now))) }
-{
-    sales
-        .nonempty_iter()
-        .take(n)
-        .filter(|s| s.price < 10)
-        .map(|s| s.price)
-        .sum()
-}
-
 /// Returns how many prices are below 10.
 pub fn how_many_cheap(sales: &NEVec<Sale>) -> usize
     ensures { result ≡ length (filter (λ s. ltb s.price 10) sales.now) }
@@ -260,23 +245,6 @@ pub fn first_prices_numbered(
         .collect(alloc)
 }
 
-/// Returns the same, numbered after they are taken.
-pub fn numbered_first_prices(
-    alloc: Global,
-    sales: &NEVec<Sale>,
-    n: NonZeroUsize,
-) -> Result<NEVec<(usize, u32)>, AllocError>
-    ensures { IfOk result (λ v. v ≡ map (λ p. (p.0, p.1.price))
-        (enumerate_from 0 (take (non_zero_usize_get n) sales.now))) }
-{
-    sales
-        .nonempty_iter()
-        .take(n)
-        .enumerate()
-        .map(|p| (p.0, p.1.price))
-        .collect(alloc)
-}
-
 /// Returns whether every price is below the limit beside it.
 pub fn within(sales: &NEVec<Sale>, limits: &NEVec<u32>) -> bool
     ensures { result ≡ list_all (λ p. ltb p.0.price p.1) (zip sales.now limits.now) }
@@ -328,21 +296,6 @@ pub fn below_limits(
         .nonempty_iter()
         .zip(limits)
         .map(|p| p.0.price < p.1)
-        .collect(alloc)
-}
-
-/// Returns each number and the buyer beside it. The numbers are passed by value.
-pub fn buyers_after_numbers(
-    alloc: Global,
-    numbers: NEVec<u32>,
-    sales: &NEVec<Sale>,
-) -> Result<NEVec<(u32, u32)>, AllocError>
-    ensures { IfOk result (λ v. v ≡ map (λ p. (p.0, p.1.buyer)) (zip numbers sales.now)) }
-{
-    numbers
-        .into_nonempty_iter()
-        .zip(sales.nonempty_iter())
-        .map(|p| (p.0, p.1.buyer))
         .collect(alloc)
 }
 

@@ -53,16 +53,6 @@ pub fn paired<'a>(
         .collect(alloc)
 }
 
-/// Returns the items of one source for each text, one after another: its length.
-pub fn spread(alloc: Global, texts: NEVec<&str>) -> Result<NEVec<usize>, AllocError>
-    ensures { IfOk result (λ v. v ≡ flat_map (λ t. length t.now ∷ []) texts.entry) }
-{
-    texts
-        .into_nonempty_iter()
-        .flat_map(|t| iter::once(t.len()))
-        .collect(alloc)
-}
-
 /// Returns the texts of several vectors.
 pub fn flattened<'a>(
     alloc: Global,

@@ -1,0 +1,71 @@
+"""The public functions that may report a failed allocation, and the names by which the tests of
+`test_refusals` report on them."""
+
+import re
+
+from sources import files, functions, libraries, macros
+from common import read
+
+# How the tests name a trait's method for a type, and the method that an iterator comes from.
+KINDS = {
+    "NEVec": "",
+    "NEBTreeMap": " of a tree map",
+    "NEBTreeSet": " of a tree set",
+    "NEMap": " of a hashed map",
+    "NESet": " of a hashed set",
+    "NEIndexMap": " of an index map",
+    "NEIndexSet": " of an index set",
+}
+ITEMS = {
+    "ClonedIter": "NonEmptyIterator::cloned",
+    "GroupBy": "GroupBy::next",
+    "ProductIter": "NonEmptyItertools::cartesian_product",
+    "RawIntersperse": "NonEmptyIterator::intersperse",
+}
+# Calls that never allocate, although their type allows an `AllocError`; and methods of traits that
+# have a body only in an implementation, each of which is tested.
+EXCUSED = {
+    *("NESlice::clone", "Iter::clone", "NonEmptyIter::clone", "collect into ()"),
+    *(f"FromNonEmptyIterator::from_drained of {it}" for it in ("NEVec", "Vec")),
+    *("FromNonEmptyIterator::from_nonempty_iter", "NonEmptyMap::put"),
+}
+
+
+def call_of(it):
+    """Returns the name that the tests have for a function."""
+    trait = it.trait.partition("<")[0]
+    if trait == "Iterator":
+        return ITEMS.get(it.owner, it.path())
+    if trait in ("Singleton", "NonEmptyMap"):
+        return f"{trait}::{it.name}{KINDS.get(it.owner, f' of {it.owner}')}"
+    if trait == "FromNonEmptyIterator" and it.name == "from_drained":
+        return f"{trait}::{it.name} of {it.owner}"
+    if trait == "FromNonEmptyIterator":
+        return "NonEmptyIterator::collect" if it.owner == "NEVec" else f"collect into {it.owner}"
+    if trait == "NonEmptyArrayExt":
+        return f"{trait}::{it.name}"
+    return "::".join(filter(None, (it.owner, it.name)))
+
+
+def may_fail():
+    """Returns the functions that may report a failed allocation, except for the excused calls."""
+    named = re.compile(r"Alloc(?:Error|Failed)\b")
+    every = [it for it in functions() if named.search(it.returned())]
+    return [it for it in every if call_of(it) not in EXCUSED]
+
+
+def due():
+    """Returns the names of all calls that may report a failed allocation: of functions, of macros
+    that call one, and of the clones that are derived for types with parameters."""
+    found = {call_of(it) for it in may_fail()}
+    found |= {name for name, (_, text) in macros().items() if "$alloc" in text}
+    derived = r"^#\[derive\(.*\bClone\b.*\)\]\npub (?:struct|enum) (\w+)<"
+    for file in (it for crate in libraries() for it in files(crate)):
+        found |= {f"{it}::clone" for it in re.findall(derived, read(file), re.M)}
+    return found - EXCUSED
+
+
+def reported_on(line, names):
+    """Returns the one of these names that the line of a test begins with, or "" if there is
+    none."""
+    return max((it for it in names if f"{line} ".startswith(f"{it} ")), key=len, default="")
