@@ -1,5 +1,7 @@
-"""Reads the mutants: wrong bodies, a block each in trials/mutants/CRATE.edits."""
+"""Reads the mutants, each a block of lines in trials/mutants/CRATE.edits, or a file of its own in
+crates/CRATE/must-fail. docs/TESTING.md says what the lines mean."""
 
+import glob
 import os
 import re
 import sys
@@ -27,8 +29,8 @@ class Mutant:
     """A wrong body: the functions that it changes, the new lines by file and line number, and the
     witness against it, if it names one."""
 
-    def __init__(self, crate, block):
-        self.crate, self.name, self.functions, self.lines = crate, f"{crate}/?", [], {}
+    def __init__(self, crate, block, name="?"):
+        self.crate, self.name, self.functions, self.lines = crate, f"{crate}/{name}", [], {}
         self.of_impl, self.witness = False, ""
         texts, file, old, after = {}, None, None, ""
         for line in block.splitlines():
@@ -88,7 +90,10 @@ def mutants():
     for file in sorted(os.listdir(os.path.join(ROOT, FOLDER))):
         blocks = read(os.path.join(FOLDER, file)).strip("\n").split("\n\n")
         found += [Mutant(file.removesuffix(".edits"), it) for it in blocks]
+    for path in sorted(glob.glob(os.path.join(ROOT, "crates", "*", "must-fail", "*.edit"))):
+        crate, _, file = path.split(os.sep)[-3:]
+        found.append(Mutant(crate, read(path), file.removesuffix(".edit")))
     names = [it.name for it in found]
     if twice := {it for it in names if names.count(it) > 1}:
         stop(f"two mutants have the same name: {', '.join(sorted(twice))}")
-    return found
+    return sorted(found, key=lambda it: it.crate)
