@@ -1,5 +1,5 @@
-"""The public functions that may report a failed allocation, and the names by which the tests of
-`test_refusals` report on them."""
+"""The public functions that may report a failed allocation, and the names by which the tests with
+failing allocations report on them."""
 
 import re
 

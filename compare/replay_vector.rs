@@ -269,7 +269,6 @@ fn alone(source: IntoIter<u32>, call: &Call, out: &mut Transcript) {
         "map" => out.collected(source.map(of)),
         "take" => out.collected(source.take(call.size)),
         "chain" => out.collected(source.chain(other)),
-        "chain_take" => out.collected(source.chain(other).take(call.size)),
         "flat_map" => out.collected(source.flat_map(|x| [x, of(x)])),
         "enumerate" => out.collected(source.enumerate()),
         "zip" => out.collected(source.zip(call.vector())),
@@ -281,27 +280,6 @@ fn alone(source: IntoIter<u32>, call: &Call, out: &mut Transcript) {
             }
             out.collected(source)
         }
-        _ => layered(source, call, out),
-    }
-}
-
-fn layered(source: IntoIter<u32>, call: &Call, out: &mut Transcript) {
-    let of = |x: u32| call.closure.of(x);
-    let size = call.size;
-    match call.name {
-        "flat_map_peekable_take_enumerate" => {
-            out.collected(source.flat_map(|x| [x, of(x)]).peekable().take(size).enumerate())
-        }
-        "zip_flat_map_peekable_take_enumerate" => {
-            let pairs = source.zip(call.vector()).flat_map(|(x, y)| [x, of(y)]);
-            out.collected(pairs.peekable().take(size).enumerate())
-        }
-        "map_zip_take_unzip" => {
-            let both: (NEVec<u32>, NEVec<u32>) =
-                source.map(of).zip(call.vector()).take(size).unzip();
-            out.told(both)
-        }
-        "map_group_by" => out.collected(source.map(of).group_by(|x| x / 2)),
         _ => divided(source, call, out),
     }
 }
@@ -310,7 +288,6 @@ fn divided(source: IntoIter<u32>, call: &Call, out: &mut Transcript) {
     let key = |x: &u32| call.closure.of(*x);
     match call.name {
         "group_by" => out.collected(source.group_by(key)),
-        "group_by_take" => out.collected(source.group_by(key).take(call.size)),
         "group_by_stopped" => {
             let mut runs = source.group_by(key).into_iter();
             for _ in 0..call.place {

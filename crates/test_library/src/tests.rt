@@ -1,11 +1,11 @@
-//! What is dropped, called, drawn, cloned, evaluated and printed, calls with many items, and chains
-//! over a user's own sources.
+//! What is dropped, called, drawn, cloned, evaluated and printed, chains over a user's own sources,
+//! and calls with failing allocations.
 
 mod composed;
-mod disorder;
 mod draws;
 mod drops;
 mod extremes;
+mod failing;
 mod generic;
 mod listed;
 mod macros;
@@ -14,7 +14,6 @@ mod numbers;
 mod own_sources;
 mod products;
 mod random;
-mod rows;
 mod runs;
 mod searches;
 mod separators;

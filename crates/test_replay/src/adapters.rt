@@ -1,5 +1,5 @@
-//! Adapters, single and over one another. The last arm of a function tries the calls of the next
-//! one. What takes the check long in an arm is a function of its own.
+//! Adapters. The last arm of a function tries the calls of the next one. What takes the check long
+//! in an arm is a function of its own.
 
 use crate::call::Call;
 use crate::consumers;
@@ -8,7 +8,6 @@ use ne_laws::reader::take_runs;
 use nonempty_collections::vector::IntoIter;
 use nonempty_collections::{IntoNonEmptyIterator, NEVec, NonEmptyIterator, NonEmptyItertools};
 use std::alloc::AllocError;
-use user_generic::{parted, runs_of_results, spread, spread_pairs};
 
 /// Adapters of references, and the calls that no function before has, on the items by value.
 pub fn referenced(items: &NEVec<u32>, call: &Call, out: &mut Transcript) -> Written {
@@ -42,15 +41,11 @@ fn single(source: IntoIter<u32>, call: &Call, out: &mut Transcript) -> Written {
         "map" => out.collected(source.map(of)),
         "take" => out.collected(source.take(call.size)),
         "chain" => out.collected(source.chain(call.numbers.iter().copied())),
-        "chain_take" => {
-            let chained = source.chain(call.numbers.iter().copied());
-            out.collected(chained.take(call.size))
-        }
         "flat_map" => out.collected(source.flat_map(|x| [x, of(x)])),
         "enumerate" => out.collected(source.enumerate()),
         "zip" => zipped(source, call.vector(out.alloc), out),
         "peekable" | "peek_mut" => peeked(source, call, out),
-        _ => layered(source, call, out),
+        _ => divided(source, call, out),
     }
 }
 
@@ -73,55 +68,6 @@ fn peeked(source: IntoIter<u32>, call: &Call, out: &mut Transcript) -> Written {
     out.collected(source)
 }
 
-// Adapters over one another.
-fn layered(source: IntoIter<u32>, call: &Call, out: &mut Transcript) -> Written {
-    match call.name {
-        "flat_map_peekable_take_enumerate" => spread_single(source, call, out),
-        "zip_flat_map_peekable_take_enumerate" => {
-            spread_beside(source, call.vector(out.alloc)?, call, out)
-        }
-        "map_zip_take_unzip" => parted_beside(source, call.vector(out.alloc)?, call, out),
-        "map_group_by" => {
-            let of = |x: u32| call.closure.of(x);
-            out.made(runs_of_results(out.alloc, source, of, |x| x / 2))
-        }
-        _ => divided(source, call, out),
-    }
-}
-
-fn spread_single(source: IntoIter<u32>, call: &Call, out: &mut Transcript) -> Written {
-    let both = |x: u32| [x, call.closure.of(x)];
-    let made: Result<Numbered, AllocError> = spread(out.alloc, source, both, call.size);
-    out.made(made)
-}
-
-fn spread_beside(
-    source: IntoIter<u32>,
-    other: NEVec<u32>,
-    call: &Call,
-    out: &mut Transcript,
-) -> Written {
-    let both = |(x, y): (u32, u32)| [x, call.closure.of(y)];
-    let made: Result<Numbered, AllocError> = spread_pairs(
-        out.alloc, source, other, both, call.size,
-    );
-    out.made(made)
-}
-
-fn parted_beside(
-    source: IntoIter<u32>,
-    other: NEVec<u32>,
-    call: &Call,
-    out: &mut Transcript,
-) -> Written {
-    let of = |x: u32| call.closure.of(x);
-    out.made::<Both>(parted(out.alloc, source, of, other, call.size))
-}
-
-type Numbered = NEVec<(usize, u32)>;
-
-type Both = (NEVec<u32>, NEVec<u32>);
-
 type Runs = Result<NEVec<NEVec<u32>>, AllocError>;
 
 // Runs of equal keys, all of them or only the first, and separators. A key's closure is called once
@@ -130,7 +76,6 @@ fn divided(source: IntoIter<u32>, call: &Call, out: &mut Transcript) -> Written 
     let alloc = out.alloc;
     match call.name {
         "group_by" => grouped(source, call, out),
-        "group_by_take" => first_runs(source, call, out),
         "group_by_stopped" => stopped(source, call, out),
         "take_runs" => {
             let key = |x: &u32| call.closure.of(*x);
@@ -147,11 +92,6 @@ fn divided(source: IntoIter<u32>, call: &Call, out: &mut Transcript) -> Written 
 fn grouped(source: IntoIter<u32>, call: &Call, out: &mut Transcript) -> Written {
     let runs = source.group_by(out.alloc, |x: &u32| call.closure.of(*x));
     out.cloned(runs.collect::<Runs>(out.alloc))
-}
-
-fn first_runs(source: IntoIter<u32>, call: &Call, out: &mut Transcript) -> Written {
-    let runs = source.group_by(out.alloc, |x: &u32| call.closure.of(*x));
-    out.cloned(runs.take(call.size).collect::<Runs>(out.alloc))
 }
 
 // So many runs, one by one.

@@ -61,15 +61,6 @@ pub fn three_joined(
         .collect(alloc)
 }
 
-/// Returns an item, followed by halves, with `once` and a `chain` with a `map` of references.
-pub fn item_and_halves(alloc: Global, x: u32, items: &NEVec<u32>) -> Result<NEVec<u32>, AllocError>
-    ensures { IfOk result (λ v. v ≡ x ∷ map (λ x. x / 2) items.now) }
-{
-    iter::once(x)
-        .chain(items.nonempty_iter().map(|x| *x / 2))
-        .collect(alloc)
-}
-
 /// Returns half of each of the first `n` items, if it is below 10, with `take`, `map` and `filter`.
 pub fn small_first_halves(
     alloc: Global,
@@ -109,22 +100,6 @@ pub fn beside_even(alloc: Global, pairs: NEVec<(u32, u32)>) -> Result<Vec<u32>, 
         .into_nonempty_iter()
         .filter(|p| p.0 % 2 == 0)
         .map(|p| p.1)
-        .collect(alloc)
-}
-
-/// Returns the first `n` items of two vectors, with `chain` and `take`.
-pub fn first_of_both(
-    alloc: Global,
-    items: NEVec<u32>,
-    others: NEVec<u32>,
-    n: NonZeroUsize,
-) -> Result<NEVec<u32>, AllocError>
-    ensures { IfOk result (λ v. v ≡ take (non_zero_usize_get n) (items ++ others)) }
-{
-    items
-        .into_nonempty_iter()
-        .chain(others)
-        .take(n)
         .collect(alloc)
 }
 

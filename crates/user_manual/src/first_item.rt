@@ -42,18 +42,6 @@ pub fn greatest_if_any(items: Vec<u32>) -> Option<u32>
     Some(items.try_into_nonempty_iter()?.max())
 }
 
-/// Returns the least item of a vector that may be empty, or 0 if it is.
-pub fn least_or_zero(items: Vec<u32>) -> u32
-    ensures among { 0 < length items.items → Contains items.items result }
-    ensures bound { All (λ x. result ≤ x) items.items }
-    ensures zero { items.items ≡ [] → result ≡ 0 }
-{
-    match items.try_into_nonempty_iter() {
-        Some(source) => source.min(),
-        None => 0,
-    }
-}
-
 /// Returns the item at index 2, or `None` if there are fewer than three.
 pub fn third_if_any(items: Vec<u32>) -> Option<u32>
     ensures { result ≡ slice_get items.items 2 }

@@ -31,24 +31,6 @@ pub fn first_names(
         .collect(alloc)
 }
 
-/// Returns the first `n` halves of a slice with their indices, with `enumerate`, `map` and `take`.
-pub fn first_numbered_halves(
-    alloc: Global,
-    items: &NESlice<u32>,
-    n: NonZeroUsize,
-) -> Result<NEVec<(usize, u32)>, AllocError>
-    ensures { IfOk result (λ v. v ≡ take (non_zero_usize_get n)
-        (map (λ p. (p.0, p.1 / 2)) (enumerate_from 0 items.now))) }
-{
-    items
-        .nonempty_iter()
-        .copied()
-        .enumerate()
-        .map(|(place, x)| (place, x / 2))
-        .take(n)
-        .collect(alloc)
-}
-
 /// Returns the lengths of the first `n` texts, followed by more lengths, with `copied`, `take`,
 /// `map` and `chain`.
 pub fn first_lengths_and_more(

@@ -137,14 +137,6 @@ pub fn longest<'a>(texts: NEVec<&'a str>) -> &'a str
     texts.into_nonempty_iter().max_by_key(|t| t.len())
 }
 
-/// Returns the length of all texts together.
-pub fn total_length(texts: NEVec<&str>) -> usize
-    requires { sum (map (λ t. length t.now) texts) < 2 ^ 64 }
-    ensures { result ≡ sum (map (λ t. length t.now) texts.entry) }
-{
-    texts.into_nonempty_iter().map(|t| t.len()).sum()
-}
-
 /// Returns the length of the last text, by a fold.
 pub fn folded(texts: NEVec<&str>) -> usize
     ensures { result ≡ fold (λ a t. length t.now) 0 texts.entry }
@@ -222,17 +214,6 @@ pub fn rest<'a>(alloc: Global, texts: NEVec<&'a str>) -> Result<Vec<&'a str>, Al
     texts.into_nonempty_iter().skip(2).collect(alloc)
 }
 
-/// Returns the texts from the first one that has 10 bytes or more.
-pub fn from_first_long<'a>(alloc: Global, texts: NEVec<&'a str>) -> Result<Vec<&'a str>, AllocError>
-    ensures { IfOk result (λ v. v.items ≡ drop
-        (prefix_len (λ t. ltb (length t.now) 10) texts.entry) texts.entry) }
-{
-    texts
-        .into_nonempty_iter()
-        .skip_while(|t| t.len() < 10)
-        .collect(alloc)
-}
-
 /// Returns the texts before the first one that has 10 bytes or more.
 pub fn short_prefix<'a>(alloc: Global, texts: NEVec<&'a str>) -> Result<Vec<&'a str>, AllocError>
     ensures { IfOk result (λ v. v.items ≡ take_while (λ t. ltb (length t.now) 10) texts.entry) }
@@ -240,18 +221,6 @@ pub fn short_prefix<'a>(alloc: Global, texts: NEVec<&'a str>) -> Result<Vec<&'a 
     texts
         .into_nonempty_iter()
         .take_while(|t| t.len() < 10)
-        .collect(alloc)
-}
-
-/// Returns the texts in the order of their lengths. Texts of the same length keep their order.
-pub fn sorted<'a>(alloc: Global, texts: NEVec<&'a str>) -> Result<NEVec<&'a str>, AllocError>
-    ensures permutation { IfOk result (λ v. IsPermutation texts.entry v) }
-    ensures ascend { IfOk result (λ v. KeysAscend (λ t. length t.now) nat_cmp v) }
-    ensures ties { IfOk result (λ v. KeepsTies (λ t. length t.now) nat_eq texts.entry v) }
-{
-    texts
-        .into_nonempty_iter()
-        .sorted_by_key(alloc, |t| t.len())?
         .collect(alloc)
 }
 

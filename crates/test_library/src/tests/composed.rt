@@ -1,13 +1,12 @@
 //! The adapter chains of the crate `user_generic`.
 
-use super::{is, list, of, same};
+use super::{list, of, same};
 use nonempty_collections::{IntoNonEmptyIterator, NESlice, NEVec};
 use std::convert::AsSlice;
 use std::num::NonZeroU32;
 use std::test::Fail;
 use user_generic::{
-    Countdown, first_runs, numbered, numbered_halves, parted, run_lengths, running_totals,
-    runs_of_results, scan_of_all, spread_countdown, spread_pairs,
+    Countdown, numbered_halves, parted, run_lengths, spread_countdown, spread_pairs,
 };
 
 #[test]
@@ -45,53 +44,9 @@ fn over_two_sources(rt: HostRuntime) -> Result<(), Fail> {
 }
 
 #[test]
-fn over_an_array(rt: HostRuntime) -> Result<(), Fail> {
-    let alloc = rt.alloc();
-    let two = [8u32, 6].into_nonempty_iter();
-    let all: NEVec<(usize, u32)> = numbered(alloc, two, |x| x / 2, [5u32], of(2)?)?;
-    same(all.as_slice(), &[(0, 4), (1, 3)])
-}
-
-#[test]
-fn runs_in_front(rt: HostRuntime) -> Result<(), Fail> {
-    let four = [50u32, 50, 60, 70].into_nonempty_iter();
-    let runs = first_runs(rt.alloc(), four, |x| *x, of(2)?)?;
-    is(runs.len().get(), 2)?;
-    same(runs.first().as_slice(), &[50, 50])?;
-    same(runs.last().as_slice(), &[60])
-}
-
-#[test]
-fn runs_of_halves(rt: HostRuntime) -> Result<(), Fail> {
-    let three = [5u32, 4, 3].into_nonempty_iter();
-    let runs = runs_of_results(rt.alloc(), three, |x| x / 2, |x| *x)?;
-    is(runs.len().get(), 2)?;
-    same(runs.first().as_slice(), &[2, 2])?;
-    same(runs.last().as_slice(), &[1])
-}
-
-#[test]
 fn lengths_of_runs(rt: HostRuntime) -> Result<(), Fail> {
     let items = [1u32, 2, 3, 9];
     let slice = NESlice::try_from_slice(&items).ok_or("no item")?;
     let lengths = run_lengths(rt.alloc(), &slice, |a, b| a.abs_diff(*b) < 2)?;
     same(lengths.as_slice(), &[3, 1])
-}
-
-#[test]
-fn totals_of_arrays(rt: HostRuntime) -> Result<(), Fail> {
-    let arrays = [[1u32, 2], [3, 4]].into_nonempty_iter();
-    let add = |total: &mut u32, x: u32| {
-        *total = total.wrapping_add(x);
-        *total
-    };
-    let totals: NEVec<u32> = scan_of_all(rt.alloc(), arrays, 0u32, add)?;
-    same(totals.as_slice(), &[1, 3, 6, 10])
-}
-
-#[test]
-fn totals_of_a_vector(rt: HostRuntime) -> Result<(), Fail> {
-    let alloc = rt.alloc();
-    let totals = running_totals(alloc, list(alloc, &[1, 2, 3])?)?;
-    same(totals.as_slice(), &[1, 3, 6])
 }

@@ -1,10 +1,10 @@
-//! Sources of a user's own: methods on a plain one, and each of the other sources once.
+//! Sources of a user's own, each once.
 //!
 //! The items of a chain are written as the digits of one number, the first item first, so that a
 //! test needs no vector.
 ghost use Rattle.std.specs.Iterator.{IsFiniteIterable};
 
-use super::{is, of, same};
+use super::{is, same};
 use nonempty_collections::{IntoIteratorExt, IntoNonEmptyIterator, NonEmptyIterator};
 use std::convert::AsSlice;
 use std::num::NonZeroU32;
@@ -25,40 +25,6 @@ fn digits<S: IntoIterator<Item = u32>>(items: S) -> u32
         total = total.wrapping_mul(10).wrapping_add(item);
     }
     total
-}
-
-#[test]
-fn an_item(_rt: HostRuntime) -> Result<(), Fail> {
-    let found = (
-        three()?.next().0,
-        three()?.find(|x| *x > 1),
-        three()?.nth(1),
-    );
-    is(found, (3, Some(3), Some(2)))?;
-    let extremes = [three()?.max(), three()?.min()];
-    let by_key = [
-        three()?.max_by_key(|x| *x % 3),
-        three()?.min_by_key(|x| *x % 3),
-    ];
-    is(
-        (*three()?.peekable().peek(), extremes, by_key),
-        (3, [3, 1], [2, 3]),
-    )
-}
-
-#[test]
-fn adapted(_rt: HostRuntime) -> Result<(), Fail> {
-    let chained = digits(three()?.take(of(2)?).chain(three()?));
-    let zipped = digits(three()?.zip([4u32, 5]).map(|(x, y)| x.wrapping_add(y)));
-    is([chained, zipped], [32321, 77])?;
-    let spread = digits(three()?.flat_map(|x| [x, 0]));
-    let placed = three()?
-        .enumerate()
-        .map(|(place, x)| if place == 0 { 0 } else { x });
-    is(
-        [spread, digits(placed), digits(three()?.peekable())],
-        [302010, 21, 321],
-    )
 }
 
 #[test]

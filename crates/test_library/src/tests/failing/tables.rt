@@ -5,7 +5,6 @@
 //! one unreached.
 
 mod kinds;
-mod lookups;
 
 ghost use Rattle.std.specs.Prelude.{◌+◌};
 ghost use Rattle.std.specs.Iterator.{at_most};

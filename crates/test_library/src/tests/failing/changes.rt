@@ -1,7 +1,8 @@
-//! The calls that add to a vector, each onto one that has to grow, and the one that splits it.
+//! The calls that add to a vector, each onto one that has to grow, and the one that splits it; the
+//! calls that make room.
 
 use super::{Countdown, holds, is, leaves, pair, report, same, two};
-use nonempty_collections::Singleton;
+use nonempty_collections::{NEIndexSet, NESet, Singleton};
 use std::convert::AsSlice;
 use std::num::NonZeroUsize;
 use std::test::Fail;
@@ -82,4 +83,26 @@ fn extend(rt: HostRuntime) -> Result<(), Fail> {
     let prefix = whole.get(..items.len().get()).ok_or("more than all items")?;
     holds("NEVec::extend", 2 <= prefix.len())?;
     leaves(&rt, "NEVec::extend", result, &items, prefix, &whole)
+}
+
+#[test]
+fn reserve_in_a_hashed_set(rt: HostRuntime) -> Result<(), Fail> {
+    let call = "NESet::reserve";
+    let Ok(mut set) = NESet::new(rt.alloc(), 2) else {
+        return report(&rt, "not reached", call);
+    };
+    let result = set.reserve(100);
+    holds(call, set.len().get() == 1 && set.contains(&2))?;
+    report(&rt, if result.is_ok() { "made" } else { "refused" }, call)
+}
+
+#[test]
+fn reserve_in_an_index_set(rt: HostRuntime) -> Result<(), Fail> {
+    let call = "NEIndexSet::reserve";
+    let Ok(mut set) = NEIndexSet::new(rt.alloc(), 2) else {
+        return report(&rt, "not reached", call);
+    };
+    let result = set.reserve(100);
+    holds(call, set.len().get() == 1 && set.contains(&2))?;
+    report(&rt, if result.is_ok() { "made" } else { "refused" }, call)
 }

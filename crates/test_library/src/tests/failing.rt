@@ -1,14 +1,15 @@
-//! A test for each call: its result, and what is left after it.
+//! The calls that allocate, with each of their allocations failing in turn: the result of a call,
+//! and what is left after it.
 //!
-//! For each call a test prints one line, which the gate reads: `made`, `refused` or `not reached`,
-//! with the name of the call. `not reached` means that an allocation failed in what the test
-//! prepares.
+//! The tests pass whichever allocation of their process fails, and also if none does. The gate runs
+//! them with the first allocation failing, with the second, and so on. For each call a test prints
+//! one line, which the gate reads: `made`, `refused` or `not reached`, with the name of the call.
+//! `not reached` means that an allocation failed in what the test prepares.
 
 mod calls;
 mod changes;
 mod clones;
 mod collected;
-mod consumers;
 mod drops;
 mod macros;
 mod makes;
@@ -18,10 +19,9 @@ mod runs;
 mod sorts;
 mod sources;
 mod tables;
-mod untouched;
 
 ghost use Rattle.std.specs.Prelude.{◌+◌, ◌^◌};
-ghost use Rattle.std.specs.Iterator.{at_most, IsFinite};
+ghost use Rattle.std.specs.Iterator.{at_most};
 
 use nonempty_collections::NEVec;
 use std::alloc::{AllocError, Global};
@@ -105,20 +105,6 @@ fn leaves(
         if returned.is_ok() { after } else { before },
     )?;
     report(rt, if returned.is_ok() { "made" } else { "refused" }, call)
-}
-
-// Fails with the name of the call unless the numbers are these.
-fn yields<I: Iterator<Item = u32> + Drop>(
-    call: &str,
-    numbers: I,
-    wanted: &[u32],
-) -> Result<(), Fail>
-    requires { I.can_next numbers × IsFinite (I.remaining numbers) }
-{
-    if numbers.eq(wanted.iter().copied()) {
-        return Ok(());
-    }
-    Err(Fail::new(format_args!("{call}: other numbers than {wanted:?}")))
 }
 
 // Counts down to 0, and hints at more items than any memory holds. To grow, `extend` asks for the

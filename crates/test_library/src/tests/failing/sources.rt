@@ -1,5 +1,4 @@
-//! The methods of sources. Those that allocate drop what they took if a later allocation fails; the
-//! others do not allocate.
+//! The methods of sources that allocate.
 
 use super::{Countdown, gives, report, same};
 use nonempty_collections::iter::once;
@@ -58,38 +57,4 @@ fn into_nonempty_vec(rt: HostRuntime) -> Result<(), Fail> {
         result,
         &[1, 2, 3],
     )
-}
-
-// Chains of adapters that do not allocate, used up. They are short, and each is a function, because
-// the time of a check grows fast with a chain's length. The greatest of twice the items:
-fn doubled() -> u32 {
-    let looked_at = [1u32, 2, 3].into_nonempty_iter().peekable();
-    looked_at.map(|x| x.wrapping_mul(2)).max()
-}
-
-// 9, if the number is less.
-fn at_least_nine(number: u32) -> u32 {
-    once(number).flat_map(|x| [x, 9]).max()
-}
-
-// The index 0.
-fn place(number: u32) -> u32 {
-    once(number).enumerate().max().0 as u32
-}
-
-// 9.
-fn greatest() -> u32 {
-    let place = place(at_least_nine(doubled()));
-    once(place).chain(once(9)).zip([7u32; 2]).max().0
-}
-
-// The first request of this test is that of its call, as the gate requires: what comes before does
-// not allocate.
-#[test]
-fn none_taken_before(rt: HostRuntime) -> Result<(), Fail> {
-    let item = greatest();
-    let few = [5u32, 6, 7].into_nonempty_iter().skip_while(|x| *x < 6);
-    let total = few.fold(0u32, |total, x| total.wrapping_add(x));
-    let result = NEVec::new(rt.alloc(), item.wrapping_add(total));
-    gives(&rt, "NEVec::new behind a chain", result, &[22])
 }

@@ -1,12 +1,10 @@
 //! Products and distinct items: what was taken is dropped once if an allocation fails.
 
 use super::owners::{Owner, one_more, owned, token};
-use super::{holds, is, report, yields};
-use crate::tests::tables::{Items, item};
+use super::tables::{Items, item};
+use super::{holds, is, report};
 use nonempty_collections::iter::once;
-use nonempty_collections::{
-    IntoNonEmptyIterator, NEEither, NEVec, NonEmptyIterator, NonEmptyItertools,
-};
+use nonempty_collections::{IntoNonEmptyIterator, NonEmptyIterator, NonEmptyItertools};
 use std::cell::Cell;
 use std::test::Fail;
 
@@ -90,24 +88,4 @@ fn right_side(rt: HostRuntime) -> Result<(), Fail> {
     )?;
     owned(call, &token, 0)?;
     report(&rt, if is_refused { "refused" } else { "made" }, call)
-}
-
-// The first request of this test is that of its call, as the gate requires: what comes before does
-// not allocate.
-#[test]
-fn none_taken_before(rt: HostRuntime) -> Result<(), Fail> {
-    let call = "NEVec::new behind a product";
-    let left: NEEither<[u32; 1], [u32; 2]> = NEEither::Left([7]);
-    yields("NEEither", left.into_nonempty_iter().into_iter(), &[7])?;
-    let mut pairs = [1u32]
-        .into_nonempty_iter()
-        .cartesian_product(&[5u32])
-        .into_iter();
-    holds(
-        "cartesian_product",
-        matches!(pairs.next(), Some(Ok((1, 5)))),
-    )?;
-    holds("cartesian_product", pairs.next().is_none())?;
-    let result = NEVec::new(rt.alloc(), 1);
-    report(&rt, if result.is_ok() { "made" } else { "refused" }, call)
 }
