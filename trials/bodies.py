@@ -39,14 +39,16 @@ def body_at(rows, at):
     return None
 
 
-def with_bodies(every):
-    """Returns the texts of the files with all these wrong bodies, numbered from 1. Lines of no body,
-    as those with the bounds of a type, are changed for all; what only changes such lines, as the
-    statement of a law, cannot be chosen and is left out."""
+def with_bodies(every, has_heads):
+    """Returns the texts of the files with these wrong bodies, numbered from 1. Lines of no body, as
+    those with the bounds of a type, are changed for all, or else what changes them is left out; what
+    only changes such lines, as the statement of a law, cannot be chosen."""
     files = {file: read(file).split("\n") for it in every for file, _ in it.lines}
     bodies, heads = defaultdict(dict), {}
     for number, it in enumerate(every, 1):
         places = {(file, at): body_at(files[file], at) for file, at in it.lines}
+        if not has_heads and not all(places.values()):
+            continue
         for (file, at), place in places.items():
             if place:
                 bodies[file, place].setdefault(number, {})[at] = it.lines[file, at]

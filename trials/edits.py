@@ -1,7 +1,6 @@
-"""Reads the mutants, each a block of lines in trials/mutants/CRATE.edits, or a file of its own in
-crates/CRATE/must-fail. docs/TESTING.md says what the lines mean."""
+"""Reads the mutants, each a block of lines in trials/mutants/CRATE.edits. docs/TESTING.md says what
+the lines mean."""
 
-import glob
 import os
 import re
 import sys
@@ -29,11 +28,13 @@ class Mutant:
     """A wrong body: the functions that it changes, the new lines by file and line number, and the
     witness against it, if it names one."""
 
-    def __init__(self, crate, block, name="?"):
-        self.crate, self.name, self.functions, self.lines = crate, f"{crate}/{name}", [], {}
+    def __init__(self, crate, block):
+        self.crate, self.name, self.functions, self.lines = crate, f"{crate}/?", [], {}
         self.of_impl, self.witness = False, ""
         texts, file, old, after = {}, None, None, ""
-        for line in block.splitlines():
+        block, _, edit = block.partition("edit: ")
+        lines = read(f"crates/{crate}/{edit.strip()}") if edit else ""
+        for line in (block + lines).splitlines():
             key, _, value = line.partition(": ")
             if key == "mutant":
                 self.name = f"{crate}/{value}"
@@ -90,10 +91,7 @@ def mutants():
     for file in sorted(os.listdir(os.path.join(ROOT, FOLDER))):
         blocks = read(os.path.join(FOLDER, file)).strip("\n").split("\n\n")
         found += [Mutant(file.removesuffix(".edits"), it) for it in blocks]
-    for path in sorted(glob.glob(os.path.join(ROOT, "crates", "*", "must-fail", "*.edit"))):
-        crate, _, file = path.split(os.sep)[-3:]
-        found.append(Mutant(crate, read(path), file.removesuffix(".edit")))
     names = [it.name for it in found]
     if twice := {it for it in names if names.count(it) > 1}:
         stop(f"two mutants have the same name: {', '.join(sorted(twice))}")
-    return sorted(found, key=lambda it: it.crate)
+    return found

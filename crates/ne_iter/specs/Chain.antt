@@ -12,9 +12,11 @@ use Rattle.ne_vec.specs.Lists.{Naming, EachList}
 use Rattle.ne_iter.specs.declared.iter.chain.Chain.{Chain}
 use Rattle.ne_iter.specs.Sources.{HasFirst}
 
+-- The source that comes first.
 abbrev pub chain_first : {A B : Type 0} → Chain A B → A
 chain_first s = s.a
 
+-- The source that comes after it.
 abbrev pub chain_second : {A B : Type 0} → Chain A B → B
 chain_second s = s.b
 
@@ -35,6 +37,7 @@ abbrev pub ChainsLists : {W A : Type 0} → (W → List A → Type 0) → (W →
 ChainsLists {A = A} others meets w xs gives = EachList others w (λ ys. gives (xs ++ ys))
     × ((ys : List A) → Naming (xs ++ ys) (λ zs. meets w ys → gives zs))
 
+-- A run of what `chain` yields is a run of the first source, and then one of the second.
 abbrev pub ChainsRuns : {S T A : Type 0} → (S → Option A → S → Type 0)
     → (T → Option A → T → Type 0) → S → T → StdChain S T → Type 0
 ChainsRuns steps others a b it = EachRunFrom (chain_steps steps others) it (λ p.

@@ -6,6 +6,7 @@ use Rattle.std.specs.List.{AllZip}
 use Rattle.ne_iter.specs.declared.iter.cloned.Cloned.{Cloned}
 use Rattle.ne_iter.specs.declared.iter.cloned.ClonedIter.{ClonedIter}
 
+-- The source of the references.
 abbrev pub cloned_source : {I : Type 0} → Cloned I → I
 cloned_source s = s.iter
 

@@ -5,6 +5,7 @@ use Rattle.std.proofs.Common.{rules}
 use Rattle.std.specs.Option.{option_copied}
 use Rattle.ne_iter.specs.declared.iter.copied.Copied.{Copied}
 
+-- The source of the references.
 abbrev pub copied_source : {I : Type 0} → Copied I → I
 copied_source s = s.iter
 

@@ -6,6 +6,7 @@ use Rattle.std.specs.Iterator.Runs.{EachRunFrom}
 use Rattle.ne_vec.specs.Lists.{View, itself, numbered, EachList}
 use Rattle.ne_iter.specs.declared.iter.enumerate.Enumerate.{Enumerate}
 
+-- The source of the items.
 abbrev pub enumerate_source : {I : Type 0} → Enumerate I → I
 enumerate_source s = s.iter
 

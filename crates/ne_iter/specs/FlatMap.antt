@@ -16,6 +16,7 @@ use Rattle.ne_iter.specs.Flatten.{ReadsEach}
 abbrev pub flat_map_source : {I U F : Type 0} → FlatMap I U F → I
 flat_map_source s = s.iter
 
+-- The closure.
 abbrev pub flat_map_callee : {I U F : Type 0} → FlatMap I U F → F
 flat_map_callee s = s.f
 
@@ -48,6 +49,7 @@ SpreadsLists {A = A} {B = B} calls f lists becomes gives u v = EachList lists u 
     (inner : A → List B) → Naming (flat_map inner xs) (λ ys.
     ReturnsLists calls f becomes inner → gives v ys))
 
+-- A run of what `flat_map` yields is made of runs of the sources that the closure returns.
 abbrev pub FlatMapsRuns : {S A W J B F : Type 0} → (S → Option A → S → Type 0)
     → (W → J → Type 0) → (J → Option B → J → Type 0) → Mut F (A × Unit {0}) W → F → S
     → StdFlatten (StdMap S F) J → Type 0

@@ -12,6 +12,7 @@ use Rattle.ne_iter.specs.Keys.{items_of, DividesByKey}
 abbrev pub group_by_source : {I F : Type 0} → NEGroupBy I F → I
 group_by_source s = s.iter
 
+-- The closure that returns the keys.
 abbrev pub group_by_callee : {I F : Type 0} → NEGroupBy I F → F
 group_by_callee s = s.f
 

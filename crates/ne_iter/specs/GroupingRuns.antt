@@ -84,6 +84,7 @@ items_ahead Unread left = left
 items_ahead (Held k x) left = left + 1
 items_ahead Ended left = 0
 
+-- A bound on how many runs are left: one for each item that is left, and one for an item held.
 abbrev pub runs_left : {S K A F : Type 0} → (S → Count) → Grouping S K A F → Count
 runs_left left g = at_most (items_ahead g.ahead (size (left g.source)))
 

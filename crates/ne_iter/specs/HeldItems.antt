@@ -4,6 +4,7 @@ use Rattle.ne_iter.specs.declared.iter.group_by.State.{State}
 use Rattle.ne_iter.specs.declared.iter.group_by.State.TheVariants.{Unread as unread, Held as held}
 use Rattle.ne_iter.specs.declared.iter.group_by.State.TheVariants.{Ended as ended}
 
+-- What the state of a reader has drawn ahead of its runs.
 abbrev pub ahead_of : {K A : Type 0} → State K A → Ahead K A
 ahead_of unread = Unread
 ahead_of (held k x) = Held k x

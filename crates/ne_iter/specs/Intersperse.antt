@@ -21,9 +21,11 @@ use Rattle.ne_iter.specs.Sources.{HasFirst}
 abbrev pub intersperse_first : {S X : Type 0} → Intersperse S X → X
 intersperse_first s = s.first
 
+-- The iterator over what follows the first item.
 abbrev pub intersperse_rest : {S X : Type 0} → Intersperse S X → S
 intersperse_rest s = s.rest
 
+-- The separator.
 abbrev pub intersperse_separator : {S X : Type 0} → Intersperse S X → X
 intersperse_separator s = s.separator
 

@@ -11,6 +11,7 @@ use Rattle.ne_iter.specs.Calls.{Calls}
 abbrev pub map_source : {I F : Type 0} → Map I F → I
 map_source s = s.iter
 
+-- The closure.
 abbrev pub map_callee : {I F : Type 0} → Map I F → F
 map_callee s = s.f
 

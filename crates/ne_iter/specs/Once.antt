@@ -6,6 +6,7 @@ use Rattle.std.specs.declared.iter.Once.{Once as StdOnce}
 use Rattle.ne_iter.specs.declared.iter.one_item.Once.{Once}
 use Rattle.ne_iter.specs.Sources.{HasFirst}
 
+-- The item.
 abbrev pub once_item : {T : Type 0} → Once T → T
 once_item s = s.item
 

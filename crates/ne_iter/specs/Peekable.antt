@@ -11,6 +11,7 @@ use Rattle.ne_iter.specs.declared.iter.peekable.Peekable.{Peekable}
 abbrev pub peekable_first : {I X : Type 0} → Peekable I X → X
 peekable_first s = s.first
 
+-- The iterator over what follows the first item.
 abbrev pub peekable_rest : {I X : Type 0} → Peekable I X → I
 peekable_rest s = s.rest
 

@@ -11,9 +11,11 @@ use Rattle.ne_iter.specs.declared.iter.scan.ScanIter.{ScanIter}
 abbrev pub scan_source : {I S F : Type 0} → Scan I S F → I
 scan_source s = s.iter
 
+-- The first state.
 abbrev pub scan_init : {I S F : Type 0} → Scan I S F → S
 scan_init s = s.init
 
+-- The closure.
 abbrev pub scan_callee : {I S F : Type 0} → Scan I S F → F
 scan_callee s = s.f
 
@@ -33,9 +35,11 @@ module _ {U A : Type 0} (reads : Bool → U → List A → Type 0) where
 abbrev pub scanned_from : {I S F : Type 0} → ScanIter I S F → I
 scanned_from s = s.iter
 
+-- The state of the iterator.
 abbrev pub state_of : {I S F : Type 0} → ScanIter I S F → S
 state_of s = s.state
 
+-- The closure of the iterator.
 abbrev pub callee_of : {I S F : Type 0} → ScanIter I S F → F
 callee_of s = s.f
 

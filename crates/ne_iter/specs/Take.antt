@@ -10,6 +10,7 @@ use Rattle.ne_iter.specs.declared.iter.take.Take.{Take}
 abbrev pub take_source : {I : Type 0} → Take I → I
 take_source s = s.iter
 
+-- How many items are taken at most.
 abbrev pub take_count : {I : Type 0} → Take I → ℕ
 take_count s = non_zero_usize_get s.n
 

@@ -10,9 +10,11 @@ use Rattle.ne_vec.specs.Lists.{View, in_pairs, itself, Naming, EachList}
 use Rattle.ne_iter.specs.declared.iter.zip.Zip.{Zip}
 use Rattle.ne_iter.specs.Sources.{HasFirst}
 
+-- The source of the first items of the pairs.
 abbrev pub zip_first : {A B : Type 0} → Zip A B → A
 zip_first s = s.a
 
+-- The source of the second ones.
 abbrev pub zip_second : {A B : Type 0} → Zip A B → B
 zip_second s = s.b
 

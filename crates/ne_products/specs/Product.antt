@@ -12,6 +12,7 @@ use Rattle.ne_products.specs.declared.products.ProductIter.{ProductIter}
 abbrev pub product_first : {I J : Type 0} → Product I J → I
 product_first s = s.a
 
+-- The source of the second items of the pairs.
 abbrev pub product_second : {I J : Type 0} → Product I J → J
 product_second s = s.b
 

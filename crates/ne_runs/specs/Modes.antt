@@ -49,6 +49,7 @@ IsLeast numbers least = Contains numbers least × All (λ n. least ≤ n) number
 abbrev pub IsGreatest : List ℕ → ℕ → Type 0
 IsGreatest numbers greatest = Contains numbers greatest × All (λ n. n ≤ greatest) numbers
 
+-- Whether a number is even.
 abbrev pub is_even : ℕ → Bool
 is_even n = n % 2 == 0
 

@@ -13,14 +13,6 @@ pub fn from_nonempty_iter(alloc: Global) -> Result<(Vec<u32>, String), AllocErro
     Ok((list, text))
 }
 
-/// The example of the method `from_nonempty_iter`.
-pub fn of_an_array(alloc: Global) -> Result<NEVec<u32>, AllocError>
-    ensures { IfOk result (λ v. v ≡ 1 ∷ 2 ∷ []) }
-{
-    let items = NEVec::from_nonempty_iter(alloc, [1u32, 2])?;
-    Ok(items)
-}
-
 /// The example of `from_drained`.
 pub fn from_drained(alloc: Global) -> Result<(NEVec<u32>, usize), AllocError>
     ensures { IfOk result (λ r. (r.0 ≡ 3 ∷ 1 ∷ 4 ∷ []) × (r.1 ≡ 0)) }

@@ -195,15 +195,6 @@ pub fn reserve(alloc: Global) -> Result<usize, AllocError>
     Ok(set.capacity().get())
 }
 
-/// The example of `union`.
-pub fn union(alloc: Global) -> Result<usize, AllocError>
-    ensures { IfOk result (λ count. count ≡ 2) }
-{
-    let (one, two) = (nes![alloc; 1]?, nes![alloc; 2]?);
-    let count = one.union(&two).count().get();
-    Ok(count)
-}
-
 /// The example of `with_capacity_and_hasher`.
 pub fn with_capacity_and_hasher(alloc: Global) -> Result<(bool, bool, NESet<u32>), AllocError>
     ensures room { IfOk result (λ r. r.0 ≡ true) }

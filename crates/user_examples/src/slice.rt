@@ -1,5 +1,6 @@
 //! The examples of the slice.
-ghost use Rattle.std.specs.Prelude.{◌≡◌, ◌∷◌, [], List, ℕ, IfOk, false, true, length, ltb, map};
+ghost use Rattle.std.specs.Prelude.{◌≡◌, ◌/◌, ◌∷◌, [], List, ℕ, IfOk, false, true, length, ltb};
+ghost use Rattle.std.specs.Prelude.{map};
 ghost use Rattle.std.specs.Int.{abs_diff};
 ghost use Rattle.nonempty_collections.specs.Divisions.{by_first, by_previous, runs_of};
 
@@ -70,7 +71,7 @@ pub fn is_empty(alloc: Global) -> Result<bool, AllocError>
 
 /// The example of `iter`.
 pub fn iter(alloc: Global) -> Result<Vec<u32>, AllocError>
-    ensures { IfOk result (λ v. v.items ≡ 2 ∷ 3 ∷ []) }
+    ensures { IfOk result (λ halves. halves.items ≡ map (λ x. x / 2) (4 ∷ 6 ∷ [])) }
 {
     let items = nev![alloc; 4, 6]?;
     let slice = items.as_nonempty_slice();

@@ -21,6 +21,7 @@ start_of c = non_zero_u32_get c.from
 abbrev pub left_of : CountdownIter → ℕ
 left_of it = it.left
 
+-- The number of seconds of a `Start`.
 abbrev pub seconds_of : Start → ℕ
 seconds_of s = non_zero_u32_get s.seconds
 

@@ -16,11 +16,13 @@ table_of (Table name) = Some name
 table_of (Column name) = None
 table_of (Where condition) = None
 
+-- The column that a line names, if it names one.
 abbrev pub column_of : Line → Option (String Global)
 column_of (Table name) = None
 column_of (Column name) = Some name
 column_of (Where condition) = None
 
+-- The condition that a line states, if it states one.
 abbrev pub condition_of : Line → Option (String Global)
 condition_of (Table name) = None
 condition_of (Column name) = None
