@@ -82,9 +82,6 @@ class Values:
         lines += [show.replace("NAME", name) for name, _ in self.also]
         return lines
 
-    def all_wanted(self):
-        return [*self.wanted, *(value for _, value in self.also)]
-
 
 def plain(value, in_any_order):
     """Returns the text of a value without references, and without the names of types, which not
@@ -125,17 +122,14 @@ class Example:
             code += [line, *after.get(at, [])]
         self.code = "".join(f"    {line}\n" if line else "\n" for line in code)
 
-    def begins(self, code):
-        """Returns whether this code, which has no white space, begins with the example's."""
-        return code.startswith(self.bare)
-
     def wrong(self, printed):
         """Returns what is wrong with the printed values, or ""."""
         some_order = self.crate == "ne_hash"
         found = [plain(it, some_order) for it in printed]
         wanted = []
         for values in self.values:
-            these = [plain(it, some_order) for it in values.all_wanted()]
+            these = [*values.wanted, *(value for _, value in values.also)]
+            these = [plain(it, some_order) for it in these]
             if values.in_any_order:
                 start, end = len(wanted), len(wanted) + len(these)
                 found[start:end], these = sorted(found[start:end]), sorted(these)

@@ -4,7 +4,6 @@ unproved, and runs of what `rt ci` built in which an allocation fails."""
 import functools
 import os
 import re
-import resource
 import shutil
 import subprocess
 import sys
@@ -122,12 +121,6 @@ class Failing:
             how = {"input": given, "capture_output": True, "cwd": self.room.name, "timeout": 60}
             how["env"] = {"LD_PRELOAD": self.library, "REFUSE": str(place), "REFUSED": told}
             return subprocess.run([self.program, *words], **how), os.path.exists(told)
-
-    def limited(self, size, words, given=b""):
-        """Returns the run with these words and this input in an address space of so many bytes."""
-        limit = functools.partial(resource.setrlimit, resource.RLIMIT_AS, (size, size))
-        how = {"input": given, "capture_output": True, "cwd": self.room.name, "timeout": 60}
-        return subprocess.run([self.program, *words], preexec_fn=limit, **how)
 
 
 def in_threads(call, items):

@@ -1,7 +1,6 @@
 /* Makes one allocation fail in the program that it is loaded into by LD_PRELOAD: the one whose
-   number, counted from 1, is in the variable REFUSE. If REFUSE is 0, none fails. The C library's
-   own allocator serves all other requests. Once the request has come, the file that the variable
-   REFUSED names exists. */
+   number, counted from 1, is in the variable REFUSE; 0 makes none fail. Once the request has come,
+   the file that the variable REFUSED names exists. */
 
 extern void *__libc_malloc(unsigned long size);
 extern void *__libc_realloc(void *block, unsigned long size);

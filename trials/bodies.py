@@ -1,7 +1,7 @@
 """Programs that have all wrong bodies at once, and choose one of them when they are run.
 
-A function with wrong bodies gets the form `if chosen::is(1) { .. } else if chosen::is(2) { .. } else
-{ .. }`, with the right body last. So one build serves all of them; it is not proved."""
+A function with wrong bodies gets the form `if chosen::is(1) { .. } else if chosen::is(2) { .. }
+else { .. }`, with the right body last. So one build serves all of them; it is not proved."""
 
 import os
 import re
@@ -41,8 +41,8 @@ def body_at(rows, at):
 
 def with_bodies(every, has_heads):
     """Returns the texts of the files with these wrong bodies, numbered from 1. Lines of no body, as
-    those with the bounds of a type, are changed for all, or else what changes them is left out; what
-    only changes such lines, as the statement of a law, cannot be chosen."""
+    those with the bounds of a type, are changed for all, or else what changes them is left out;
+    what only changes such lines, as the statement of a law, cannot be chosen."""
     files = {file: read(file).split("\n") for it in every for file, _ in it.lines}
     bodies, heads = defaultdict(dict), {}
     for number, it in enumerate(every, 1):

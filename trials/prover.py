@@ -23,7 +23,7 @@ def is_built(crate):
     made = os.path.join(home, "out", "rlib", f"{crate}.rlib", "format")
     parts = [os.walk(os.path.join(home, it)) for it in ("src", "specs", "proofs")]
     texts = [os.path.join(at, it) for part in parts for at, _, names in part for it in names]
-    return os.path.exists(made) and all(os.stat(it).st_mtime < os.stat(made).st_mtime for it in texts)
+    return os.path.exists(made) and max(map(os.path.getmtime, texts)) < os.path.getmtime(made)
 
 
 def take_libraries(folder):

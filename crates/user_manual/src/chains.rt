@@ -1,10 +1,10 @@
 //! Chains of several adapters, one after another.
 ghost use Rattle.std.specs.Prelude.{◌≡◌, ◌/◌, ◌%◌, ◌+◌, ◌<◌, ◌≤◌, ◌^◌, ◌++◌, ◌∷◌, map, filter};
-ghost use Rattle.std.specs.Prelude.{take, IfOk, eqb, ltb, sum, []};
+ghost use Rattle.std.specs.Prelude.{take, IfOk, eqb, ltb, []};
 ghost use Rattle.std.specs.List.{All, enumerate_from, scan, zip};
 ghost use Rattle.std.specs.Int.NonZero.{non_zero_usize_get};
 
-use nonempty_collections::{IntoNonEmptyIterator, NEVec, NonEmptyIterator, iter};
+use nonempty_collections::{IntoNonEmptyIterator, NEVec, NonEmptyIterator};
 use std::alloc::{AllocError, Global};
 use std::num::NonZeroUsize;
 

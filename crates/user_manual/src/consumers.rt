@@ -1,6 +1,6 @@
 //! Consumers, and a search in a sorted vector.
 ghost use Rattle.std.specs.Prelude.{◌≡◌, ◌/◌, ◌%◌, ◌+◌, ◌++◌, ◌<◌, ◌≤◌, ◌^◌, map, sum, length, ℕ};
-ghost use Rattle.std.specs.Prelude.{Ok, Err, IfOk, IfSome, IsPermutation, IsSorted, IsTrue, Some};
+ghost use Rattle.std.specs.Prelude.{Ok, Err, IfOk, IsPermutation, IsSorted, Some};
 ghost use Rattle.std.specs.Prelude.{from_bits, slice_get, take, MatchResult, nat_eq, ltb, cond};
 ghost use Rattle.std.specs.List.{All, Contains, fold, list_all};
 ghost use lib.Ieee as Ieee;

@@ -1,5 +1,5 @@
 //! The first item of a source: whether there is one, and what comes after it.
-ghost use Rattle.std.specs.Prelude.{◌≡◌, ◌/◌, ◌<◌, ◌≤◌, ◌∷◌, [], drop, filter, length, map};
+ghost use Rattle.std.specs.Prelude.{◌≡◌, ◌/◌, ◌<◌, ◌≤◌, ◌∷◌, [], drop, filter, map};
 ghost use Rattle.std.specs.Prelude.{slice_get, take, true, IfOk, MatchOption, Some, ltb};
 ghost use Rattle.std.specs.List.{All, Contains, list_all};
 ghost use Rattle.std.specs.Int.NonZero.{non_zero_usize_get};

@@ -1,11 +1,11 @@
-//! Chains of adapters over slices, arrays, references, texts and structs.
-ghost use Rattle.std.specs.Prelude.{◌≡◌, ◌/◌, ◌+◌, ◌++◌, ◌∷◌, map, take, drop, length, nat_eq};
+//! Chains of adapters over arrays, references, texts and structs.
+ghost use Rattle.std.specs.Prelude.{◌≡◌, ◌+◌, ◌++◌, ◌∷◌, map, take, drop, length, nat_eq};
 ghost use Rattle.std.specs.Prelude.{IfOk, ltb};
-ghost use Rattle.std.specs.List.{enumerate_from, flat_map, zip};
+ghost use Rattle.std.specs.List.{zip};
 ghost use Rattle.std.specs.Int.NonZero.{non_zero_usize_get};
 ghost use Rattle.nonempty_collections.specs.Collected.{IsMapOf};
 
-use nonempty_collections::{IntoNonEmptyIterator, NESlice, NEVec, NonEmptyIterator};
+use nonempty_collections::{IntoNonEmptyIterator, NEVec, NonEmptyIterator};
 use std::alloc::{AllocError, Global};
 use std::collections::BTreeMap;
 use std::num::NonZeroUsize;

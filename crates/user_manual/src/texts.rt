@@ -1,20 +1,19 @@
 //! Texts (`&str`): adapters and consumers over items that are references.
 //!
 //! In contracts a `&str` is a reference to the list of its bytes: `t.now` is that list.
-ghost use Rattle.std.specs.Prelude.{◌≡◌, ◌∷◌, [], ◌<◌, ◌≤◌, ◌^◌, map, filter, drop, sum, length};
-ghost use Rattle.std.specs.Prelude.{slice_get, nat_eq, IfOk, IfSome, IsPermutation, Some, None};
-ghost use Rattle.std.specs.Prelude.{Ok, Err, ltb, max, cond, false, true};
-ghost use Rattle.std.specs.List.{All, Contains, find, list_all, list_any, prefix_len, scan};
+ghost use Rattle.std.specs.Prelude.{◌≡◌, ◌<◌, ◌≤◌, map, filter, drop, length};
+ghost use Rattle.std.specs.Prelude.{slice_get, nat_eq, IfOk, IfSome, Some, None};
+ghost use Rattle.std.specs.Prelude.{Ok, Err, ltb, max, cond, false};
+ghost use Rattle.std.specs.List.{All, Contains, find, list_all, list_any, scan};
 ghost use Rattle.std.specs.List.{take_while, enumerate_from, zip, flat_map, fold};
 ghost use Rattle.std.specs.List.{reduce as list_reduce, filter_map};
 ghost use Rattle.std.specs.Cmp.Lexicographic.{pointwise, slice_cmp};
 ghost use Rattle.std.specs.Ordering.{is_lt, nat_cmp};
 ghost use Rattle.std.specs.String.{string_bytes};
 ghost use Rattle.nonempty_collections.specs.Collected.{IsMapOf, IsSetOf, values_or_first_err};
-ghost use Rattle.nonempty_collections.specs.KeyOrder.{KeepsTies, KeysAscend};
 ghost use Rattle.nonempty_collections.specs.Keys.{IsDividedBy};
 
-use nonempty_collections::{IntoIteratorExt, IntoNonEmptyIterator, NEVec, NonEmptyIterator, iter};
+use nonempty_collections::{IntoIteratorExt, IntoNonEmptyIterator, NEVec, NonEmptyIterator};
 use std::alloc::{AllocError, Global};
 use std::collections::{BTreeMap, BTreeSet};
 
