@@ -3,6 +3,7 @@
 A function with wrong bodies gets the form `if chosen::is(1) { .. } else if chosen::is(2) { .. }
 else { .. }`, with the right body last. So one build serves all of them; it is not proved."""
 
+import copy
 import os
 import re
 import subprocess
@@ -11,6 +12,7 @@ from collections import defaultdict
 from common import ROOT, below, copy_crates, crates, read, unproved, write
 
 FN = re.compile(r"( *)(?:pub(?:\(\w+\))? |final )*fn \w")
+LARGE = re.compile(r"\b[1-4]0000\d\b")
 CHOSEN = """//! Chooses a wrong body.
 #![tactic(auto)]
 
@@ -89,32 +91,33 @@ class Program:
         for file, text in texts.items():
             if os.path.exists(os.path.join(folder, file)):
                 write(os.path.join(folder, file), text)
-        stdin = os.path.join(ROOT, "crates", crate, "stdin")
-        if os.path.exists(stdin) and not tests:
-            self.given = read(stdin)
-        args = os.path.join(ROOT, "crates", crate, "args")
-        self.words = read(args).split() if os.path.exists(args) and not tests else []
-        flags = ["--test"] if tests else []
-        unproved(os.path.join(folder, "crates", crate), *flags, *self.arguments(), given=self.given)
-        self.tests = self.listed() if tests else None
+        own = [os.path.join(ROOT, "crates", crate, it) for it in ("stdin", "args")]
+        stdin, args = (read(it) if os.path.exists(it) and not tests else "" for it in own)
+        # the largest collections would take a minute for each body
+        self.stdin, self.given, self.words = stdin, LARGE.sub("300", stdin), args.split()
+        flags = ["--test"] if tests else ["--", *self.words] if self.words else []
+        unproved(os.path.join(folder, "crates", crate), *flags, given=self.given)
+        listed = self.run(0, ["--list"])[1].decode() if tests else ""
+        # what is run in turn: each test, or the program with its words
+        self.runs = [[it] for it in re.findall(r"^(\S+): test$", listed, re.M)] or [self.words]
+        self.right = [self.run(0, it) for it in self.runs]
 
-    def arguments(self):
-        return ["--", *self.words] if self.words else []
+    def larger(self):
+        """Returns the same program with larger collections in its input."""
+        found = copy.copy(self)
+        found.given = LARGE.sub("4000", self.stdin)
+        found.right = [found.run(0, it) for it in found.runs]
+        return found
 
     def run(self, number, words):
+        """Returns what comes of a run with the wrong body of this number, 0 being none."""
         how = {"input": self.given.encode(), "capture_output": True, "timeout": 100}
-        how["env"] = {"MUTANT": str(number)}
         try:
-            ran = subprocess.run([self.path, *words], **how)
+            ran = subprocess.run([self.path, *words], **how, env={"MUTANT": str(number)})
             return ran.returncode, ran.stdout
         except subprocess.TimeoutExpired:
             return None, b""
 
-    def listed(self):
-        return re.findall(r"^(\S+): test$", self.run(0, ["--list"])[1].decode(), re.M)
-
-    def outcome(self, number):
-        """Returns what it prints with this wrong body, 0 being none: for tests, one of each."""
-        if self.tests is None:
-            return self.run(number, self.words)
-        return {it: self.run(number, [it]) for it in self.tests}
+    def differs(self, number):
+        """Returns whether a run with this wrong body is another one than with the right body."""
+        return any(self.run(number, it) != right for it, right in zip(self.runs, self.right))

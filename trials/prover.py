@@ -94,7 +94,7 @@ def judged(folder, mutants):
 
 def refused(mutants):
     """Returns, for each mutant, whether the prover refuses each function that it changes."""
-    copies, lanes = SimpleQueue(), os.cpu_count()
+    copies, lanes = SimpleQueue(), len(os.sched_getaffinity(0))
 
     def in_a_copy(these):
         folder = copies.get()

@@ -1,4 +1,0 @@
-pub mod Counted
-pub mod Determined
-pub mod Joined
-pub mod Lookups

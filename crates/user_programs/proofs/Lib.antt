@@ -1,0 +1,10 @@
+pub mod Counted
+pub mod Described
+pub mod Determined
+pub mod Groups
+pub mod GroupsOfRows
+pub mod Joined
+pub mod Lookups
+pub mod Numerals
+pub mod Readings
+pub mod Totals

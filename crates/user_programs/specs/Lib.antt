@@ -1,0 +1,6 @@
+pub mod Descriptions
+pub mod Fields
+pub mod Points
+pub mod Queries
+pub mod Reports
+pub mod Turns

@@ -1,2 +1,0 @@
-pub mod Descriptions
-pub mod Queries

@@ -1,3 +1,0 @@
-pub mod GroupsOfRows
-pub mod Groups
-pub mod Totals

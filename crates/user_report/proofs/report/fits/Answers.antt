@@ -1,8 +1,0 @@
-use Rattle.user_report.proofs.report.fits.Goals as goal
-use Rattle.std.proofs.Common.{ap, ◌∙◌, arith, is_some}
-use Rattle.user_report.specs.Reports.{values}
-use Rattle.user_report.proofs.Totals.{is_there}
-
-pub returns : goal.returns
-returns c = c.is_some.ensures ∙ ap is_some c.checked_total.ensures
-    ∙ is_there 0 (values c.args.rows.now) (omega arith)
