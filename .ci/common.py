@@ -125,5 +125,5 @@ class Failing:
 
 def in_threads(call, items):
     """Returns the result of the call for each item. Several calls run at the same time."""
-    with ThreadPoolExecutor(os.cpu_count()) as threads:
+    with ThreadPoolExecutor(len(os.sched_getaffinity(0))) as threads:
         return list(threads.map(call, items))

@@ -371,6 +371,8 @@ is_empty
 pop
 remove 7
 swap_remove 7
+remove 0
+swap_remove 0
 try_from_vec 1 2 3 4
 swap_remove 1
 swap_remove 2
