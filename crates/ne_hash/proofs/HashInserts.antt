@@ -1,14 +1,16 @@
 -- What a hashed map or set holds after pairs or items are inserted one after the other.
 use Rattle.std.specs.HashSet as set
-use Rattle.std.proofs.Common.{◌≡◌, ◌<◌, Bool, List, [], ◌∷◌, ◌++◌, Some, true, length}
+use Rattle.std.proofs.Common.{◌≡◌, Bool, List, [], ◌∷◌, ◌++◌, Some, true}
 use Rattle.std.specs.Prelude.{Result, Ok, Err, IfOk}
 use Rattle.std.specs.Cmp.{IsEquivalence}
-use Rattle.std.specs.HashMap.{HashMap, InsertsAll, IsUnique, Updates, hash_map_len}
+use Rattle.std.specs.HashMap.{HashMap, InsertsAll, IsUnique, Updates}
 use Rattle.std.specs.HashSet.{HashSet, IsUnique as AreUnique}
 use Rattle.ne_iter.specs.Collected.{IsMapOf, IsSetOf}
 use Rattle.ne_iter.specs.CollectedLaws.{map_of-inserts, map_of-more, map_of-one, nonempty-inserts}
 use Rattle.ne_iter.specs.CollectedLaws.{set_of-inserts, set_of-more, set_of-one}
 use Rattle.ne_iter.specs.CollectedLaws.{nonempty_set-inserts}
+use Rattle.ne_hash.specs.ValidHashMap.{IsValid}
+use Rattle.ne_hash.specs.ValidHashSet.{IsValid as AreValid}
 
 -- Pairs inserted one after the other.
 module _ {K V S : Type 0} {eq : K → K → Bool} (laws : IsEquivalence eq) (m n : HashMap K V S)
@@ -16,15 +18,18 @@ module _ {K V S : Type 0} {eq : K → K → Bool} (laws : IsEquivalence eq) (m n
   pub map_of-inserts_all : IsUnique eq m → IsMapOf eq (m.entries ++ xs) n.entries
   map_of-inserts_all u = map_of-inserts laws m.entries n.entries xs x.0 u x.1
 
-  pub nonempty-inserts_all : 0 < hash_map_len m → 0 < hash_map_len n
-  nonempty-inserts_all some = nonempty-inserts laws m.entries n.entries xs x.0 some
+  pub valid-inserts_all : IsValid eq m → IsValid eq n
+  valid-inserts_all v = (
+    nonempty-inserts laws m.entries n.entries xs x.0 v.0,
+    (map_of-inserts_all v.1).0,
+  )
 
 module _ {K V S : Type 0} (eq : K → K → Bool) where
   -- A map of one pair.
   pub one_made : {E : Type 0} (r : Result (HashMap K V S) E) (p : K × V)
       → IfOk r (λ m. m.entries ≡ p ∷ [])
-      → IfOk r (λ m. IsMapOf eq (p ∷ []) m.entries × (0 < length m.entries))
-  one_made (Ok m) p is = map_of-one eq p m.entries is
+      → IfOk r (λ m. IsMapOf eq (p ∷ []) m.entries)
+  one_made (Ok m) p is = (map_of-one eq p m.entries is).0
   one_made (Err e) p is = tt
 
   -- The map after one more pair.
@@ -39,15 +44,18 @@ module _ {T S : Type 0} {eq : T → T → Bool} (laws : IsEquivalence eq) (s t :
   pub set_of-inserts_all : IsSetOf eq (s.keys ++ xs) t.keys
   set_of-inserts_all = set_of-inserts laws s.keys xs t.keys x.0 x.1
 
-  pub nonempty_set-inserts_all : 0 < length s.keys → 0 < length t.keys
-  nonempty_set-inserts_all some = nonempty_set-inserts laws s.keys xs t.keys x.0 some
+  pub valid_set-inserts_all : AreValid eq s → AreValid eq t
+  valid_set-inserts_all v = (
+    nonempty_set-inserts laws s.keys xs t.keys x.0 v.0,
+    set_of-inserts_all.0,
+  )
 
 module _ {T S : Type 0} (eq : T → T → Bool) where
   -- A set of one item.
   pub one_item_made : {E : Type 0} (r : Result (HashSet T S) E) (x : T)
       → IfOk r (λ s. s.keys ≡ x ∷ [])
-      → IfOk r (λ s. IsSetOf eq (x ∷ []) s.keys × (0 < length s.keys))
-  one_item_made (Ok s) x is = set_of-one eq x s.keys is
+      → IfOk r (λ s. IsSetOf eq (x ∷ []) s.keys)
+  one_item_made (Ok s) x is = (set_of-one eq x s.keys is).0
   one_item_made (Err e) x is = tt
 
   -- The set after one more item.

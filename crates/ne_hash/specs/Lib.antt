@@ -1,1 +1,3 @@
 pub mod HashLends
+pub mod ValidHashMap
+pub mod ValidHashSet

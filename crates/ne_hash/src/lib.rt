@@ -6,8 +6,8 @@
 //! order again.
 //!
 //! In contracts, an [`NEMap`] is std's record of a map and an [`NESet`] is std's record of a set,
-//! so std's definitions for them apply. The invariant of both types is that there is at least one
-//! item.
+//! so std's definitions for them apply. The invariant of both types, `IsValid`, is that there is
+//! at least one item, and that no two keys or items are equal.
 #![tactic(auto)]
 
 pub mod laws;

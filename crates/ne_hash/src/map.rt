@@ -4,11 +4,13 @@
 //! `==`. A key that is in the map stays as it is if an equal one is inserted.
 ghost use Rattle.std.specs.Prelude.{◌≡◌, ◌+◌, ◌<◌, ◌≤◌, ◌^◌, ◌++◌, [], ◌∷◌, false, None};
 ghost use Rattle.std.specs.Prelude.{if◌then◌else◌, is_some, length, IfOk, IfSome, IsOk, IsSome};
-ghost use Rattle.std.specs.Prelude.{MatchOption, OnErr, OnOk, Some};
+ghost use Rattle.std.specs.Prelude.{MatchOption, OnErr, OnOk, Some, ◌↔◌, Bool, Contains, IsErr};
+ghost use Rattle.std.specs.Prelude.{IsTrue};
 ghost use Rattle.std.specs.HashMap.{get, get_key, hash_map_len, hasher_of, keys, spare, values};
-ghost use Rattle.std.specs.HashMap.{IsEmpty, IsReordered, IsUnchanged, IsUnique, PutsEntry};
+ghost use Rattle.std.specs.HashMap.{IsEmpty, IsReordered, IsUnchanged, PutsEntry};
 ghost use Rattle.std.specs.HashMap.{IsClone, Updates};
-ghost use Rattle.std.specs.HashMap.IterMut.{iter_mut_rest, IterMutCanStep};
+ghost use Rattle.std.specs.HashMap.IterMut.{iter_mut_rest, IterMutCanStep, values_mut_rest};
+ghost use Rattle.std.specs.HashMap.IterMut.{values_mut_steps};
 ghost use Rattle.std.specs.HashMap.Lent.{KeepsKeys};
 ghost use Rattle.std.specs.Borrow.{sem};
 ghost use Rattle.std.specs.Int.NonZero.{non_zero_usize_get};
@@ -21,12 +23,19 @@ ghost use Rattle.std.specs.Set.{is_member};
 ghost use Rattle.ne_vec.specs.Lists.{itself};
 ghost use Rattle.ne_iter.specs.Collected.{IsMapOf};
 ghost use Rattle.ne_iter.specs.ExtendLists.{ExtendsByList};
-ghost use Rattle.ne_iter.specs.KeyIterators.{ListsEntries};
+ghost use Rattle.ne_iter.specs.KeyIterators.{ListsEntries, KnownByValue, ListsEntriesByValue};
 ghost use Rattle.ne_iter.specs.SourceLists.{MeetsList};
-ghost use Rattle.ne_hash.specs.HashLends.{std_iterator, LendsValue, LendsValues};
+ghost use Rattle.ne_hash.specs.HashLends.{std_iterator, LendsValue, LendsValues, LendsValuesAlone};
+ghost use Rattle.ne_hash.specs.HashLends.{std_values};
 ghost use Rattle.ne_iter.specs.KeyClones.{KeepsEntries};
+ghost use Rattle.ne_hash.specs.ValidHashMap.{IsValid};
+ghost use Rattle.std.specs.Iterator.Runs.{YieldsMutRefsInOrder};
+ghost use Rattle.std.specs.List.Sorted.{IsPermutation};
+ghost use Rattle.std.specs.Map.{remove_entry};
+ghost use Rattle.std.specs.Map.Calls.{CallableOnEachPair, CalledAtPair, RetainsPairs, TakesPair};
+ghost use Rattle.ne_vec.specs.Taken.{TakesFoundUnlessLast};
+ghost use Rattle.ne_iter.specs.KeptEntries.{ActsAsAtEntry, either_way, kept_entries};
 
-mod additions;
 mod iter;
 mod traits;
 
@@ -49,8 +58,8 @@ use std::num::NonZeroUsize;
 /// ```
 ///
 /// In contracts it is std's record of the map: `get K.eq m k` is the value of the key `k`,
-/// `m.entries` is the list of the pairs in the order of iteration, `IsUnique K.eq m` says that no
-/// two keys are equal, and `hasher_of m` is the hasher.
+/// `m.entries` is the list of the pairs in the order of iteration, `IsValid K.eq m` says that there
+/// is a key and that no two keys are equal, and `hasher_of m` is the hasher.
 ///
 /// Equality, hashing and clones of keys and values are assumed to be lawful only where a clause
 /// says so.
@@ -66,9 +75,9 @@ pub struct NEMap<K: Eq + Hash, V, S: BuildHasher = BuildHasherDefault<FoldHasher
 }
 
 impl<K: Eq + Hash, V, S: BuildHasher> Model for NEMap<K, V, S> {
-    ghost use Rattle.std.specs.Prelude.{◌<◌};
-    ghost use Rattle.std.specs.HashMap.{HashMap as Entries, hash_map_len};
+    ghost use Rattle.std.specs.HashMap.{HashMap as Entries};
     ghost use Rattle.std_collections.specs.Layout.HashMap.{hash_map_code};
+    ghost use Rattle.ne_hash.specs.ValidHashMap.{IsValid};
 
     ghost Value = { Entries K V S };
 
@@ -76,7 +85,7 @@ impl<K: Eq + Hash, V, S: BuildHasher> Model for NEMap<K, V, S> {
 
     ghost view = { λ m. m.inner };
 
-    ghost invariant = { λ m. 0 < hash_map_len m.inner };
+    ghost invariant = { λ m. IsValid K.eq m.inner };
 }
 
 impl<K: Eq + Hash + Drop, V: Drop> NEMap<K, V> {
@@ -90,8 +99,6 @@ impl<K: Eq + Hash + Drop, V: Drop> NEMap<K, V> {
     pub fn new(alloc: Global, k: K, v: V) -> Result<Self, AllocError>
         ensures entries { IfOk result (λ m. m.entries ≡ (k, v) ∷ []) }
         ensures value { IfOk result (λ m. get K.eq m k ≡ Some v) }
-        ensures unique { IfOk result (IsUnique K.eq) }
-        ensures nonempty { IfOk result (λ m. 0 < hash_map_len m) }
     {
         NEMap::with_hasher(alloc, BuildHasherDefault::new(), k, v)
     }
@@ -115,8 +122,6 @@ impl<K: Eq + Hash + Drop, V: Drop> NEMap<K, V> {
         ensures entries { IfOk result (λ m. m.entries ≡ (k, v) ∷ []) }
         ensures value { IfOk result (λ m. get K.eq m k ≡ Some v) }
         ensures room { IfOk result (λ m. non_zero_usize_get capacity ≤ hash_map_len m + spare m) }
-        ensures unique { IfOk result (IsUnique K.eq) }
-        ensures nonempty { IfOk result (λ m. 0 < hash_map_len m) }
     {
         NEMap::with_capacity_and_hasher(alloc, capacity, BuildHasherDefault::new(), k, v)
     }
@@ -137,8 +142,7 @@ impl<K: Eq + Hash, V, S: BuildHasher> NEMap<K, V, S> {
     pub fn try_from_map(map: HashMap<K, V, S>) -> Option<Self>
     where
         S: Drop,
-        ensures { MatchOption result (IsEmpty map) (λ m. (m ≡ map) × IsUnique K.eq m
-            × (0 < hash_map_len m)) }
+        ensures { MatchOption result (IsEmpty map) (λ m. m ≡ map) }
     {
         if map.is_empty() {
             map.destroy_empty();
@@ -179,8 +183,7 @@ impl<K: Eq + Hash, V, S: BuildHasher> NEMap<K, V, S> {
         ensures runs { ShowsInOrder (deref_pair {K = K} {X = V}) }
         ensures values_run { ShowsValuesInOrder (deref_pair {K = K} {X = V}) }
         ensures fits { hash_map_len self.now < 2 ^ 63 }
-        ensures unique { IsUnique K.eq self.now }
-        ensures nonempty { 0 < hash_map_len self.now }
+        ensures valid { IsValid K.eq self.now }
     {
         self.inner.iter()
     }
@@ -200,10 +203,9 @@ impl<K: Eq + Hash, V, S: BuildHasher> NEMap<K, V, S> {
         ensures keeps { KeepsKeys self.old }
         ensures ready { IterMutCanStep result }
         ensures rest { iter_mut_rest result ≡ self.old.entries }
-        ensures unique { IsUnique K.eq self.old }
         ensures fits { hash_map_len self.old < 2 ^ 63 }
         ensures values_run { LendsValuesInOrder (iter_mut_rest {K = K} {X = V}) }
-        ensures nonempty { 0 < hash_map_len self.old }
+        ensures valid { IsValid K.eq self.old }
     {
         self.inner.iter_mut()
     }
@@ -217,8 +219,7 @@ impl<K: Eq + Hash, V, S: BuildHasher> NEMap<K, V, S> {
     pub fn nonempty_iter(&self) -> Iter<'_, K, V>
         ensures entries { result ≡ self.now.entries }
         ensures lists { ListsEntries (deref_pair {K = K} {X = V}) result self.now.entries }
-        ensures unique { IsUnique K.eq self.now }
-        ensures nonempty { 0 < hash_map_len self.now }
+        ensures valid { IsValid K.eq self.now }
     {
         NonEmptyIter::new(self.inner.iter())
     }
@@ -238,10 +239,9 @@ impl<K: Eq + Hash, V, S: BuildHasher> NEMap<K, V, S> {
         ensures keeps { KeepsKeys self.old }
         ensures ready { IterMutCanStep (std_iterator result) }
         ensures rest { iter_mut_rest (std_iterator result) ≡ self.old.entries }
-        ensures unique { IsUnique K.eq self.old }
         ensures fits { hash_map_len self.old < 2 ^ 63 }
         ensures values_run { LendsValuesInOrder (iter_mut_rest {K = K} {X = V}) }
-        ensures nonempty { 0 < hash_map_len self.old }
+        ensures valid { IsValid K.eq self.old }
     {
         IterMut {
             inner: self.iter_mut(),
@@ -260,10 +260,28 @@ impl<K: Eq + Hash, V, S: BuildHasher> NEMap<K, V, S> {
         ensures lists { ListsEntries (deref {X = K}) result (keys self.now) }
         ensures found { (q : K) → is_some (get K.eq self.now q) ≡ is_member K.eq result q }
         ensures len { length result ≡ hash_map_len self.now }
-        ensures unique { IsUnique K.eq self.now }
-        ensures nonempty { 0 < hash_map_len self.now }
+        ensures valid { IsValid K.eq self.now }
     {
         NonEmptyIter::new(self.inner.keys())
+    }
+
+    /// Returns a non-empty iterator over the keys by value, and drops the values. The order is
+    /// unspecified, but it is that of the pairs.
+    ///
+    /// ```
+    /// let keys = nem![alloc; 0 => 3, 2 => 1]?.into_keys(); // 0 and 2, in some order
+    /// ```
+    pub fn into_keys(self) -> IntoKeys<K, V>
+    where
+        K: Drop,
+        V: Drop,
+        S: Drop,
+        ensures keys { result ≡ keys self }
+        ensures lists { ListsEntriesByValue KnownByValue result (keys self) }
+        ensures found { (q : K) → is_some (get K.eq self q) ≡ is_member K.eq result q }
+        ensures len { length result ≡ hash_map_len self }
+    {
+        NonEmptyIter::new(self.inner.into_keys())
     }
 
     /// Returns the number of keys, which is at least 1.
@@ -273,8 +291,7 @@ impl<K: Eq + Hash, V, S: BuildHasher> NEMap<K, V, S> {
     /// ```
     pub fn len(&self) -> NonZeroUsize
         ensures len { non_zero_usize_get result ≡ hash_map_len self.now }
-        ensures unique { IsUnique K.eq self.now }
-        ensures nonempty { 0 < hash_map_len self.now }
+        ensures valid { IsValid K.eq self.now }
     {
         match NonZeroUsize::new(self.inner.len()) {
             Some(len) => len,
@@ -285,7 +302,7 @@ impl<K: Eq + Hash, V, S: BuildHasher> NEMap<K, V, S> {
     /// Returns `false`: the map always holds a key.
     pub fn is_empty(&self) -> bool
         ensures never { result ≡ false }
-        ensures nonempty { 0 < hash_map_len self.now }
+        ensures valid { IsValid K.eq self.now }
     {
         let _ = &self.inner; // the invariant is known once a field is used
         false
@@ -302,10 +319,51 @@ impl<K: Eq + Hash, V, S: BuildHasher> NEMap<K, V, S> {
         ensures values { result ≡ values self.now }
         ensures lists { ListsEntries (deref {X = V}) result (values self.now) }
         ensures len { length result ≡ hash_map_len self.now }
-        ensures unique { IsUnique K.eq self.now }
-        ensures nonempty { 0 < hash_map_len self.now }
+        ensures valid { IsValid K.eq self.now }
     {
         NonEmptyIter::new(self.inner.values())
+    }
+
+    /// Returns a non-empty iterator over mutable references to the values. The order is
+    /// unspecified, but it is that of the pairs. The keys and their number do not change.
+    ///
+    /// ```
+    /// let mut map = nem![alloc; 2 => 1u32, 4 => 32]?;
+    /// for value in map.values_mut() {
+    ///     *value = value.wrapping_mul(31).wrapping_add(2);
+    /// } // {2: 33, 4: 994}
+    /// ```
+    pub fn values_mut(&mut self) -> ValuesMut<'_, K, V>
+        ensures* writes_back { sem 𝓛 (LendsValuesAlone K.row V.row S.row S.Hasher.row K.Hash
+            S.BuildHasher S.Hasher.Hasher self.entry (std_values result)) }
+        ensures keeps { KeepsKeys self.old }
+        ensures rest { values_mut_rest (std_values result) ≡ values self.old }
+        ensures fits { hash_map_len self.old < 2 ^ 63 }
+        ensures runs { YieldsMutRefsInOrder (values_mut_steps {K = K} {X = V}) values_mut_rest }
+        ensures valid { IsValid K.eq self.old }
+    {
+        ValuesMut {
+            inner: self.inner.values_mut(),
+        }
+    }
+
+    /// Returns a non-empty iterator over the values by value, and drops the keys. The order is
+    /// unspecified, but it is that of the pairs.
+    ///
+    /// ```
+    /// let values = nem![alloc; 0 => 3, 2 => 1]?.into_values(); // 3 and 1, in some order
+    /// ```
+    pub fn into_values(self) -> IntoValues<K, V>
+    where
+        K: Drop,
+        V: Drop,
+        S: Drop,
+        ensures values { result ≡ values self }
+        ensures lists { ListsEntriesByValue KnownByValue result (values self) }
+        ensures found { (k : K) (v : V) → get K.eq self k ≡ Some v → Contains result v }
+        ensures len { length result ≡ hash_map_len self }
+    {
+        NonEmptyIter::new(self.inner.into_values())
     }
 
     /// Returns whether the map holds a key equal to `k`.
@@ -360,8 +418,7 @@ impl<K: Eq + Hash, V, S: BuildHasher> NEMap<K, V, S> {
         ensures* writes_back { sem 𝓛 (LendsValue K.row V.row S.row S.Hasher.row K.Hash
             S.BuildHasher S.Hasher.Hasher self.entry k.now result) }
         ensures value { option_copied_mut result ≡ get K.eq self.old k.now }
-        ensures unique { IsUnique K.eq self.old }
-        ensures nonempty { 0 < hash_map_len self.old }
+        ensures valid { IsValid K.eq self.old }
     {
         self.inner.get_mut(k)
     }
@@ -391,10 +448,99 @@ impl<K: Eq + Hash, V, S: BuildHasher> NEMap<K, V, S> {
         ensures refused { OnErr result (get K.eq self.old k ≡ None) }
         ensures unchanged { OnErr result (IsUnchanged self.old self.new) }
         ensures hasher { hasher_of self.new ≡ hasher_of self.old }
-        ensures unique { IsUnique K.eq self.new }
-        ensures nonempty { 0 < hash_map_len self.new }
+        ensures valid { IsValid K.eq self.new }
     {
         Ok(self.inner.insert(k, v)?)
+    }
+
+    /// Removes the key equal to `k` and returns its value, or returns `None` if there is no such
+    /// key, or if it is the only one, which then stays. The order of iteration may change.
+    ///
+    /// ```
+    /// let mut map = nem![alloc; 2 => 24, 4 => 26]?;
+    /// let removed = map.remove(&2); // Some(24)
+    /// let none = map.remove(&4); // None: the only key stays
+    /// let stays = map.get(&4); // Some(&26)
+    /// ```
+    pub fn remove(&mut self, k: &K) -> Option<V>
+    where
+        K: Drop,
+        ensures entries { TakesFoundUnlessLast (get K.eq self.old k.now ≡ None) self.old.entries
+            self.new.entries result (λ v. (get K.eq self.old k.now ≡ Some v)
+            × IsPermutation (remove_entry (K.eq k.now) self.old.entries) self.new.entries) }
+        ensures updates { IfSome result (λ _. Updates K.eq self.old self.new k.now None) }
+        ensures len { hash_map_len self.new + (if is_some result then 1 else 0)
+            ≡ hash_map_len self.old }
+        ensures hasher { hasher_of self.new ≡ hasher_of self.old }
+        ensures valid { IsValid K.eq self.new }
+    {
+        if self.inner.len() > 1 {
+            self.inner.remove(k)
+        } else {
+            None
+        }
+    }
+
+    /// Removes the key equal to `k`, and returns it as it was in the map, and its value. Returns
+    /// `None` if there is no such key, or if it is the only one, which then stays. The order of
+    /// iteration may change.
+    ///
+    /// ```
+    /// let mut map = nem![alloc; 2 => 24, 4 => 26]?;
+    /// let removed = map.remove_entry(&4); // Some((4, 26))
+    /// let none = map.remove_entry(&2); // None: the only key stays
+    /// let stays = map.contains_key(&2); // true
+    /// ```
+    pub fn remove_entry(&mut self, k: &K) -> Option<(K, V)>
+        ensures entries { TakesFoundUnlessLast (get K.eq self.old k.now ≡ None) self.old.entries
+            self.new.entries result (λ p. (get_key K.eq self.old k.now ≡ Some p.0)
+            × (get K.eq self.old k.now ≡ Some p.1)
+            × IsPermutation (remove_entry (K.eq k.now) self.old.entries) self.new.entries) }
+        ensures same { IfSome result (λ p. IsTrue (K.eq k.now p.0)) }
+        ensures updates { IfSome result (λ _. Updates K.eq self.old self.new k.now None) }
+        ensures len { hash_map_len self.new + (if is_some result then 1 else 0)
+            ≡ hash_map_len self.old }
+        ensures hasher { hasher_of self.new ≡ hasher_of self.old }
+        ensures valid { IsValid K.eq self.new }
+    {
+        if self.inner.len() > 1 {
+            self.inner.remove_entry(k)
+        } else {
+            None
+        }
+    }
+
+    /// Keeps the entries for which `f` returns `true`, in order and with the values that `f` left,
+    /// or returns the empty map as an error if there is no such entry.
+    ///
+    /// `f` is called once for each entry, in the order of iteration. It must be callable with each
+    /// of them. The clause `kept` covers an `f` whose result and changes depend only on the entry;
+    /// `called` covers any `f`.
+    ///
+    /// ```
+    /// let even = NEMap::new(alloc, 2, 24)?.retain(|k, _v| *k % 2 == 0); // Ok({2: 24})
+    /// let none = NEMap::new(alloc, 3, 9)?.retain(|k, _v| *k % 2 == 0); // Err({})
+    /// ```
+    pub fn retain<F: FnMut(&K, &mut V) -> bool>(self, f: F) -> Result<Self, HashMap<K, V, S>>
+    where
+        K: Drop,
+        V: Drop,
+        requires { CallableOnEachPair (CalledAtPair F.FnMut) (TakesPair F.FnMut) f self.entries }
+        ensures none { IsErr result ↔ IsEmpty (either_way result) }
+        ensures kept { (keeps : K → V → Bool) (writes : K → V → V)
+            → ActsAsAtEntry F.FnMut f keeps writes
+            → (either_way result).entries ≡ kept_entries keeps writes self.entries }
+        ensures called { RetainsPairs (CalledAtPair F.FnMut) f self.entries
+            (either_way result).entries }
+        ensures hasher { hasher_of (either_way result) ≡ hasher_of self }
+    {
+        let mut inner = self.inner;
+        inner.retain(f);
+        if inner.is_empty() {
+            Err(inner)
+        } else {
+            Ok(NEMap { inner })
+        }
     }
 
     /// Releases room that the map does not need. The entries stay, but the order of iteration may
@@ -406,8 +552,7 @@ impl<K: Eq + Hash, V, S: BuildHasher> NEMap<K, V, S> {
         ensures done { IsOk result }
         ensures entries { IsReordered K.eq self.old self.new }
         ensures hasher { hasher_of self.new ≡ hasher_of self.old }
-        ensures unique { IsUnique K.eq self.new }
-        ensures nonempty { 0 < hash_map_len self.new }
+        ensures valid { IsValid K.eq self.new }
     {
         self.inner.shrink_to_fit();
         Ok(())
@@ -443,8 +588,6 @@ impl<K: Eq + Hash, V, S: BuildHasher> NEMap<K, V, S> {
         ensures value { IfOk result (λ m. get K.eq m k ≡ Some v) }
         ensures hasher { IfOk result (λ m. hasher_of m ≡ hasher) }
         ensures room { IfOk result (λ m. non_zero_usize_get capacity ≤ hash_map_len m + spare m) }
-        ensures unique { IfOk result (IsUnique K.eq) }
-        ensures nonempty { IfOk result (λ m. 0 < hash_map_len m) }
     {
         let inner = HashMap::with_capacity_and_hasher(alloc, capacity.get(), hasher)?;
         of_one_key(inner, k, v)
@@ -466,8 +609,6 @@ impl<K: Eq + Hash, V, S: BuildHasher> NEMap<K, V, S> {
         ensures entries { IfOk result (λ m. m.entries ≡ (k, v) ∷ []) }
         ensures value { IfOk result (λ m. get K.eq m k ≡ Some v) }
         ensures hasher { IfOk result (λ m. hasher_of m ≡ hasher) }
-        ensures unique { IfOk result (IsUnique K.eq) }
-        ensures nonempty { IfOk result (λ m. 0 < hash_map_len m) }
     {
         of_one_key(HashMap::with_hasher(alloc, hasher), k, v)
     }
@@ -494,12 +635,8 @@ impl<K: Eq + Hash, V, S: BuildHasher> NEMap<K, V, S> {
         ensures lists { OnOk result (ExtendsByList (⟦<I as Source>⟧.lists itself)
             (MeetsList I.into_iter_gives I.IntoIter.next_gives itself) iter self.old.entries
             (λ all. IsMapOf K.eq all self.new.entries)) }
-        ensures unique { IsUnique K.eq self.new }
-        ensures nonempty { 0 < hash_map_len self.new }
+        ensures valid { IsValid K.eq self.new }
     {
-        // The contract of `len` says that no two keys are equal, even if there are no pairs to
-        // insert.
-        let _len = self.inner.len();
         self.inner.extend(iter)
     }
 
@@ -521,8 +658,6 @@ impl<K: Eq + Hash, V, S: BuildHasher> NEMap<K, V, S> {
         S: Clone,
         ensures clones { IfOk result (λ m. IsClone K.is_clone V.is_clone self.now m
             × KeepsEntries K.is_clone V.is_clone self.now.entries m.entries) }
-        ensures unique { IfOk result (IsUnique K.eq) }
-        ensures nonempty { IfOk result (λ m. 0 < hash_map_len m) }
     {
         let inner = self.inner.clone()?;
         // The contract of `len` says that no two keys are equal.
@@ -542,8 +677,6 @@ fn of_one_key<K: Eq + Hash + Drop, V: Drop, S: BuildHasher + Drop>(
     ensures value { IfOk result (λ m. get K.eq m k ≡ Some v) }
     ensures hasher { IfOk result (λ m. hasher_of m ≡ hasher_of map) }
     ensures room { IfOk result (λ m. spare map ≤ hash_map_len m + spare m) }
-    ensures unique { IfOk result (IsUnique K.eq) }
-    ensures nonempty { IfOk result (λ m. 0 < hash_map_len m) }
 {
     let mut inner = map;
     inner.insert(k, v)?;

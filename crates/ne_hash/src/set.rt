@@ -4,15 +4,15 @@
 //! by `==`. Of several equal items the set holds one.
 ghost use Rattle.std.specs.Prelude.{◌≡◌, ◌+◌, ◌<◌, ◌≤◌, ◌^◌, ◌↔◌, ◌++◌, [], ◌∷◌, true, false, not};
 ghost use Rattle.std.specs.Prelude.{if◌then◌else◌, is_some, length, IfOk, IsOk, IsTrue};
-ghost use Rattle.std.specs.Prelude.{MatchOption, OnErr, OnOk};
-ghost use Rattle.std.specs.Bool.{OnFalse};
+ghost use Rattle.std.specs.Prelude.{MatchOption, OnErr, OnOk, Bool, Some, IfSome, IsErr};
+ghost use Rattle.std.specs.Bool.{OnFalse, OnTrue};
 ghost use Rattle.std.specs.HashSet.{contains, get, hash_set_len, hasher_of, spare, AreKeysOf};
 ghost use Rattle.std.specs.HashSet.{IsDifference, IsDisjoint, IsEmpty, IsIntersection, IsReordered};
-ghost use Rattle.std.specs.HashSet.{IsSubset, IsUnchanged, IsUnion, IsUnique, IsClone, PutsKey};
+ghost use Rattle.std.specs.HashSet.{IsSubset, IsUnchanged, IsUnion, IsClone, PutsKey};
 ghost use Rattle.std.specs.HashSet.{ReplacesKey, Updates};
 ghost use Rattle.std.specs.Int.NonZero.{non_zero_usize_get};
-ghost use Rattle.std.specs.Iterator.{ExtendsWithItems, IsFiniteIterable};
-ghost use Rattle.std.specs.List.{IsDistinct};
+ghost use Rattle.std.specs.Iterator.{ExtendsWithItems, IsFiniteIterable, ActsAsAt};
+ghost use Rattle.std.specs.List.{IsDistinct, filter};
 ghost use Rattle.std.specs.Map.Iter.{ShowsInOrder, deref};
 ghost use Rattle.std.specs.Option.{option_copied};
 ghost use Rattle.ne_vec.specs.Lists.{itself};
@@ -21,8 +21,14 @@ ghost use Rattle.ne_iter.specs.ExtendLists.{ExtendsByList};
 ghost use Rattle.ne_iter.specs.KeyIterators.{ListsEntries, ListsUnion};
 ghost use Rattle.ne_iter.specs.SourceLists.{MeetsList};
 ghost use Rattle.ne_iter.specs.KeyClones.{KeepsItems};
+ghost use Rattle.ne_hash.specs.ValidHashSet.{IsValid};
+ghost use Rattle.std.specs.Fn.{CalledAt};
+ghost use Rattle.std.specs.List.Retain.{IsFiltered};
+ghost use Rattle.std.specs.List.Sorted.{IsPermutation};
+ghost use Rattle.std.specs.Set.{remove_key};
+ghost use Rattle.ne_vec.specs.Taken.{RemovesFoundUnlessLast, TakesFoundUnlessLast};
+ghost use Rattle.ne_iter.specs.KeptEntries.{either_way};
 
-mod additions;
 mod iter;
 mod traits;
 
@@ -46,7 +52,8 @@ use std::num::NonZeroUsize;
 ///
 /// In contracts it is std's record of the set: `contains T.eq s x` says whether an item equal to
 /// `x` is in the set, `s.keys` is the list of the items in the order of iteration,
-/// `IsUnique T.eq s` says that no two items are equal, and `hasher_of s` is the hasher.
+/// `IsValid T.eq s` says that there is an item and that no two items are equal, and `hasher_of s`
+/// is the hasher.
 ///
 /// ```
 /// let set = nes![alloc; 2, 1, 2]?;
@@ -59,9 +66,9 @@ pub struct NESet<T: Eq + Hash, S: BuildHasher = BuildHasherDefault<FoldHasher>> 
 }
 
 impl<T: Eq + Hash, S: BuildHasher> Model for NESet<T, S> {
-    ghost use Rattle.std.specs.Prelude.{◌<◌};
-    ghost use Rattle.std.specs.HashSet.{HashSet as Keys, hash_set_len};
+    ghost use Rattle.std.specs.HashSet.{HashSet as Keys};
     ghost use Rattle.std_collections.specs.Layout.HashSet.{hash_set_code};
+    ghost use Rattle.ne_hash.specs.ValidHashSet.{IsValid};
 
     ghost Value = { Keys T S };
 
@@ -69,7 +76,7 @@ impl<T: Eq + Hash, S: BuildHasher> Model for NESet<T, S> {
 
     ghost view = { λ s. s.inner };
 
-    ghost invariant = { λ s. 0 < hash_set_len s.inner };
+    ghost invariant = { λ s. IsValid T.eq s.inner };
 }
 
 impl<T: Eq + Hash, S: BuildHasher> NESet<T, S> {
@@ -101,8 +108,7 @@ impl<T: Eq + Hash, S: BuildHasher> NESet<T, S> {
         ensures rest { result ≡ self.now.keys }
         ensures runs { ShowsInOrder (deref {X = T}) }
         ensures fits { hash_set_len self.now < 2 ^ 63 }
-        ensures unique { IsUnique T.eq self.now }
-        ensures nonempty { 0 < hash_set_len self.now }
+        ensures valid { IsValid T.eq self.now }
     {
         self.inner.iter()
     }
@@ -116,8 +122,7 @@ impl<T: Eq + Hash, S: BuildHasher> NESet<T, S> {
     pub fn nonempty_iter(&self) -> Iter<'_, T>
         ensures keys { result ≡ self.now.keys }
         ensures lists { ListsEntries (deref {X = T}) result self.now.keys }
-        ensures unique { IsUnique T.eq self.now }
-        ensures nonempty { 0 < hash_set_len self.now }
+        ensures valid { IsValid T.eq self.now }
     {
         NonEmptyIter::new(self.inner.iter())
     }
@@ -129,8 +134,7 @@ impl<T: Eq + Hash, S: BuildHasher> NESet<T, S> {
     /// ```
     pub fn len(&self) -> NonZeroUsize
         ensures len { non_zero_usize_get result ≡ hash_set_len self.now }
-        ensures unique { IsUnique T.eq self.now }
-        ensures nonempty { 0 < hash_set_len self.now }
+        ensures valid { IsValid T.eq self.now }
     {
         match NonZeroUsize::new(self.inner.len()) {
             Some(len) => len,
@@ -141,7 +145,7 @@ impl<T: Eq + Hash, S: BuildHasher> NESet<T, S> {
     /// Returns `false`: the set always holds an item.
     pub fn is_empty(&self) -> bool
         ensures never { result ≡ false }
-        ensures nonempty { 0 < hash_set_len self.now }
+        ensures valid { IsValid T.eq self.now }
     {
         let _ = &self.inner; // the invariant is known once a field is used
         false
@@ -159,8 +163,6 @@ impl<T: Eq + Hash + Drop> NESet<T> {
     pub fn new(alloc: Global, value: T) -> Result<Self, AllocError>
         ensures keys { IfOk result (λ s. s.keys ≡ value ∷ []) }
         ensures found { IfOk result (λ s. contains T.eq s value ≡ true) }
-        ensures unique { IfOk result (IsUnique T.eq) }
-        ensures nonempty { IfOk result (λ s. 0 < hash_set_len s) }
     {
         NESet::with_hasher(alloc, BuildHasherDefault::new(), value)
     }
@@ -183,8 +185,6 @@ impl<T: Eq + Hash + Drop> NESet<T> {
         ensures keys { IfOk result (λ s. s.keys ≡ value ∷ []) }
         ensures found { IfOk result (λ s. contains T.eq s value ≡ true) }
         ensures room { IfOk result (λ s. non_zero_usize_get capacity ≤ hash_set_len s + spare s) }
-        ensures unique { IfOk result (IsUnique T.eq) }
-        ensures nonempty { IfOk result (λ s. 0 < hash_set_len s) }
     {
         NESet::with_capacity_and_hasher(alloc, capacity, BuildHasherDefault::new(), value)
     }
@@ -205,8 +205,7 @@ impl<T: Eq + Hash, S: BuildHasher> NESet<T, S> {
     pub fn try_from_set(set: HashSet<T, S>) -> Option<Self>
     where
         S: Drop,
-        ensures { MatchOption result (IsEmpty set) (λ s. (s ≡ set) × IsUnique T.eq s
-            × (0 < hash_set_len s)) }
+        ensures { MatchOption result (IsEmpty set) (λ s. s ≡ set) }
     {
         if set.is_empty() {
             set.destroy_empty();
@@ -283,10 +282,36 @@ impl<T: Eq + Hash, S: BuildHasher> NESet<T, S> {
         ensures refused { OnErr result (contains T.eq self.old value ≡ false) }
         ensures unchanged { OnErr result (IsUnchanged self.old self.new) }
         ensures hasher { hasher_of self.new ≡ hasher_of self.old }
-        ensures unique { IsUnique T.eq self.new }
-        ensures nonempty { 0 < hash_set_len self.new }
+        ensures valid { IsValid T.eq self.new }
     {
         Ok(self.inner.insert(value)?)
+    }
+
+    /// Removes the item equal to `value` and returns `true`, or returns `false` if there is no such
+    /// item, or if it is the only one, which then stays. The order of iteration may change.
+    ///
+    /// ```
+    /// let mut set = nes![alloc; 2, 4]?;
+    /// let removed = set.remove(&2); // true
+    /// let only = set.remove(&4); // false: it is the only item
+    /// let stays = set.contains(&4); // true
+    /// ```
+    pub fn remove(&mut self, value: &T) -> bool
+    where
+        T: Drop,
+        ensures keys { RemovesFoundUnlessLast (contains T.eq self.old value.now ≡ false)
+            self.old.keys self.new.keys result
+            (IsPermutation (remove_key (T.eq value.now) self.old.keys) self.new.keys) }
+        ensures updates { OnTrue result (Updates T.eq self.old self.new value.now false) }
+        ensures len { hash_set_len self.new + (if result then 1 else 0) ≡ hash_set_len self.old }
+        ensures hasher { hasher_of self.new ≡ hasher_of self.old }
+        ensures valid { IsValid T.eq self.new }
+    {
+        if self.inner.len() > 1 {
+            self.inner.remove(value)
+        } else {
+            false
+        }
     }
 
     /// Returns an iterator over the items that are also in `other`, in an unspecified order. There
@@ -364,10 +389,67 @@ impl<T: Eq + Hash, S: BuildHasher> NESet<T, S> {
         ensures refused { OnErr result (contains T.eq self.old value ≡ false) }
         ensures unchanged { OnErr result (IsUnchanged self.old self.new) }
         ensures hasher { hasher_of self.new ≡ hasher_of self.old }
-        ensures unique { IsUnique T.eq self.new }
-        ensures nonempty { 0 < hash_set_len self.new }
+        ensures valid { IsValid T.eq self.new }
     {
         Ok(self.inner.replace(value)?)
+    }
+
+    /// Removes the item equal to `value`, and returns it as it was in the set. Returns `None` if
+    /// there is no such item, or if it is the only one, which then stays. The order of iteration
+    /// may change.
+    ///
+    /// ```
+    /// let mut set = nes![alloc; 2, 4]?;
+    /// let taken = set.take(&4); // Some(4)
+    /// let none = set.take(&2); // None: the only item stays
+    /// let stays = set.contains(&2); // true
+    /// ```
+    pub fn take(&mut self, value: &T) -> Option<T>
+        ensures keys { TakesFoundUnlessLast (contains T.eq self.old value.now ≡ false)
+            self.old.keys self.new.keys result (λ x. (get T.eq self.old value.now ≡ Some x)
+            × IsPermutation (remove_key (T.eq value.now) self.old.keys) self.new.keys) }
+        ensures same { IfSome result (λ x. IsTrue (T.eq value.now x)) }
+        ensures updates { IfSome result (λ _. Updates T.eq self.old self.new value.now false) }
+        ensures len { hash_set_len self.new + (if is_some result then 1 else 0)
+            ≡ hash_set_len self.old }
+        ensures hasher { hasher_of self.new ≡ hasher_of self.old }
+        ensures valid { IsValid T.eq self.new }
+    {
+        if self.inner.len() > 1 {
+            self.inner.take(value)
+        } else {
+            None
+        }
+    }
+
+    /// Keeps the items for which `f` returns `true`, in order, or returns the empty set as an error
+    /// if there is no such item.
+    ///
+    /// `f` is called once for each item, in the order of iteration. It must be callable with any
+    /// value of the items' type. The clause `kept` covers an `f` whose result depends only on the
+    /// item; `called` covers any `f`.
+    ///
+    /// ```
+    /// let even = NESet::new(alloc, 4)?.retain(|x| *x % 2 == 0); // Ok({4})
+    /// let none = NESet::new(alloc, 3)?.retain(|x| *x % 2 == 0); // Err({})
+    /// ```
+    pub fn retain<F: FnMut(&T) -> bool>(self, f: F) -> Result<Self, HashSet<T, S>>
+    where
+        T: Drop,
+        requires { F.IsAlwaysCallable f }
+        ensures none { IsErr result ↔ IsEmpty (either_way result) }
+        ensures kept { (keeps : T → Bool) → ActsAsAt F.FnMut f keeps
+            → (either_way result).keys ≡ filter keeps self.keys }
+        ensures called { IsFiltered (CalledAt F.FnMut) f self.keys (either_way result).keys }
+        ensures hasher { hasher_of (either_way result) ≡ hasher_of self }
+    {
+        let mut inner = self.inner;
+        inner.retain(f);
+        if inner.is_empty() {
+            Err(inner)
+        } else {
+            Ok(NESet { inner })
+        }
     }
 
     /// Makes room for at least `additional` more items. The items stay, but the order of iteration
@@ -385,8 +467,7 @@ impl<T: Eq + Hash, S: BuildHasher> NESet<T, S> {
         ensures room { OnOk result (additional ≤ spare self.new) }
         ensures unchanged { OnErr result (IsUnchanged self.old self.new) }
         ensures hasher { hasher_of self.new ≡ hasher_of self.old }
-        ensures unique { IsUnique T.eq self.new }
-        ensures nonempty { 0 < hash_set_len self.new }
+        ensures valid { IsValid T.eq self.new }
     {
         self.inner.reserve(additional)
     }
@@ -400,8 +481,7 @@ impl<T: Eq + Hash, S: BuildHasher> NESet<T, S> {
         ensures done { IsOk result }
         ensures keys { IsReordered T.eq self.old self.new }
         ensures hasher { hasher_of self.new ≡ hasher_of self.old }
-        ensures unique { IsUnique T.eq self.new }
-        ensures nonempty { 0 < hash_set_len self.new }
+        ensures valid { IsValid T.eq self.new }
     {
         self.inner.shrink_to_fit();
         Ok(())
@@ -419,7 +499,6 @@ impl<T: Eq + Hash, S: BuildHasher> NESet<T, S> {
         ensures unique { IsDistinct T.eq result }
         ensures stored { AreKeysOf self.now other.now result }
         ensures lists { ListsUnion result result }
-        ensures nonempty { 0 < length result }
     {
         NonEmptyIter::new(self.inner.union(&other.inner))
     }
@@ -452,8 +531,6 @@ impl<T: Eq + Hash, S: BuildHasher> NESet<T, S> {
         ensures found { IfOk result (λ s. contains T.eq s value ≡ true) }
         ensures hasher { IfOk result (λ s. hasher_of s ≡ hasher) }
         ensures room { IfOk result (λ s. non_zero_usize_get capacity ≤ hash_set_len s + spare s) }
-        ensures unique { IfOk result (IsUnique T.eq) }
-        ensures nonempty { IfOk result (λ s. 0 < hash_set_len s) }
     {
         let inner = HashSet::with_capacity_and_hasher(alloc, capacity.get(), hasher)?;
         of_one_item(inner, value)
@@ -474,8 +551,6 @@ impl<T: Eq + Hash, S: BuildHasher> NESet<T, S> {
         ensures keys { IfOk result (λ s. s.keys ≡ value ∷ []) }
         ensures found { IfOk result (λ s. contains T.eq s value ≡ true) }
         ensures hasher { IfOk result (λ s. hasher_of s ≡ hasher) }
-        ensures unique { IfOk result (IsUnique T.eq) }
-        ensures nonempty { IfOk result (λ s. 0 < hash_set_len s) }
     {
         of_one_item(HashSet::with_hasher(alloc, hasher), value)
     }
@@ -500,12 +575,8 @@ impl<T: Eq + Hash, S: BuildHasher> NESet<T, S> {
         ensures lists { OnOk result (ExtendsByList (⟦<I as Source>⟧.lists itself)
             (MeetsList I.into_iter_gives I.IntoIter.next_gives itself) iter self.old.keys
             (λ all. IsSetOf T.eq all self.new.keys)) }
-        ensures unique { IsUnique T.eq self.new }
-        ensures nonempty { 0 < hash_set_len self.new }
+        ensures valid { IsValid T.eq self.new }
     {
-        // The contract of `len` says that no two items are equal, even if there are no items to
-        // insert.
-        let _len = self.inner.len();
         self.inner.extend(iter)
     }
 
@@ -526,8 +597,6 @@ impl<T: Eq + Hash, S: BuildHasher> NESet<T, S> {
         S: Clone,
         ensures clones { IfOk result (λ s. IsClone T.is_clone self.now s
             × KeepsItems T.is_clone self.now.keys s.keys) }
-        ensures unique { IfOk result (IsUnique T.eq) }
-        ensures nonempty { IfOk result (λ s. 0 < hash_set_len s) }
     {
         let inner = self.inner.clone()?;
         // The contract of `len` says that no two items are equal.
@@ -546,8 +615,6 @@ fn of_one_item<T: Eq + Hash + Drop, S: BuildHasher + Drop>(
     ensures found { IfOk result (λ s. contains T.eq s value ≡ true) }
     ensures hasher { IfOk result (λ s. hasher_of s ≡ hasher_of set) }
     ensures room { IfOk result (λ s. spare set ≤ hash_set_len s + spare s) }
-    ensures unique { IfOk result (IsUnique T.eq) }
-    ensures nonempty { IfOk result (λ s. 0 < hash_set_len s) }
 {
     let mut inner = set;
     inner.insert(value)?;

@@ -17,6 +17,8 @@ use Rattle.ne_iter.specs.CollectedLaws.{update_all-last_value, set_of-inserts, s
 use Rattle.ne_iter.specs.KeyList.{key_list, IsKeyListMapOf}
 use Rattle.ne_index.specs.KeyListSets.{IsKeyListSetOf}
 use Rattle.ne_index.specs.Puts.{put_item}
+use Rattle.ne_index.specs.ValidIndexMap.{IsValid}
+use Rattle.ne_index.specs.ValidIndexSet.{IsValid as AreValid}
 use mathlib.Core.List.{map-append}
 use Rattle.indexmap.proofs.SetLemmas.{keys_insert_all}
 use Rattle.ne_index.proofs.KeyLists.{first_seen-inserts, key_list-extended, key_list-made}
@@ -54,12 +56,15 @@ module _ {K V S : Type 0} {eq : K → K → Bool} (laws : IsEquivalence eq) wher
       map_of-inserts laws m.entries n.entries pairs made.1.0 d made.1.1,
     )
 
-    pub nonempty-extends : 0 < index_map_len m → 0 < index_map_len n
+    nonempty-extends : 0 < index_map_len m → 0 < index_map_len n
     nonempty-extends some =
         let keys = longer (keys_of m.entries) _ (keys_of n.entries)
         (keys_made ∙ first_seen-inserts laws (keys_of m.entries) (keys_of pairs)
         (keys_of m.entries) (λ q. refl)) (subst (λ l. 0 < l) (sym (length-keys_of m.entries)) some)
         in subst (λ l. 0 < l) (length-keys_of n.entries) keys
+
+    pub valid-extends : IsValid eq m → IsValid eq n
+    valid-extends v = (nonempty-extends v.0, (key_list_map-extends v.1).1.0)
 
   -- The map that is collected from the pairs, if there is at least one.
   pub key_list_map-made : (pairs : List (K × V)) (n : IndexMap K V S) → 0 < length pairs
@@ -101,9 +106,11 @@ module _ {K S : Type 0} {eq : K → K → Bool} (laws : IsEquivalence eq) where
       set_of-inserts laws s.keys xs t.keys made.1.0 made.1.1,
     )
 
-    pub nonempty_set-extends : 0 < index_set_len s → 0 < index_set_len t
-    nonempty_set-extends some = longer s.keys _ t.keys
-        (made.0 ∙ first_seen-inserts laws s.keys xs s.keys (λ q. refl)) some
+    pub valid_set-extends : AreValid eq s → AreValid eq t
+    valid_set-extends v = (
+      longer s.keys _ t.keys (made.0 ∙ first_seen-inserts laws s.keys xs s.keys (λ q. refl)) v.0,
+      (key_list_set-extends v.1).1.0,
+    )
 
   -- The set that is collected from the items, if there is at least one.
   pub key_list_set-made : (xs : List K) (t : IndexSet K S) → 0 < length xs

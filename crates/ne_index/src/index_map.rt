@@ -16,7 +16,7 @@ ghost use Rattle.std.specs.Set.{is_member};
 ghost use Rattle.ne_vec.specs.Lists.{itself};
 ghost use Rattle.indexmap.specs.IndexMap.{get, get_key, hasher_of, index_map_len, index_of, keys};
 ghost use Rattle.indexmap.specs.IndexMap.{spare, values, IsEmpty, IsReordered, IsUnchanged};
-ghost use Rattle.indexmap.specs.IndexMap.{IsClone, IsUnique, Updates};
+ghost use Rattle.indexmap.specs.IndexMap.{IsClone, Updates};
 ghost use Rattle.ne_iter.specs.ExtendLists.{ExtendsByList};
 ghost use Rattle.ne_iter.specs.KeyClones.{KeepsEntries};
 ghost use Rattle.ne_iter.specs.KeyList.{IsKeyListMapOf};
@@ -24,6 +24,7 @@ ghost use Rattle.ne_iter.specs.KeyIterators.{ListsEntries};
 ghost use Rattle.ne_iter.specs.SourceLists.{MeetsList};
 ghost use Rattle.ne_index.specs.IndexLends.{LendsValue};
 ghost use Rattle.ne_index.specs.Puts.{put_entry, put_item};
+ghost use Rattle.ne_index.specs.ValidIndexMap.{IsValid};
 
 mod additions;
 mod iter;
@@ -41,7 +42,7 @@ use std::num::NonZeroUsize;
 ///
 /// In contracts it is the record of the inner map: `m.entries` is the list of the pairs in the
 /// map's order, `get K.eq m k` is the value of the key `k`, `hasher_of m` is the hasher, and
-/// `IsUnique K.eq m` says that no two keys are equal.
+/// `IsValid K.eq m` says that there is a key and that no two keys are equal.
 ///
 /// The default hasher has a fixed seed; the Rust crate's default is `RandomState`. If untrusted
 /// users can choose the keys, create the map by `with_hasher` with `RandomState`.
@@ -60,9 +61,9 @@ pub struct NEIndexMap<K: Eq + Hash, V, S: BuildHasher = BuildHasherDefault<FoldH
 }
 
 impl<K: Eq + Hash, V, S: BuildHasher> Model for NEIndexMap<K, V, S> {
-    ghost use Rattle.std.specs.Prelude.{◌<◌};
-    ghost use Rattle.indexmap.specs.IndexMap.{IndexMap as Entries, index_map_len};
+    ghost use Rattle.indexmap.specs.IndexMap.{IndexMap as Entries};
     ghost use Rattle.indexmap.specs.Layout.{hash_map_code};
+    ghost use Rattle.ne_index.specs.ValidIndexMap.{IsValid};
 
     ghost Value = { Entries K V S };
 
@@ -70,7 +71,7 @@ impl<K: Eq + Hash, V, S: BuildHasher> Model for NEIndexMap<K, V, S> {
 
     ghost view = { λ m. m.inner };
 
-    ghost invariant = { λ m. 0 < index_map_len m.inner };
+    ghost invariant = { λ m. IsValid K.eq m.inner };
 }
 
 impl<K: Eq + Hash, V, S: BuildHasher> NEIndexMap<K, V, S> {
@@ -100,8 +101,7 @@ impl<K: Eq + Hash, V, S: BuildHasher> NEIndexMap<K, V, S> {
         ensures runs { ShowsInOrder (deref_pair {K = K} {X = V}) }
         ensures values_run { ShowsValuesInOrder (deref_pair {K = K} {X = V}) }
         ensures fits { index_map_len self.now < 2 ^ 63 }
-        ensures unique { IsUnique K.eq self.now }
-        ensures nonempty { 0 < index_map_len self.now }
+        ensures valid { IsValid K.eq self.now }
     {
         self.inner.iter()
     }
@@ -115,8 +115,7 @@ impl<K: Eq + Hash, V, S: BuildHasher> NEIndexMap<K, V, S> {
     pub fn nonempty_iter(&self) -> Iter<'_, K, V>
         ensures entries { result ≡ self.now.entries }
         ensures lists { ListsEntries (deref_pair {K = K} {X = V}) result self.now.entries }
-        ensures unique { IsUnique K.eq self.now }
-        ensures nonempty { 0 < index_map_len self.now }
+        ensures valid { IsValid K.eq self.now }
     {
         NonEmptyIter::new(self.inner.iter())
     }
@@ -131,8 +130,7 @@ impl<K: Eq + Hash, V, S: BuildHasher> NEIndexMap<K, V, S> {
         ensures keys { result ≡ keys self.now }
         ensures lists { ListsEntries (deref {X = K}) result (keys self.now) }
         ensures found { (q : K) → is_some (get K.eq self.now q) ≡ is_member K.eq result q }
-        ensures unique { IsUnique K.eq self.now }
-        ensures nonempty { 0 < index_map_len self.now }
+        ensures valid { IsValid K.eq self.now }
     {
         NonEmptyIter::new(self.inner.keys())
     }
@@ -144,8 +142,7 @@ impl<K: Eq + Hash, V, S: BuildHasher> NEIndexMap<K, V, S> {
     /// ```
     pub fn len(&self) -> NonZeroUsize
         ensures len { non_zero_usize_get result ≡ index_map_len self.now }
-        ensures unique { IsUnique K.eq self.now }
-        ensures nonempty { 0 < index_map_len self.now }
+        ensures valid { IsValid K.eq self.now }
     {
         NonZeroUsize::new(self.inner.len()).unwrap()
     }
@@ -155,7 +152,7 @@ impl<K: Eq + Hash, V, S: BuildHasher> NEIndexMap<K, V, S> {
     /// It exists for code that also works with `IndexMap`. It is deprecated in the Rust crate.
     pub fn is_empty(&self) -> bool
         ensures never { result ≡ false }
-        ensures nonempty { 0 < index_map_len self.now }
+        ensures valid { IsValid K.eq self.now }
     {
         let _ = &self.inner; // the invariant is known once a field is used
         false
@@ -170,7 +167,7 @@ impl<K: Eq + Hash, V, S: BuildHasher> NEIndexMap<K, V, S> {
     pub fn values(&self) -> Values<'_, K, V>
         ensures values { result ≡ values self.now }
         ensures lists { ListsEntries (deref {X = V}) result (values self.now) }
-        ensures nonempty { 0 < index_map_len self.now }
+        ensures valid { IsValid K.eq self.now }
     {
         NonEmptyIter::new(self.inner.values())
     }
@@ -214,8 +211,6 @@ impl<K: Eq + Hash, V> NEIndexMap<K, V> {
         K: Drop,
         V: Drop,
         ensures entries { IfOk result (λ m. m.entries ≡ (k, v) ∷ []) }
-        ensures unique { IfOk result (IsUnique K.eq) }
-        ensures nonempty { IfOk result (λ m. 0 < index_map_len m) }
     {
         NEIndexMap::with_hasher(alloc, BuildHasherDefault::new(), k, v)
     }
@@ -242,8 +237,6 @@ impl<K: Eq + Hash, V> NEIndexMap<K, V> {
         ensures entries { IfOk result (λ m. m.entries ≡ (k, v) ∷ []) }
         ensures room { IfOk result (λ m. non_zero_usize_get capacity
             ≤ index_map_len m + spare m) }
-        ensures unique { IfOk result (IsUnique K.eq) }
-        ensures nonempty { IfOk result (λ m. 0 < index_map_len m) }
     {
         NEIndexMap::with_capacity_and_hasher(alloc, capacity, BuildHasherDefault::new(), k, v)
     }
@@ -262,8 +255,7 @@ impl<K: Eq + Hash, V, S: BuildHasher> NEIndexMap<K, V, S> {
     pub fn try_from_map(map: IndexMap<K, V, S>) -> Option<Self>
     where
         S: Drop,
-        ensures { MatchOption result (IsEmpty map) (λ m. (m ≡ map) × IsUnique K.eq m
-            × (0 < index_map_len m)) }
+        ensures { MatchOption result (IsEmpty map) (λ m. m ≡ map) }
     {
         if map.is_empty() {
             map.destroy_empty();
@@ -327,8 +319,7 @@ impl<K: Eq + Hash, V, S: BuildHasher> NEIndexMap<K, V, S> {
         ensures* writes_back { sem 𝓛 (LendsValue K.row V.row S.row S.Hasher.row K.Hash
             S.BuildHasher S.Hasher.Hasher self.entry k.now result) }
         ensures value { option_copied_mut result ≡ get K.eq self.old k.now }
-        ensures unique { IsUnique K.eq self.old }
-        ensures nonempty { 0 < index_map_len self.old }
+        ensures valid { IsValid K.eq self.old }
     {
         self.inner.get_mut(k)
     }
@@ -346,7 +337,7 @@ impl<K: Eq + Hash, V, S: BuildHasher> NEIndexMap<K, V, S> {
         ensures within { IfSome result (λ i. i < index_map_len self.now) }
         ensures value { IfSome result (λ i. slice_get (values self.now) i
             ≡ get K.eq self.now k.now) }
-        ensures unique { IsUnique K.eq self.now }
+        ensures valid { IsValid K.eq self.now }
     {
         self.inner.get_index_of(k)
     }
@@ -379,8 +370,7 @@ impl<K: Eq + Hash, V, S: BuildHasher> NEIndexMap<K, V, S> {
         ensures refused { OnErr result (get K.eq self.old k ≡ None) }
         ensures unchanged { OnErr result (IsUnchanged self.old self.new) }
         ensures hasher { hasher_of self.new ≡ hasher_of self.old }
-        ensures unique { IsUnique K.eq self.new }
-        ensures nonempty { 0 < index_map_len self.new }
+        ensures valid { IsValid K.eq self.new }
     {
         Ok(self.inner.insert(k, v)?)
     }
@@ -391,12 +381,9 @@ impl<K: Eq + Hash, V, S: BuildHasher> NEIndexMap<K, V, S> {
     pub fn shrink_to_fit(&mut self) -> Result<(), AllocError>
         ensures unchanged { IsUnchanged self.old self.new }
         ensures hasher { hasher_of self.new ≡ hasher_of self.old }
-        ensures unique { IsUnique K.eq self.new }
-        ensures nonempty { 0 < index_map_len self.new }
+        ensures valid { IsValid K.eq self.new }
         ensures succeeds { IsOk result }
     {
-        // The contract of `len` says that no two keys are equal.
-        let _len = self.inner.len();
         self.inner.shrink_to_fit();
         Ok(())
     }
@@ -431,8 +418,6 @@ impl<K: Eq + Hash, V, S: BuildHasher> NEIndexMap<K, V, S> {
         ensures hasher { IfOk result (λ m. hasher_of m ≡ hasher) }
         ensures room { IfOk result (λ m. non_zero_usize_get capacity
             ≤ index_map_len m + spare m) }
-        ensures unique { IfOk result (IsUnique K.eq) }
-        ensures nonempty { IfOk result (λ m. 0 < index_map_len m) }
     {
         let mut inner = IndexMap::with_capacity_and_hasher(alloc, capacity.get(), hasher)?;
         inner.insert(k, v)?;
@@ -459,8 +444,6 @@ impl<K: Eq + Hash, V, S: BuildHasher> NEIndexMap<K, V, S> {
         S: Drop,
         ensures entries { IfOk result (λ m. m.entries ≡ (k, v) ∷ []) }
         ensures hasher { IfOk result (λ m. hasher_of m ≡ hasher) }
-        ensures unique { IfOk result (IsUnique K.eq) }
-        ensures nonempty { IfOk result (λ m. 0 < index_map_len m) }
     {
         let mut inner = IndexMap::with_hasher(alloc, hasher);
         inner.insert(k, v)?;
@@ -481,8 +464,7 @@ impl<K: Eq + Hash, V, S: BuildHasher> NEIndexMap<K, V, S> {
         ensures entries { self.new.entries ≡ swap self.old.entries a b }
         ensures reordered { IsReordered K.eq self.old self.new }
         ensures hasher { hasher_of self.new ≡ hasher_of self.old }
-        ensures unique { IsUnique K.eq self.new }
-        ensures nonempty { 0 < index_map_len self.new }
+        ensures valid { IsValid K.eq self.new }
     {
         self.inner.swap_indices(a, b);
     }
@@ -512,12 +494,8 @@ impl<K: Eq + Hash, V, S: BuildHasher> NEIndexMap<K, V, S> {
             (MeetsList I.into_iter_gives I.IntoIter.next_gives itself) iter self.old.entries
             (λ all. IsKeyListMapOf K.eq all self.new.entries)) }
         ensures hasher { hasher_of self.new ≡ hasher_of self.old }
-        ensures unique { IsUnique K.eq self.new }
-        ensures nonempty { 0 < index_map_len self.new }
+        ensures valid { IsValid K.eq self.new }
     {
-        // The contract of `len` says that no two keys are equal, even if there are no pairs to
-        // insert.
-        let _len = self.inner.len();
         self.inner.extend(iter)
     }
 
@@ -539,8 +517,6 @@ impl<K: Eq + Hash, V, S: BuildHasher> NEIndexMap<K, V, S> {
         S: Clone,
         ensures clones { IfOk result (λ m. IsClone K.is_clone V.is_clone self.now m
             × KeepsEntries K.is_clone V.is_clone self.now.entries m.entries) }
-        ensures unique { IfOk result (IsUnique K.eq) }
-        ensures nonempty { IfOk result (λ m. 0 < index_map_len m) }
     {
         let inner = self.inner.clone()?;
         // The contract of `len` says that no two keys are equal.

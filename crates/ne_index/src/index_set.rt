@@ -15,13 +15,14 @@ ghost use Rattle.ne_vec.specs.Lists.{itself};
 ghost use Rattle.indexmap.specs.IndexSet.{contains, difference, get, hasher_of, index_set_len};
 ghost use Rattle.indexmap.specs.IndexSet.{intersection, spare, union, IsDifference, IsDisjoint};
 ghost use Rattle.indexmap.specs.IndexSet.{IsEmpty, IsIntersection, IsSubset, IsUnchanged, IsUnion};
-ghost use Rattle.indexmap.specs.IndexSet.{IsClone, IsUnique, Updates};
+ghost use Rattle.indexmap.specs.IndexSet.{IsClone, Updates};
 ghost use Rattle.ne_iter.specs.ExtendLists.{ExtendsByList};
 ghost use Rattle.ne_iter.specs.KeyIterators.{ListsEntries, ListsUnion};
 ghost use Rattle.ne_iter.specs.KeyClones.{KeepsItems};
 ghost use Rattle.ne_iter.specs.SourceLists.{MeetsList};
 ghost use Rattle.ne_index.specs.KeyListSets.{IsKeyListSetOf};
 ghost use Rattle.ne_index.specs.Puts.{put_in_place, put_item};
+ghost use Rattle.ne_index.specs.ValidIndexSet.{IsValid};
 
 mod additions;
 mod iter;
@@ -39,7 +40,7 @@ use std::num::NonZeroUsize;
 ///
 /// In contracts it is the record of the inner set: `s.keys` is the list of the items in the set's
 /// order, `contains T.eq s x` says whether an item equal to `x` is in the set, `hasher_of s` is the
-/// hasher, and `IsUnique T.eq s` says that no two items are equal.
+/// hasher, and `IsValid T.eq s` says that there is an item and that no two items are equal.
 ///
 /// The default hasher has a fixed seed; the Rust crate's default is `RandomState`. If untrusted
 /// users can choose the items, create the set by `with_hasher` with `RandomState`.
@@ -55,9 +56,9 @@ pub struct NEIndexSet<T: Eq + Hash, S: BuildHasher = BuildHasherDefault<FoldHash
 }
 
 impl<T: Eq + Hash, S: BuildHasher> Model for NEIndexSet<T, S> {
-    ghost use Rattle.std.specs.Prelude.{◌<◌};
-    ghost use Rattle.indexmap.specs.IndexSet.{IndexSet as Keys, index_set_len};
+    ghost use Rattle.indexmap.specs.IndexSet.{IndexSet as Keys};
     ghost use Rattle.indexmap.specs.Layout.{hash_set_code};
+    ghost use Rattle.ne_index.specs.ValidIndexSet.{IsValid};
 
     ghost Value = { Keys T S };
 
@@ -65,7 +66,7 @@ impl<T: Eq + Hash, S: BuildHasher> Model for NEIndexSet<T, S> {
 
     ghost view = { λ s. s.inner };
 
-    ghost invariant = { λ s. 0 < index_set_len s.inner };
+    ghost invariant = { λ s. IsValid T.eq s.inner };
 }
 
 impl<T: Eq + Hash, S: BuildHasher> NEIndexSet<T, S> {
@@ -94,8 +95,7 @@ impl<T: Eq + Hash, S: BuildHasher> NEIndexSet<T, S> {
         ensures rest { result ≡ self.now.keys }
         ensures runs { ShowsInOrder (deref {X = T}) }
         ensures fits { index_set_len self.now < 2 ^ 63 }
-        ensures unique { IsUnique T.eq self.now }
-        ensures nonempty { 0 < index_set_len self.now }
+        ensures valid { IsValid T.eq self.now }
     {
         self.inner.iter()
     }
@@ -109,8 +109,7 @@ impl<T: Eq + Hash, S: BuildHasher> NEIndexSet<T, S> {
     pub fn nonempty_iter(&self) -> Iter<'_, T>
         ensures keys { result ≡ self.now.keys }
         ensures lists { ListsEntries (deref {X = T}) result self.now.keys }
-        ensures unique { IsUnique T.eq self.now }
-        ensures nonempty { 0 < index_set_len self.now }
+        ensures valid { IsValid T.eq self.now }
     {
         NonEmptyIter::new(self.inner.iter())
     }
@@ -122,8 +121,7 @@ impl<T: Eq + Hash, S: BuildHasher> NEIndexSet<T, S> {
     /// ```
     pub fn len(&self) -> NonZeroUsize
         ensures len { non_zero_usize_get result ≡ index_set_len self.now }
-        ensures unique { IsUnique T.eq self.now }
-        ensures nonempty { 0 < index_set_len self.now }
+        ensures valid { IsValid T.eq self.now }
     {
         NonZeroUsize::new(self.inner.len()).unwrap()
     }
@@ -133,7 +131,7 @@ impl<T: Eq + Hash, S: BuildHasher> NEIndexSet<T, S> {
     /// It exists for code that also works with `IndexSet`. It is deprecated in the Rust crate.
     pub fn is_empty(&self) -> bool
         ensures never { result ≡ false }
-        ensures nonempty { 0 < index_set_len self.now }
+        ensures valid { IsValid T.eq self.now }
     {
         let _ = &self.inner; // the invariant is known once a field is used
         false
@@ -152,8 +150,6 @@ impl<T: Eq + Hash> NEIndexSet<T> {
     where
         T: Drop,
         ensures keys { IfOk result (λ s. s.keys ≡ value ∷ []) }
-        ensures unique { IfOk result (IsUnique T.eq) }
-        ensures nonempty { IfOk result (λ s. 0 < index_set_len s) }
     {
         NEIndexSet::with_hasher(alloc, BuildHasherDefault::new(), value)
     }
@@ -178,8 +174,6 @@ impl<T: Eq + Hash> NEIndexSet<T> {
         ensures keys { IfOk result (λ s. s.keys ≡ value ∷ []) }
         ensures room { IfOk result (λ s. non_zero_usize_get capacity
             ≤ index_set_len s + spare s) }
-        ensures unique { IfOk result (IsUnique T.eq) }
-        ensures nonempty { IfOk result (λ s. 0 < index_set_len s) }
     {
         NEIndexSet::with_capacity_and_hasher(alloc, capacity, BuildHasherDefault::new(), value)
     }
@@ -198,8 +192,7 @@ impl<T: Eq + Hash, S: BuildHasher> NEIndexSet<T, S> {
     pub fn try_from_set(set: IndexSet<T, S>) -> Option<Self>
     where
         S: Drop,
-        ensures { MatchOption result (IsEmpty set) (λ s. (s ≡ set) × IsUnique T.eq s
-            × (0 < index_set_len s)) }
+        ensures { MatchOption result (IsEmpty set) (λ s. s ≡ set) }
     {
         if set.is_empty() {
             set.destroy_empty();
@@ -278,8 +271,7 @@ impl<T: Eq + Hash, S: BuildHasher> NEIndexSet<T, S> {
         ensures refused { OnErr result (contains T.eq self.old value ≡ false) }
         ensures unchanged { OnErr result (IsUnchanged self.old self.new) }
         ensures hasher { hasher_of self.new ≡ hasher_of self.old }
-        ensures unique { IsUnique T.eq self.new }
-        ensures nonempty { 0 < index_set_len self.new }
+        ensures valid { IsValid T.eq self.new }
     {
         Ok(self.inner.insert(value)?)
     }
@@ -364,8 +356,7 @@ impl<T: Eq + Hash, S: BuildHasher> NEIndexSet<T, S> {
         ensures refused { OnErr result (contains T.eq self.old value ≡ false) }
         ensures unchanged { OnErr result (IsUnchanged self.old self.new) }
         ensures hasher { hasher_of self.new ≡ hasher_of self.old }
-        ensures unique { IsUnique T.eq self.new }
-        ensures nonempty { 0 < index_set_len self.new }
+        ensures valid { IsValid T.eq self.new }
     {
         Ok(self.inner.replace(value)?)
     }
@@ -384,8 +375,7 @@ impl<T: Eq + Hash, S: BuildHasher> NEIndexSet<T, S> {
         ensures room { OnOk result (additional ≤ spare self.new) }
         ensures unchanged { IsUnchanged self.old self.new }
         ensures hasher { hasher_of self.new ≡ hasher_of self.old }
-        ensures unique { IsUnique T.eq self.new }
-        ensures nonempty { 0 < index_set_len self.new }
+        ensures valid { IsValid T.eq self.new }
     {
         self.inner.reserve(additional)
     }
@@ -396,12 +386,9 @@ impl<T: Eq + Hash, S: BuildHasher> NEIndexSet<T, S> {
     pub fn shrink_to_fit(&mut self) -> Result<(), AllocError>
         ensures unchanged { IsUnchanged self.old self.new }
         ensures hasher { hasher_of self.new ≡ hasher_of self.old }
-        ensures unique { IsUnique T.eq self.new }
-        ensures nonempty { 0 < index_set_len self.new }
+        ensures valid { IsValid T.eq self.new }
         ensures succeeds { IsOk result }
     {
-        // The contract of `len` says that no two items are equal.
-        let _len = self.inner.len();
         self.inner.shrink_to_fit();
         Ok(())
     }
@@ -418,7 +405,6 @@ impl<T: Eq + Hash, S: BuildHasher> NEIndexSet<T, S> {
         ensures members { IsUnion T.eq self.now other.now result }
         ensures lists { ListsUnion result (union T.eq self.now other.now) }
         ensures unique { IsDistinct T.eq result }
-        ensures nonempty { 0 < length result }
     {
         NonEmptyIter::new(self.inner.union(&other.inner))
     }
@@ -451,8 +437,6 @@ impl<T: Eq + Hash, S: BuildHasher> NEIndexSet<T, S> {
         ensures hasher { IfOk result (λ s. hasher_of s ≡ hasher) }
         ensures room { IfOk result (λ s. non_zero_usize_get capacity
             ≤ index_set_len s + spare s) }
-        ensures unique { IfOk result (IsUnique T.eq) }
-        ensures nonempty { IfOk result (λ s. 0 < index_set_len s) }
     {
         let mut inner = IndexSet::with_capacity_and_hasher(alloc, capacity.get(), hasher)?;
         inner.insert(value)?;
@@ -473,8 +457,6 @@ impl<T: Eq + Hash, S: BuildHasher> NEIndexSet<T, S> {
         S: Drop,
         ensures keys { IfOk result (λ s. s.keys ≡ value ∷ []) }
         ensures hasher { IfOk result (λ s. hasher_of s ≡ hasher) }
-        ensures unique { IfOk result (IsUnique T.eq) }
-        ensures nonempty { IfOk result (λ s. 0 < index_set_len s) }
     {
         let mut inner = IndexSet::with_hasher(alloc, hasher);
         inner.insert(value)?;
@@ -504,12 +486,8 @@ impl<T: Eq + Hash, S: BuildHasher> NEIndexSet<T, S> {
             (MeetsList I.into_iter_gives I.IntoIter.next_gives itself) iter self.old.keys
             (λ all. IsKeyListSetOf T.eq all self.new.keys)) }
         ensures hasher { hasher_of self.new ≡ hasher_of self.old }
-        ensures unique { IsUnique T.eq self.new }
-        ensures nonempty { 0 < index_set_len self.new }
+        ensures valid { IsValid T.eq self.new }
     {
-        // The contract of `len` says that no two items are equal, even if there are no items to
-        // insert.
-        let _len = self.inner.len();
         self.inner.extend(iter)
     }
 
@@ -530,8 +508,6 @@ impl<T: Eq + Hash, S: BuildHasher> NEIndexSet<T, S> {
         S: Clone,
         ensures clones { IfOk result (λ s. IsClone T.is_clone self.now s
             × KeepsItems T.is_clone self.now.keys s.keys) }
-        ensures unique { IfOk result (IsUnique T.eq) }
-        ensures nonempty { IfOk result (λ s. 0 < index_set_len s) }
     {
         let inner = self.inner.clone()?;
         // The contract of `len` says that no two items are equal.

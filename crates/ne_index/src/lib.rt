@@ -6,8 +6,8 @@
 //!
 //! In contracts, an [`NEIndexMap`] is the record of the inner map, whose `entries` are in the map's
 //! order, and an [`NEIndexSet`] is the record of the inner set, with its `keys`, so std's
-//! definitions for hashed maps and sets apply. The invariant of both types is that there is at
-//! least one item.
+//! definitions for hashed maps and sets apply. The invariant of both types, `IsValid`, is that
+//! there is at least one item, and that no two keys or items are equal.
 #![tactic(auto)]
 
 pub mod index_map;

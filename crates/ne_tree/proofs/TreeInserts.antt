@@ -1,12 +1,12 @@
 -- Pairs inserted into a tree map, and items inserted into a tree set, one after the other.
 use Rattle.std.specs.BTreeSet as set
-use Rattle.std.proofs.Common.{◌≡◌, ◌<◌, Bool, List, [], ◌∷◌, ◌++◌, Some, true, sym, subst, length}
+use Rattle.std.proofs.Common.{◌≡◌, Bool, List, [], ◌∷◌, ◌++◌, Some, true, sym, subst}
 use Rattle.std.proofs.Common.{◌∙◌}
 use Rattle.std.specs.Prelude.{Result, Ok, Err, IfOk}
 use Rattle.std.specs.Cmp.{IsTotalOrder, eq_by_cmp_equiv}
 use Rattle.std.specs.Ordering.{eq_by_cmp}
 use Rattle.std.specs.declared.cmp.Ordering.{Ordering}
-use Rattle.std.specs.BTreeMap.{BTreeMap, InsertsAll, IsOrdered, Updates, btree_map_len, get}
+use Rattle.std.specs.BTreeMap.{BTreeMap, InsertsAll, IsOrdered, Updates, get}
 use Rattle.std.specs.Map.{lookup}
 use Rattle.std.specs.Set.{is_member}
 use Rattle.std.proofs.lemmas.Map.Keys.{IsDistinct-from_sorted}
@@ -15,6 +15,8 @@ use Rattle.ne_iter.specs.Collected.{IsMapOf, IsSetOf}
 use Rattle.ne_iter.specs.CollectedLaws.{map_of-inserts, map_of-more, map_of-one, nonempty-inserts}
 use Rattle.ne_iter.specs.CollectedLaws.{set_of-inserts, set_of-more, set_of-one}
 use Rattle.ne_iter.specs.CollectedLaws.{nonempty_set-inserts}
+use Rattle.ne_tree.specs.ValidTreeMap.{IsValid}
+use Rattle.ne_tree.specs.ValidTreeSet.{IsValid as AreValid}
 use mathlib.Core.Path.{fun_ext}
 
 module _ {K V : Type 0} {eq : K → K → Bool}
@@ -28,11 +30,13 @@ module _ {K V : Type 0} {eq : K → K → Bool}
       (map_of-inserts (eq_by_cmp_equiv total) m.entries n.entries xs x.0
       (IsDistinct-from_sorted cmp _ o) (IsDistinct-from_sorted cmp _ x.1))
 
-pub nonempty-inserts_all : {K V : Type 0}
+pub valid-inserts_all : {K V : Type 0}
     {cmp : K → K → Ordering} (total : IsTotalOrder cmp) (m n : BTreeMap K V) (xs : List (K × V))
-    → InsertsAll cmp m xs n → 0 < btree_map_len m → 0 < btree_map_len n
-nonempty-inserts_all total m n xs x some =
-    nonempty-inserts (eq_by_cmp_equiv total) m.entries n.entries xs x.0 some
+    → InsertsAll cmp m xs n → IsValid cmp m → IsValid cmp n
+valid-inserts_all total m n xs x v = (
+  nonempty-inserts (eq_by_cmp_equiv total) m.entries n.entries xs x.0 v.0,
+  x.1,
+)
 
 module _ {K : Type 0} {eq : K → K → Bool}
     {cmp : K → K → Ordering} (total : IsTotalOrder cmp)
@@ -58,16 +62,14 @@ module _ {K : Type 0} {eq : K → K → Bool}
       (a.1 q ∙ sym (b.1 q))
 
 -- A map of one pair.
-module _ {K V E : Type 0} (eq : K → K → Bool)
-    (cmp : K → K → Ordering) (r : Result (BTreeMap K V) E) (p : K × V) where
-  pub one_made : IfOk r (λ m. m.entries ≡ p ∷ []) → IfOk r (IsOrdered cmp)
-      → IfOk r (λ m. IsMapOf eq (p ∷ []) m.entries × IsOrdered cmp m × (0 < length m.entries))
-  one_made is ordered = by r is ordered
+module _ {K V E : Type 0} (eq : K → K → Bool) (r : Result (BTreeMap K V) E) (p : K × V) where
+  pub one_made : IfOk r (λ m. m.entries ≡ p ∷ []) → IfOk r (λ m. IsMapOf eq (p ∷ []) m.entries)
+  one_made is = by r is
     where
-      by : (r : Result (BTreeMap K V) E) → IfOk r (λ m. m.entries ≡ p ∷ []) → IfOk r (IsOrdered cmp)
-          → IfOk r (λ m. IsMapOf eq (p ∷ []) m.entries × IsOrdered cmp m × (0 < length m.entries))
-      by (Ok m) is o = let made = map_of-one eq p m.entries is in (made.0, o, made.1)
-      by (Err e) is o = tt
+      by : (r : Result (BTreeMap K V) E) → IfOk r (λ m. m.entries ≡ p ∷ [])
+          → IfOk r (λ m. IsMapOf eq (p ∷ []) m.entries)
+      by (Ok m) is = (map_of-one eq p m.entries is).0
+      by (Err e) is = tt
 
 module _ {K : Type 0} {eq : K → K → Bool}
     {cmp : K → K → Ordering} (total : IsTotalOrder cmp)
@@ -98,20 +100,20 @@ module _ {K : Type 0} {eq : K → K → Bool}
       (set_of-inserts (eq_by_cmp_equiv total) s.keys xs t.keys h.0
       (IsDistinct-from_sorted cmp _ h.1))
 
-pub nonempty_set-inserts_all : {K : Type 0}
+pub valid_set-inserts_all : {K : Type 0}
     {cmp : K → K → Ordering} (total : IsTotalOrder cmp) (s t : BTreeSet K) (xs : List K)
-    → set.InsertsAll cmp s xs t → 0 < length s.keys → 0 < length t.keys
-nonempty_set-inserts_all total s t xs h some =
-    nonempty_set-inserts (eq_by_cmp_equiv total) s.keys xs t.keys h.0 some
+    → set.InsertsAll cmp s xs t → AreValid cmp s → AreValid cmp t
+valid_set-inserts_all total s t xs h v = (
+  nonempty_set-inserts (eq_by_cmp_equiv total) s.keys xs t.keys h.0 v.0,
+  h.1,
+)
 
 -- A set of one item.
-module _ {K E : Type 0} (eq : K → K → Bool)
-    (cmp : K → K → Ordering) (r : Result (BTreeSet K) E) (x : K) where
-  pub one_item_made : IfOk r (λ s. s.keys ≡ x ∷ []) → IfOk r (AreOrdered cmp)
-      → IfOk r (λ s. IsSetOf eq (x ∷ []) s.keys × AreOrdered cmp s × (0 < length s.keys))
-  one_item_made is ordered = by r is ordered
+module _ {K E : Type 0} (eq : K → K → Bool) (r : Result (BTreeSet K) E) (x : K) where
+  pub one_item_made : IfOk r (λ s. s.keys ≡ x ∷ []) → IfOk r (λ s. IsSetOf eq (x ∷ []) s.keys)
+  one_item_made is = by r is
     where
-      by : (r : Result (BTreeSet K) E) → IfOk r (λ s. s.keys ≡ x ∷ []) → IfOk r (AreOrdered cmp)
-          → IfOk r (λ s. IsSetOf eq (x ∷ []) s.keys × AreOrdered cmp s × (0 < length s.keys))
-      by (Ok s) is o = let made = set_of-one eq x s.keys is in (made.0, o, made.1)
-      by (Err e) is o = tt
+      by : (r : Result (BTreeSet K) E) → IfOk r (λ s. s.keys ≡ x ∷ [])
+          → IfOk r (λ s. IsSetOf eq (x ∷ []) s.keys)
+      by (Ok s) is = (set_of-one eq x s.keys is).0
+      by (Err e) is = tt

@@ -1,3 +1,5 @@
 pub mod TreeLends
 pub mod TreeLendLaws
 pub mod InOrder
+pub mod ValidTreeMap
+pub mod ValidTreeSet

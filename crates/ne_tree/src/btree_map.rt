@@ -5,7 +5,7 @@
 ghost use Rattle.std.specs.Prelude.{◌≡◌, ◌+◌, ◌<◌, ◌^◌, ◌++◌, [], ◌∷◌, None, Some, is_some};
 ghost use Rattle.std.specs.Prelude.{if◌then◌else◌, IfOk, IfSome, IsSome, MatchOption, OnErr, OnOk};
 ghost use Rattle.std.specs.BTreeMap.{btree_map_len, get, get_key, insert_entry, keys, values};
-ghost use Rattle.std.specs.BTreeMap.{IsClone, IsEmpty, IsOrdered, IsUnchanged, Updates};
+ghost use Rattle.std.specs.BTreeMap.{IsClone, IsEmpty, IsUnchanged, Updates};
 ghost use Rattle.std.specs.BTreeMap.IterMut.{iter_mut_rest, IterMutCanStep};
 ghost use Rattle.std.specs.BTreeMap.Lent.{KeepsKeys};
 ghost use Rattle.std.specs.Borrow.{sem};
@@ -25,6 +25,7 @@ ghost use Rattle.ne_iter.specs.SourceLists.{MeetsList};
 ghost use Rattle.ne_tree.specs.TreeLends.{std_iterator, LendsValue, LendsValues};
 ghost use Rattle.ne_tree.specs.TreeLends.{LendsValuesInside};
 ghost use Rattle.ne_iter.specs.KeyClones.{KeepsEntries};
+ghost use Rattle.ne_tree.specs.ValidTreeMap.{IsValid};
 
 mod additions;
 mod iter;
@@ -40,8 +41,8 @@ use std::num::NonZeroUsize;
 /// A tree map that holds at least one key. It wraps std's [`BTreeMap`].
 ///
 /// In contracts it is std's record of the map: `get K.cmp m k` is the value of the key `k`,
-/// `m.entries` is the list of the pairs in ascending order of the keys, and `IsOrdered K.cmp m`
-/// says that they are in that order.
+/// `m.entries` is the list of the pairs in ascending order of the keys, and `IsValid K.cmp m` says
+/// that there is a key and that the keys are in that order.
 ///
 /// Equality, order and clones of keys and values are assumed to be lawful only where a clause says
 /// so.
@@ -57,9 +58,9 @@ pub struct NEBTreeMap<K: Ord, V> {
 }
 
 impl<K: Ord, V> Model for NEBTreeMap<K, V> {
-    ghost use Rattle.std.specs.Prelude.{◌<◌};
-    ghost use Rattle.std.specs.BTreeMap.{BTreeMap as Entries, btree_map_len};
+    ghost use Rattle.std.specs.BTreeMap.{BTreeMap as Entries};
     ghost use Rattle.std_collections.specs.Layout.BTreeMap.{btree_map_code};
+    ghost use Rattle.ne_tree.specs.ValidTreeMap.{IsValid};
 
     ghost Value = { Entries K V };
 
@@ -67,7 +68,7 @@ impl<K: Ord, V> Model for NEBTreeMap<K, V> {
 
     ghost view = { λ m. m.inner };
 
-    ghost invariant = { λ m. 0 < btree_map_len m.inner };
+    ghost invariant = { λ m. IsValid K.cmp m.inner };
 }
 
 impl<K: Ord, V> NEBTreeMap<K, V> {
@@ -84,8 +85,6 @@ impl<K: Ord, V> NEBTreeMap<K, V> {
         V: Drop,
         ensures entries { IfOk result (λ m. m.entries ≡ (k, v) ∷ []) }
         ensures value { IfOk result (λ m. get K.cmp m k ≡ Some v) }
-        ensures ordered { IfOk result (IsOrdered K.cmp) }
-        ensures nonempty { IfOk result (λ m. 0 < btree_map_len m) }
     {
         let mut inner = BTreeMap::new(alloc);
         inner.insert(k, v)?;
@@ -104,8 +103,7 @@ impl<K: Ord, V> NEBTreeMap<K, V> {
     /// let none = NEBTreeMap::try_from_map(empty); // None
     /// ```
     pub fn try_from_map(map: BTreeMap<K, V>) -> Option<Self>
-        ensures { MatchOption result (IsEmpty map) (λ m. (m ≡ map) × IsOrdered K.cmp m
-            × (0 < btree_map_len m)) }
+        ensures { MatchOption result (IsEmpty map) (λ m. m ≡ map) }
     {
         if map.is_empty() {
             map.destroy_empty();
@@ -128,8 +126,7 @@ impl<K: Ord, V> NEBTreeMap<K, V> {
         ensures runs { ShowsInOrder (deref_pair {K = K} {X = V}) }
         ensures values_run { ShowsValuesInOrder (deref_pair {K = K} {X = V}) }
         ensures fits { btree_map_len self.now < 2 ^ 63 }
-        ensures ordered { IsOrdered K.cmp self.now }
-        ensures nonempty { 0 < btree_map_len self.now }
+        ensures valid { IsValid K.cmp self.now }
     {
         self.inner.iter()
     }
@@ -148,10 +145,9 @@ impl<K: Ord, V> NEBTreeMap<K, V> {
         ensures keeps { KeepsKeys self.old 0 }
         ensures ready { IterMutCanStep result }
         ensures rest { iter_mut_rest result ≡ self.old.entries }
-        ensures ordered { IsOrdered K.cmp self.old }
         ensures fits { btree_map_len self.old < 2 ^ 63 }
         ensures values_run { LendsValuesInOrder (iter_mut_rest {K = K} {X = V}) }
-        ensures nonempty { 0 < btree_map_len self.old }
+        ensures valid { IsValid K.cmp self.old }
     {
         inner_iter_mut(&mut self.inner)
     }
@@ -165,8 +161,7 @@ impl<K: Ord, V> NEBTreeMap<K, V> {
     pub fn nonempty_iter(&self) -> Iter<'_, K, V>
         ensures entries { result ≡ self.now.entries }
         ensures lists { ListsEntries (deref_pair {K = K} {X = V}) result self.now.entries }
-        ensures ordered { IsOrdered K.cmp self.now }
-        ensures nonempty { 0 < btree_map_len self.now }
+        ensures valid { IsValid K.cmp self.now }
     {
         NonEmptyIter::new(self.inner.iter())
     }
@@ -186,10 +181,9 @@ impl<K: Ord, V> NEBTreeMap<K, V> {
         ensures keeps { KeepsKeys self.old 0 }
         ensures ready { IterMutCanStep (std_iterator result) }
         ensures rest { iter_mut_rest (std_iterator result) ≡ self.old.entries }
-        ensures ordered { IsOrdered K.cmp self.old }
         ensures fits { btree_map_len self.old < 2 ^ 63 }
         ensures values_run { LendsValuesInOrder (iter_mut_rest {K = K} {X = V}) }
-        ensures nonempty { 0 < btree_map_len self.old }
+        ensures valid { IsValid K.cmp self.old }
     {
         IterMut {
             inner: self.iter_mut(),
@@ -207,8 +201,7 @@ impl<K: Ord, V> NEBTreeMap<K, V> {
         ensures lists { ListsEntries (deref {X = K}) result (keys self.now) }
         ensures found { (q : K)
             → is_some (get K.cmp self.now q) ≡ is_member (eq_by_cmp K.cmp) result q }
-        ensures ordered { IsOrdered K.cmp self.now }
-        ensures nonempty { 0 < btree_map_len self.now }
+        ensures valid { IsValid K.cmp self.now }
     {
         NonEmptyIter::new(self.inner.keys())
     }
@@ -220,8 +213,7 @@ impl<K: Ord, V> NEBTreeMap<K, V> {
     /// ```
     pub fn len(&self) -> NonZeroUsize
         ensures len { non_zero_usize_get result ≡ btree_map_len self.now }
-        ensures ordered { IsOrdered K.cmp self.now }
-        ensures nonempty { 0 < btree_map_len self.now }
+        ensures valid { IsValid K.cmp self.now }
     {
         match NonZeroUsize::new(self.inner.len()) {
             Some(len) => len,
@@ -238,8 +230,7 @@ impl<K: Ord, V> NEBTreeMap<K, V> {
     pub fn values(&self) -> Values<'_, K, V>
         ensures values { result ≡ values self.now }
         ensures lists { ListsEntries (deref {X = V}) result (values self.now) }
-        ensures ordered { IsOrdered K.cmp self.now }
-        ensures nonempty { 0 < btree_map_len self.now }
+        ensures valid { IsValid K.cmp self.now }
     {
         NonEmptyIter::new(self.inner.values())
     }
@@ -295,8 +286,7 @@ impl<K: Ord, V> NEBTreeMap<K, V> {
     pub fn get_mut(&mut self, k: &K) -> Option<&mut V>
         ensures* writes_back { sem 𝓛 (LendsValue K.row V.row K.Ord self.entry k.now result) }
         ensures value { option_copied_mut result ≡ get K.cmp self.old k.now }
-        ensures ordered { IsOrdered K.cmp self.old }
-        ensures nonempty { 0 < btree_map_len self.old }
+        ensures valid { IsValid K.cmp self.old }
     {
         self.inner.get_mut(k)
     }
@@ -326,8 +316,7 @@ impl<K: Ord, V> NEBTreeMap<K, V> {
             ≡ btree_map_len self.old + (if is_some old then 0 else 1)) }
         ensures refused { OnErr result (get K.cmp self.old k ≡ None) }
         ensures unchanged { OnErr result (IsUnchanged self.old self.new) }
-        ensures ordered { IsOrdered K.cmp self.new }
-        ensures nonempty { 0 < btree_map_len self.new }
+        ensures valid { IsValid K.cmp self.new }
     {
         Ok(self.inner.insert(k, v)?)
     }
@@ -354,11 +343,8 @@ impl<K: Ord, V> NEBTreeMap<K, V> {
         ensures lists { OnOk result (ExtendsByList (⟦<I as Source>⟧.lists itself)
             (MeetsList I.into_iter_gives I.IntoIter.next_gives itself) iter self.old.entries
             (λ all. IsMapOf K.eq all self.new.entries)) }
-        ensures ordered { IsOrdered K.cmp self.new }
-        ensures nonempty { 0 < btree_map_len self.new }
+        ensures valid { IsValid K.cmp self.new }
     {
-        // The contract of `len` says that the keys ascend, even if there are no pairs to insert.
-        let _len = self.inner.len();
         self.inner.extend(iter)
     }
 
@@ -379,8 +365,6 @@ impl<K: Ord, V> NEBTreeMap<K, V> {
         V: Clone,
         ensures clones { IfOk result (λ m. IsClone K.is_clone V.is_clone self.now m
             × KeepsEntries K.is_clone V.is_clone self.now.entries m.entries) }
-        ensures ordered { IfOk result (IsOrdered K.cmp) }
-        ensures nonempty { IfOk result (λ m. 0 < btree_map_len m) }
     {
         let inner = self.inner.clone()?;
         // The contract of `len` says that the keys ascend.
@@ -395,7 +379,6 @@ fn inner_iter_mut<'a, K: Ord, V>(map: &'a mut BTreeMap<K, V>) -> btree_map::Iter
     ensures keeps { KeepsKeys map.old 0 }
     ensures ready { IterMutCanStep result }
     ensures rest { iter_mut_rest result ≡ map.old.entries }
-    ensures ordered { IsOrdered K.cmp map.old }
     ensures fits { btree_map_len map.old < 2 ^ 63 }
     ensures values_run { LendsValuesInOrder (iter_mut_rest {K = K} {X = V}) }
 {

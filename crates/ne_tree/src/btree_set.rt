@@ -8,7 +8,7 @@ ghost use Rattle.std.specs.Prelude.{OnErr, OnOk};
 ghost use Rattle.std.specs.Bool.{OnFalse};
 ghost use Rattle.std.specs.BTreeSet.{btree_set_len, contains, difference, get, insert_key};
 ghost use Rattle.std.specs.BTreeSet.{intersection, replace_key, union, IsDifference, IsDisjoint};
-ghost use Rattle.std.specs.BTreeSet.{IsEmpty, IsIntersection, IsOrdered, IsSubset, IsClone};
+ghost use Rattle.std.specs.BTreeSet.{IsEmpty, IsIntersection, IsSubset, IsClone};
 ghost use Rattle.std.specs.BTreeSet.{IsUnchanged, IsUnion, Updates};
 ghost use Rattle.std.specs.Int.NonZero.{non_zero_usize_get};
 ghost use Rattle.std.specs.Iterator.{ExtendsWithItems, IsFiniteIterable};
@@ -21,6 +21,7 @@ ghost use Rattle.ne_iter.specs.ExtendLists.{ExtendsByList};
 ghost use Rattle.ne_iter.specs.KeyIterators.{ListsEntries, ListsUnion};
 ghost use Rattle.ne_iter.specs.SourceLists.{MeetsList};
 ghost use Rattle.ne_iter.specs.KeyClones.{KeepsItems};
+ghost use Rattle.ne_tree.specs.ValidTreeSet.{IsValid};
 
 mod additions;
 mod iter;
@@ -36,8 +37,8 @@ use std::num::NonZeroUsize;
 /// A tree set that holds at least one item. It wraps std's [`BTreeSet`].
 ///
 /// In contracts it is std's record of the set: `contains T.cmp s x` says whether an item equal to
-/// `x` is in the set, `s.keys` is the list of the items in ascending order, and `IsOrdered T.cmp s`
-/// says that they are in that order.
+/// `x` is in the set, `s.keys` is the list of the items in ascending order, and `IsValid T.cmp s`
+/// says that there is an item and that they are in that order.
 ///
 /// ```
 /// let set = nebts![alloc; 2, 1, 2]?;
@@ -50,9 +51,9 @@ pub struct NEBTreeSet<T: Ord> {
 }
 
 impl<T: Ord> Model for NEBTreeSet<T> {
-    ghost use Rattle.std.specs.Prelude.{◌<◌};
-    ghost use Rattle.std.specs.BTreeSet.{BTreeSet as Keys, btree_set_len};
+    ghost use Rattle.std.specs.BTreeSet.{BTreeSet as Keys};
     ghost use Rattle.std_collections.specs.Layout.BTreeSet.{btree_set_code};
+    ghost use Rattle.ne_tree.specs.ValidTreeSet.{IsValid};
 
     ghost Value = { Keys T };
 
@@ -60,7 +61,7 @@ impl<T: Ord> Model for NEBTreeSet<T> {
 
     ghost view = { λ s. s.inner };
 
-    ghost invariant = { λ s. 0 < btree_set_len s.inner };
+    ghost invariant = { λ s. IsValid T.cmp s.inner };
 }
 
 impl<T: Ord> NEBTreeSet<T> {
@@ -76,8 +77,6 @@ impl<T: Ord> NEBTreeSet<T> {
         T: Drop,
         ensures keys { IfOk result (λ s. s.keys ≡ value ∷ []) }
         ensures found { IfOk result (λ s. contains T.cmp s value ≡ true) }
-        ensures ordered { IfOk result (IsOrdered T.cmp) }
-        ensures nonempty { IfOk result (λ s. 0 < btree_set_len s) }
     {
         let mut inner = BTreeSet::new(alloc);
         inner.insert(value)?;
@@ -94,8 +93,7 @@ impl<T: Ord> NEBTreeSet<T> {
         ensures rest { result ≡ self.now.keys }
         ensures runs { ShowsInOrder (deref {X = T}) }
         ensures fits { btree_set_len self.now < 2 ^ 63 }
-        ensures ordered { IsOrdered T.cmp self.now }
-        ensures nonempty { 0 < btree_set_len self.now }
+        ensures valid { IsValid T.cmp self.now }
     {
         self.inner.iter()
     }
@@ -109,8 +107,7 @@ impl<T: Ord> NEBTreeSet<T> {
     pub fn nonempty_iter(&self) -> Iter<'_, T>
         ensures keys { result ≡ self.now.keys }
         ensures lists { ListsEntries (deref {X = T}) result self.now.keys }
-        ensures ordered { IsOrdered T.cmp self.now }
-        ensures nonempty { 0 < btree_set_len self.now }
+        ensures valid { IsValid T.cmp self.now }
     {
         NonEmptyIter::new(self.inner.iter())
     }
@@ -122,8 +119,7 @@ impl<T: Ord> NEBTreeSet<T> {
     /// ```
     pub fn len(&self) -> NonZeroUsize
         ensures len { non_zero_usize_get result ≡ btree_set_len self.now }
-        ensures ordered { IsOrdered T.cmp self.now }
-        ensures nonempty { 0 < btree_set_len self.now }
+        ensures valid { IsValid T.cmp self.now }
     {
         match NonZeroUsize::new(self.inner.len()) {
             Some(len) => len,
@@ -143,8 +139,7 @@ impl<T: Ord> NEBTreeSet<T> {
     /// let none = NEBTreeSet::try_from_set(empty); // None
     /// ```
     pub fn try_from_set(set: BTreeSet<T>) -> Option<Self>
-        ensures { MatchOption result (IsEmpty set) (λ s. (s ≡ set) × IsOrdered T.cmp s
-            × (0 < btree_set_len s)) }
+        ensures { MatchOption result (IsEmpty set) (λ s. s ≡ set) }
     {
         if set.is_empty() {
             set.destroy_empty();
@@ -220,8 +215,7 @@ impl<T: Ord> NEBTreeSet<T> {
             ≡ btree_set_len self.old + (if added then 1 else 0)) }
         ensures refused { OnErr result (contains T.cmp self.old value ≡ false) }
         ensures unchanged { OnErr result (IsUnchanged self.old self.new) }
-        ensures ordered { IsOrdered T.cmp self.new }
-        ensures nonempty { 0 < btree_set_len self.new }
+        ensures valid { IsValid T.cmp self.new }
     {
         Ok(self.inner.insert(value)?)
     }
@@ -299,8 +293,7 @@ impl<T: Ord> NEBTreeSet<T> {
             ≡ btree_set_len self.old + (if is_some old then 0 else 1)) }
         ensures refused { OnErr result (contains T.cmp self.old value ≡ false) }
         ensures unchanged { OnErr result (IsUnchanged self.old self.new) }
-        ensures ordered { IsOrdered T.cmp self.new }
-        ensures nonempty { 0 < btree_set_len self.new }
+        ensures valid { IsValid T.cmp self.new }
     {
         Ok(self.inner.replace(value)?)
     }
@@ -317,7 +310,6 @@ impl<T: Ord> NEBTreeSet<T> {
         ensures members { IsUnion T.cmp self.now other.now result }
         ensures lists { ListsUnion result (union T.cmp self.now other.now) }
         ensures ordered { IsStrictlySortedBy T.cmp result }
-        ensures nonempty { 0 < length result }
     {
         NonEmptyIter::new(self.inner.union(&other.inner))
     }
@@ -342,11 +334,8 @@ impl<T: Ord> NEBTreeSet<T> {
         ensures lists { OnOk result (ExtendsByList (⟦<I as Source>⟧.lists itself)
             (MeetsList I.into_iter_gives I.IntoIter.next_gives itself) iter self.old.keys
             (λ all. IsSetOf T.eq all self.new.keys)) }
-        ensures ordered { IsOrdered T.cmp self.new }
-        ensures nonempty { 0 < btree_set_len self.new }
+        ensures valid { IsValid T.cmp self.new }
     {
-        // The contract of `len` says that the items ascend, even if there are no items to insert.
-        let _len = self.inner.len();
         self.inner.extend(iter)
     }
 
@@ -365,8 +354,6 @@ impl<T: Ord> NEBTreeSet<T> {
         T: Clone,
         ensures clones { IfOk result (λ s. IsClone T.is_clone self.now s
             × KeepsItems T.is_clone self.now.keys s.keys) }
-        ensures ordered { IfOk result (IsOrdered T.cmp) }
-        ensures nonempty { IfOk result (λ s. 0 < btree_set_len s) }
     {
         let inner = self.inner.clone()?;
         // The contract of `len` says that the items ascend.

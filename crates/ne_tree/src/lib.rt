@@ -5,8 +5,8 @@
 //! ascending order of their keys.
 //!
 //! In contracts, an [`NEBTreeMap`] is std's record of a map and an [`NEBTreeSet`] is std's record
-//! of a set, so std's definitions for them apply. The invariant of both types is that there is at
-//! least one item.
+//! of a set, so std's definitions for them apply. The invariant of both types, `IsValid`, is
+//! that there is at least one item, and that keys or items ascend.
 #![tactic(auto)]
 
 pub mod btree_map;

@@ -40,3 +40,9 @@ pub use Rattle.ne_products.specs.Pairs
 pub use Rattle.ne_products.specs.Restarts
 pub use Rattle.ne_products.specs.Sides
 pub use Rattle.ne_products.specs.Unique
+pub use Rattle.ne_tree.specs.ValidTreeMap
+pub use Rattle.ne_tree.specs.ValidTreeSet
+pub use Rattle.ne_hash.specs.ValidHashMap
+pub use Rattle.ne_hash.specs.ValidHashSet
+pub use Rattle.ne_index.specs.ValidIndexMap
+pub use Rattle.ne_index.specs.ValidIndexSet

@@ -85,13 +85,14 @@ impl<'a, K: Eq + Hash, V, S: BuildHasher> IntoIterator for &'a mut NEMap<K, V, S
     ghost use Rattle.std.specs.Borrow.{sem};
     ghost use Rattle.std.specs.Map.Iter.{LendsValuesInOrder};
     ghost use Rattle.ne_hash.specs.HashLends.{LendsValues};
+    ghost use Rattle.ne_hash.specs.ValidHashMap.{IsValid};
 
     type Item = (&'a K, &'a mut V);
 
     type IntoIter = hash_map::IterMut<'a, K, V>;
 
     ghost into_iter_gives = { λ m it. (iter_mut_rest it ≡ m.now.entries) × IterMutCanStep it
-        × (hash_map_len m.now < 2 ^ 63) × IsUnique K.eq m.now × (0 < hash_map_len m.now) };
+        × (hash_map_len m.now < 2 ^ 63) × IsValid K.eq m.now };
 
     fn into_iter(self) -> hash_map::IterMut<'a, K, V>
         ensures* writes_back { sem 𝓛 (LendsValues K.row V.row S.row S.Hasher.row K.Hash
@@ -99,7 +100,7 @@ impl<'a, K: Eq + Hash, V, S: BuildHasher> IntoIterator for &'a mut NEMap<K, V, S
         ensures keeps { KeepsKeys self.old }
         ensures into_iter_gives { (iter_mut_rest result ≡ self.old.entries)
             × IterMutCanStep result × (hash_map_len self.old < 2 ^ 63)
-            × IsUnique K.eq self.old × (0 < hash_map_len self.old) }
+            × IsValid K.eq self.old }
         ensures values_run { LendsValuesInOrder (iter_mut_rest {K = K} {X = V}) }
     {
         self.iter_mut()

@@ -1,9 +1,10 @@
 //! The traits of an [`NEMap`]: conversions, clones, equality as a map, collecting, printing.
-ghost use Rattle.std.specs.Prelude.{◌≡◌, ◌<◌, ◌↔◌, ◌++◌, IsTrue, MatchResult};
-ghost use Rattle.std.specs.HashMap.{get, hash_map_eq, hash_map_len, IsClone, IsEmpty, IsUnique};
+ghost use Rattle.std.specs.Prelude.{◌≡◌, ◌↔◌, ◌++◌, IsTrue, MatchResult};
+ghost use Rattle.std.specs.HashMap.{get, hash_map_eq, IsClone, IsEmpty};
 ghost use Rattle.ne_iter.specs.Collected.{IsMapOf};
 ghost use Rattle.ne_iter.specs.KeyClones.{KeepsEntries};
 ghost use Rattle.ne_iter.specs.SameMap.{IsSameMap};
+ghost use Rattle.ne_hash.specs.ValidHashMap.{IsValid};
 
 use super::NEMap;
 use ne_iter::{Error, FromNonEmptyIterator, IntoNonEmptyIterator, Singleton};
@@ -18,11 +19,8 @@ use std::hash::{BuildHasher, Hash};
 impl<K: Eq + Hash, V, S: BuildHasher> AsRef<HashMap<K, V, S>> for NEMap<K, V, S> {
     fn as_ref(&self) -> &HashMap<K, V, S>
         ensures same { result.now ≡ self.now }
-        ensures unique { IsUnique K.eq self.now }
-        ensures nonempty { 0 < hash_map_len self.now }
+        ensures valid { IsValid K.eq self.now }
     {
-        // The contract of `len` says that no two keys are equal.
-        let _len = self.inner.len();
         &self.inner
     }
 }
@@ -60,7 +58,7 @@ impl<K: Eq + Hash, V: Eq, S: BuildHasher> Eq for NEMap<K, V, S> {
 
 /// Returns the inner `HashMap` unchanged, with its hasher. Its type no longer guarantees a key.
 impl<K: Eq + Hash, V, S: BuildHasher> From<NEMap<K, V, S>> for HashMap<K, V, S> {
-    ghost from_gives = { λ m n. (n ≡ m) × (0 < hash_map_len n) };
+    ghost from_gives = { λ m n. (n ≡ m) × IsValid K.eq n };
 
     fn from(m: NEMap<K, V, S>) -> HashMap<K, V, S> {
         let NEMap { inner } = m;
@@ -99,9 +97,7 @@ impl<K: Eq + Hash + Clone, V: Clone, S: BuildHasher + Clone> Clone for NEMap<K, 
 /// Collects pairs into a map that holds each key once, with the value of its last pair.
 impl<K: Eq + Hash + Drop, V: Drop, S: BuildHasher + Default + Drop> FromNonEmptyIterator<(K, V)>
     for NEMap<K, V, S> {
-    ghost use Rattle.std.specs.Prelude.{◌<◌, length};
-
-    ghost collected = { λ pairs m. IsMapOf K.eq pairs m.entries × (0 < length m.entries) };
+    ghost collected = { λ pairs m. IsMapOf K.eq pairs m.entries };
 
     fn from_nonempty_iter<I: IntoNonEmptyIterator<Item = (K, V)>>(
         alloc: Global,
@@ -121,11 +117,9 @@ impl<K: Eq + Hash + Debug, V: Debug, S: BuildHasher> Debug for NEMap<K, V, S> {
 
 /// Starts with one pair, and adds each further pair by `insert`.
 impl<K: Eq + Hash + Drop, V: Drop> Singleton for NEMap<K, V> {
-    ghost use Rattle.std.specs.Prelude.{◌<◌, length};
-
     type Item = (K, V);
 
-    ghost collected = { λ pairs m. IsMapOf K.eq pairs m.entries × (0 < length m.entries) };
+    ghost collected = { λ pairs m. IsMapOf K.eq pairs m.entries };
 
     fn singleton(alloc: Global, item: (K, V)) -> Result<NEMap<K, V>, AllocError> {
         let (k, v) = item;
@@ -142,7 +136,7 @@ impl<K: Eq + Hash + Drop, V: Drop> Singleton for NEMap<K, V> {
 /// Calls the inherent method `extend`.
 impl<K: Eq + Hash + Drop, V: Drop, S: BuildHasher> Extend<(K, V)> for NEMap<K, V, S> {
     ghost extend_gives = { λ m pairs n. IsMapOf K.eq (m.entries ++ pairs) n.entries
-        × IsUnique K.eq n × (0 < hash_map_len n) };
+        × IsValid K.eq n };
 
     fn extend<I: IntoIterator<Item = (K, V)>>(&mut self, iter: I) -> Result<(), AllocError> {
         NEMap::extend(self, iter)

@@ -1,9 +1,10 @@
 //! The traits of an [`NESet`]: conversions, clones, equality as a set, collecting, printing.
-ghost use Rattle.std.specs.Prelude.{◌≡◌, ◌<◌, ◌↔◌, ◌++◌, IsTrue, MatchResult};
-ghost use Rattle.std.specs.HashSet.{hash_set_eq, hash_set_len, IsEmpty, IsSameSet, IsUnique};
+ghost use Rattle.std.specs.Prelude.{◌≡◌, ◌↔◌, ◌++◌, IsTrue, MatchResult};
+ghost use Rattle.std.specs.HashSet.{hash_set_eq, IsEmpty, IsSameSet};
 ghost use Rattle.std.specs.HashSet.{IsClone};
 ghost use Rattle.ne_iter.specs.Collected.{IsSetOf};
 ghost use Rattle.ne_iter.specs.KeyClones.{KeepsItems};
+ghost use Rattle.ne_hash.specs.ValidHashSet.{IsValid};
 
 use super::NESet;
 use ne_iter::{Error, FromNonEmptyIterator, IntoNonEmptyIterator, Singleton};
@@ -18,11 +19,8 @@ use std::hash::{BuildHasher, Hash};
 impl<T: Eq + Hash, S: BuildHasher> AsRef<HashSet<T, S>> for NESet<T, S> {
     fn as_ref(&self) -> &HashSet<T, S>
         ensures same { result.now ≡ self.now }
-        ensures unique { IsUnique T.eq self.now }
-        ensures nonempty { 0 < hash_set_len self.now }
+        ensures valid { IsValid T.eq self.now }
     {
-        // The contract of `len` says that no two items are equal.
-        let _len = self.inner.len();
         &self.inner
     }
 }
@@ -53,9 +51,7 @@ impl<T: Eq + Hash, S: BuildHasher> Eq for NESet<T, S> {
 
 /// Collects items into a set that holds each of them once.
 impl<T: Eq + Hash + Drop, S: BuildHasher + Default + Drop> FromNonEmptyIterator<T> for NESet<T, S> {
-    ghost use Rattle.std.specs.Prelude.{◌<◌, length};
-
-    ghost collected = { λ xs s. IsSetOf T.eq xs s.keys × (0 < length s.keys) };
+    ghost collected = { λ xs s. IsSetOf T.eq xs s.keys };
 
     fn from_nonempty_iter<I: IntoNonEmptyIterator<Item = T>>(
         alloc: Global,
@@ -68,7 +64,7 @@ impl<T: Eq + Hash + Drop, S: BuildHasher + Default + Drop> FromNonEmptyIterator<
 
 /// Returns the inner `HashSet` unchanged, with its hasher. Its type no longer guarantees an item.
 impl<T: Eq + Hash, S: BuildHasher> From<NESet<T, S>> for HashSet<T, S> {
-    ghost from_gives = { λ s t. (t ≡ s) × (0 < hash_set_len t) };
+    ghost from_gives = { λ s t. (t ≡ s) × IsValid T.eq t };
 
     fn from(s: NESet<T, S>) -> HashSet<T, S> {
         let NESet { inner } = s;
@@ -112,11 +108,9 @@ impl<T: Eq + Hash + Clone, S: BuildHasher + Clone> Clone for NESet<T, S> {
 
 /// Starts with one item, and adds each further item by `insert`.
 impl<T: Eq + Hash + Drop> Singleton for NESet<T> {
-    ghost use Rattle.std.specs.Prelude.{◌<◌, length};
-
     type Item = T;
 
-    ghost collected = { λ xs s. IsSetOf T.eq xs s.keys × (0 < length s.keys) };
+    ghost collected = { λ xs s. IsSetOf T.eq xs s.keys };
 
     fn singleton(alloc: Global, item: T) -> Result<NESet<T>, AllocError> {
         NESet::new(alloc, item)
@@ -131,7 +125,7 @@ impl<T: Eq + Hash + Drop> Singleton for NESet<T> {
 /// Calls the inherent method `extend`.
 impl<T: Eq + Hash + Drop, S: BuildHasher> Extend<T> for NESet<T, S> {
     ghost extend_gives = { λ s items t. IsSetOf T.eq (s.keys ++ items) t.keys
-        × IsUnique T.eq t × (0 < hash_set_len t) };
+        × IsValid T.eq t };
 
     fn extend<I: IntoIterator<Item = T>>(&mut self, iter: I) -> Result<(), AllocError> {
         NESet::extend(self, iter)

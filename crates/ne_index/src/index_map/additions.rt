@@ -8,10 +8,11 @@ ghost use Rattle.std.specs.Map.Calls.{CallableOnEachPair, CalledAtPair, RetainsP
 ghost use Rattle.ne_vec.specs.Taken.{TakesFoundUnlessLast, TakesUnlessLast};
 ghost use Rattle.indexmap.specs.IndexMap.{get, get_key, hasher_of, index_map_len, keys};
 ghost use Rattle.indexmap.specs.IndexMap.{shift_remove_entry, swap_remove_entry, values};
-ghost use Rattle.indexmap.specs.IndexMap.{with_value_at, IsUnchanged, IsUnique, Updates};
+ghost use Rattle.indexmap.specs.IndexMap.{with_value_at, IsUnchanged, Updates};
 ghost use Rattle.ne_iter.specs.KeptEntries.{either_way, kept_entries, ActsAsAtEntry};
 ghost use Rattle.ne_index.specs.IndexLends.{LendsInserted, LendsValueAt};
 ghost use Rattle.ne_index.specs.Puts.{put_entry};
+ghost use Rattle.ne_index.specs.ValidIndexMap.{IsValid};
 
 use super::NEIndexMap;
 use indexmap::IndexMap;
@@ -38,8 +39,7 @@ impl<K: Eq + Hash, V, S: BuildHasher> NEIndexMap<K, V, S> {
         ensures len { index_map_len self.new + (if is_some result then 1 else 0)
             ≡ index_map_len self.old }
         ensures hasher { hasher_of self.new ≡ hasher_of self.old }
-        ensures unique { IsUnique K.eq self.new }
-        ensures nonempty { 0 < index_map_len self.new }
+        ensures valid { IsValid K.eq self.new }
     {
         if self.inner.len() > 1 {
             self.inner.swap_remove(k)
@@ -67,8 +67,7 @@ impl<K: Eq + Hash, V, S: BuildHasher> NEIndexMap<K, V, S> {
         ensures len { index_map_len self.new + (if is_some result then 1 else 0)
             ≡ index_map_len self.old }
         ensures hasher { hasher_of self.new ≡ hasher_of self.old }
-        ensures unique { IsUnique K.eq self.new }
-        ensures nonempty { 0 < index_map_len self.new }
+        ensures valid { IsValid K.eq self.new }
     {
         if self.inner.len() > 1 {
             self.inner.shift_remove(k)
@@ -96,8 +95,7 @@ impl<K: Eq + Hash, V, S: BuildHasher> NEIndexMap<K, V, S> {
         ensures len { index_map_len self.new + (if is_some result then 1 else 0)
             ≡ index_map_len self.old }
         ensures hasher { hasher_of self.new ≡ hasher_of self.old }
-        ensures unique { IsUnique K.eq self.new }
-        ensures nonempty { 0 < index_map_len self.new }
+        ensures valid { IsValid K.eq self.new }
     {
         if self.inner.len() > 1 {
             self.inner.swap_remove_entry(k)
@@ -125,8 +123,7 @@ impl<K: Eq + Hash, V, S: BuildHasher> NEIndexMap<K, V, S> {
         ensures len { index_map_len self.new + (if is_some result then 1 else 0)
             ≡ index_map_len self.old }
         ensures hasher { hasher_of self.new ≡ hasher_of self.old }
-        ensures unique { IsUnique K.eq self.new }
-        ensures nonempty { 0 < index_map_len self.new }
+        ensures valid { IsValid K.eq self.new }
     {
         if self.inner.len() > 1 {
             self.inner.shift_remove_entry(k)
@@ -150,8 +147,7 @@ impl<K: Eq + Hash, V, S: BuildHasher> NEIndexMap<K, V, S> {
             × (index_map_len (with_value_at self.old 0 w) ≡ index_map_len self.old) }
         ensures updates { (k : K) (v w : V) → slice_get self.old.entries 0 ≡ Some (k, v)
             → Updates K.eq self.old (with_value_at self.old 0 w) k (Some w) }
-        ensures unique { IsUnique K.eq self.old }
-        ensures nonempty { 0 < index_map_len self.old }
+        ensures valid { IsValid K.eq self.old }
     {
         let _ = &self.inner; // the invariant is known once a field is used
         self.value_at(0)
@@ -175,8 +171,7 @@ impl<K: Eq + Hash, V, S: BuildHasher> NEIndexMap<K, V, S> {
         ensures updates { (k : K) (v w : V) → let last = index_map_len self.old - 1 in
             slice_get self.old.entries last ≡ Some (k, v)
             → Updates K.eq self.old (with_value_at self.old last w) k (Some w) }
-        ensures unique { IsUnique K.eq self.old }
-        ensures nonempty { 0 < index_map_len self.old }
+        ensures valid { IsValid K.eq self.old }
     {
         let last = self.inner.len() - 1;
         self.value_at(last)
@@ -201,8 +196,7 @@ impl<K: Eq + Hash, V, S: BuildHasher> NEIndexMap<K, V, S> {
         ensures len { index_map_len self.new + (if is_some result then 1 else 0)
             ≡ index_map_len self.old }
         ensures hasher { hasher_of self.new ≡ hasher_of self.old }
-        ensures unique { IsUnique K.eq self.new }
-        ensures nonempty { 0 < index_map_len self.new }
+        ensures valid { IsValid K.eq self.new }
     {
         if self.inner.len() > 1 {
             self.inner.pop()
@@ -236,7 +230,6 @@ impl<K: Eq + Hash, V, S: BuildHasher> NEIndexMap<K, V, S> {
         ensures called { RetainsPairs (CalledAtPair F.FnMut) f self.entries
             (either_way result).entries }
         ensures hasher { hasher_of (either_way result) ≡ hasher_of self }
-        ensures unique { IsUnique K.eq (either_way result) }
     {
         let mut inner = self.inner;
         inner.retain(f);
@@ -267,8 +260,7 @@ impl<K: Eq + Hash, V, S: BuildHasher> NEIndexMap<K, V, S> {
             S.BuildHasher S.Hasher.Hasher self.entry k result) }
         ensures value { IfOk result (λ r. r.now ≡ unwrap_or (get K.eq self.old k) v) }
         ensures refused { OnErr result (get K.eq self.old k ≡ None) }
-        ensures unique { IsUnique K.eq self.old }
-        ensures nonempty { 0 < index_map_len self.old }
+        ensures valid { IsValid K.eq self.old }
     {
         let index = self.index_or_insert(k, v)?;
         Ok(self.value_at(index))
@@ -288,8 +280,7 @@ impl<K: Eq + Hash, V, S: BuildHasher> NEIndexMap<K, V, S> {
         ensures refused { OnErr result (get K.eq self.old k ≡ None) }
         ensures unchanged { OnErr result (IsUnchanged self.old self.new) }
         ensures hasher { hasher_of self.new ≡ hasher_of self.old }
-        ensures unique { IsUnique K.eq self.old }
-        ensures nonempty { 0 < index_map_len self.old }
+        ensures valid { IsValid K.eq self.old }
     {
         if let Some(index) = self.inner.get_index_of(&k) {
             return Ok(index);
@@ -308,10 +299,8 @@ impl<K: Eq + Hash, V, S: BuildHasher> NEIndexMap<K, V, S> {
             × (index_map_len (with_value_at self.old index w) ≡ index_map_len self.old) }
         ensures updates { (k : K) (v w : V) → slice_get self.old.entries index ≡ Some (k, v)
             → Updates K.eq self.old (with_value_at self.old index w) k (Some w) }
-        ensures unique { IsUnique K.eq self.old }
-        ensures nonempty { 0 < index_map_len self.old }
+        ensures valid { IsValid K.eq self.old }
     {
-        let _len = self.inner.len(); // its contract says that no two keys are equal
         &mut self.inner[index]
     }
 }

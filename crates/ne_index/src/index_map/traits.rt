@@ -4,12 +4,13 @@ ghost use Rattle.std.specs.Prelude.{◌≡◌, ◌<◌, ◌↔◌, ◌++◌, IfO
 ghost use Rattle.std.specs.Cmp.{partial_equiv_from_equiv};
 ghost use Rattle.std.specs.HashMap.Eq.{hash_map_eq_refl, hash_map_eq_symm, hash_map_eq_trans};
 ghost use Rattle.std.specs.Iterator.{IsFiniteIterable};
-ghost use Rattle.indexmap.specs.IndexMap.{IsUnique, hasher_of, index_map_eq, index_map_len, values};
+ghost use Rattle.indexmap.specs.IndexMap.{hasher_of, index_map_eq, index_map_len, values};
 ghost use Rattle.indexmap.specs.IndexMap.{IsClone, get};
 ghost use Rattle.ne_iter.specs.KeyClones.{KeepsEntries};
 ghost use Rattle.ne_iter.specs.KeyList.{IsKeyListMapOf};
 ghost use Rattle.ne_iter.specs.SameMap.{IsSameMap};
 ghost use Rattle.std.specs.Cmp;
+ghost use Rattle.ne_index.specs.ValidIndexMap.{IsValid};
 
 use super::NEIndexMap;
 use indexmap::IndexMap;
@@ -33,11 +34,8 @@ impl<K: Eq + Hash + Debug, V: Debug, S: BuildHasher> Debug for NEIndexMap<K, V, 
 impl<K: Eq + Hash, V, S: BuildHasher> AsRef<IndexMap<K, V, S>> for NEIndexMap<K, V, S> {
     fn as_ref(&self) -> &IndexMap<K, V, S>
         ensures same { result.now ≡ self.now }
-        ensures unique { IsUnique K.eq self.now }
-        ensures nonempty { 0 < index_map_len self.now }
+        ensures valid { IsValid K.eq self.now }
     {
-        // The contract of `len` says that no two keys are equal.
-        let _len = self.inner.len();
         &self.inner
     }
 }
@@ -70,7 +68,7 @@ impl<K: Eq + Hash, V: Eq, S: BuildHasher> Eq for NEIndexMap<K, V, S> {
 
 /// Returns the inner `IndexMap` unchanged, with its hasher. Its type no longer guarantees a key.
 impl<K: Eq + Hash, V, S: BuildHasher> From<NEIndexMap<K, V, S>> for IndexMap<K, V, S> {
-    ghost from_gives = { λ m n. (n ≡ m) × (0 < index_map_len n) };
+    ghost from_gives = { λ m n. (n ≡ m) × IsValid K.eq n };
 
     fn from(m: NEIndexMap<K, V, S>) -> IndexMap<K, V, S> {
         let NEIndexMap { inner } = m;
@@ -92,9 +90,7 @@ impl<K: Eq + Hash + Clone, V: Clone, S: BuildHasher + Clone> Clone for NEIndexMa
 /// are in the order in which they first appear.
 impl<K: Eq + Hash + Drop, V: Drop, S: BuildHasher + Default + Drop> FromNonEmptyIterator<(K, V)>
     for NEIndexMap<K, V, S> {
-    ghost use Rattle.std.specs.Prelude.{◌<◌, length};
-
-    ghost collected = { λ pairs m. IsKeyListMapOf K.eq pairs m.entries × (0 < length m.entries) };
+    ghost collected = { λ pairs m. IsKeyListMapOf K.eq pairs m.entries };
 
     fn from_nonempty_iter<I: IntoNonEmptyIterator<Item = (K, V)>>(
         alloc: Global,
@@ -145,11 +141,9 @@ impl<K: Eq + Hash, V> Index<usize> for NEIndexMap<K, V> {
 
 /// Starts with one pair, and adds each further pair by `insert`.
 impl<K: Eq + Hash + Drop, V: Drop> Singleton for NEIndexMap<K, V> {
-    ghost use Rattle.std.specs.Prelude.{◌<◌, length};
-
     type Item = (K, V);
 
-    ghost collected = { λ pairs m. IsKeyListMapOf K.eq pairs m.entries × (0 < length m.entries) };
+    ghost collected = { λ pairs m. IsKeyListMapOf K.eq pairs m.entries };
 
     fn singleton(alloc: Global, item: (K, V)) -> Result<NEIndexMap<K, V>, AllocError> {
         let (k, v) = item;
@@ -166,7 +160,7 @@ impl<K: Eq + Hash + Drop, V: Drop> Singleton for NEIndexMap<K, V> {
 /// Calls the inherent method `extend`.
 impl<K: Eq + Hash + Drop, V: Drop, S: BuildHasher> Extend<(K, V)> for NEIndexMap<K, V, S> {
     ghost extend_gives = { λ m pairs n. IsKeyListMapOf K.eq (m.entries ++ pairs) n.entries
-        × (hasher_of n ≡ hasher_of m) × (0 < index_map_len n) };
+        × (hasher_of n ≡ hasher_of m) × IsValid K.eq n };
 
     fn extend<I: IntoIterator<Item = (K, V)>>(&mut self, iter: I) -> Result<(), AllocError> {
         NEIndexMap::extend(self, iter)

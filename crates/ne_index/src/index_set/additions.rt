@@ -1,6 +1,6 @@
 //! The methods of an [`NEIndexSet`] that the Rust crate lacks, with the names that `indexmap` has.
 //! Those that remove an item never remove the only one.
-ghost use Rattle.std.specs.Prelude.{◌≡◌, ◌+◌, ◌-◌, ◌<◌, ◌↔◌, ◌++◌, [], ◌∷◌, Some, Bool, false};
+ghost use Rattle.std.specs.Prelude.{◌≡◌, ◌+◌, ◌-◌, ◌↔◌, ◌++◌, [], ◌∷◌, Some, Bool, false};
 ghost use Rattle.std.specs.Prelude.{if◌then◌else◌, filter, is_some, slice_get, take, IfSome};
 ghost use Rattle.std.specs.Prelude.{IsErr, IsTrue};
 ghost use Rattle.std.specs.Bool.{OnTrue};
@@ -10,8 +10,9 @@ ghost use Rattle.std.specs.List.Retain.{IsFiltered};
 ghost use Rattle.ne_vec.specs.Taken.{RemovesFoundUnlessLast, TakesFoundUnlessLast};
 ghost use Rattle.ne_vec.specs.Taken.{TakesUnlessLast};
 ghost use Rattle.indexmap.specs.IndexSet.{contains, get, hasher_of, index_set_len, remove_key};
-ghost use Rattle.indexmap.specs.IndexSet.{swap_remove_by, IsUnique, Updates};
+ghost use Rattle.indexmap.specs.IndexSet.{swap_remove_by, Updates};
 ghost use Rattle.ne_iter.specs.KeptEntries.{either_way};
+ghost use Rattle.ne_index.specs.ValidIndexSet.{IsValid};
 
 use super::NEIndexSet;
 use indexmap::IndexSet;
@@ -37,8 +38,7 @@ impl<T: Eq + Hash, S: BuildHasher> NEIndexSet<T, S> {
         ensures len { index_set_len self.new + (if result then 1 else 0)
             ≡ index_set_len self.old }
         ensures hasher { hasher_of self.new ≡ hasher_of self.old }
-        ensures unique { IsUnique T.eq self.new }
-        ensures nonempty { 0 < index_set_len self.new }
+        ensures valid { IsValid T.eq self.new }
     {
         if self.inner.len() > 1 {
             self.inner.swap_remove(value)
@@ -66,8 +66,7 @@ impl<T: Eq + Hash, S: BuildHasher> NEIndexSet<T, S> {
         ensures len { index_set_len self.new + (if result then 1 else 0)
             ≡ index_set_len self.old }
         ensures hasher { hasher_of self.new ≡ hasher_of self.old }
-        ensures unique { IsUnique T.eq self.new }
-        ensures nonempty { 0 < index_set_len self.new }
+        ensures valid { IsValid T.eq self.new }
     {
         if self.inner.len() > 1 {
             self.inner.shift_remove(value)
@@ -94,8 +93,7 @@ impl<T: Eq + Hash, S: BuildHasher> NEIndexSet<T, S> {
         ensures len { index_set_len self.new + (if is_some result then 1 else 0)
             ≡ index_set_len self.old }
         ensures hasher { hasher_of self.new ≡ hasher_of self.old }
-        ensures unique { IsUnique T.eq self.new }
-        ensures nonempty { 0 < index_set_len self.new }
+        ensures valid { IsValid T.eq self.new }
     {
         if self.inner.len() > 1 {
             self.inner.swap_take(value)
@@ -122,8 +120,7 @@ impl<T: Eq + Hash, S: BuildHasher> NEIndexSet<T, S> {
         ensures len { index_set_len self.new + (if is_some result then 1 else 0)
             ≡ index_set_len self.old }
         ensures hasher { hasher_of self.new ≡ hasher_of self.old }
-        ensures unique { IsUnique T.eq self.new }
-        ensures nonempty { 0 < index_set_len self.new }
+        ensures valid { IsValid T.eq self.new }
     {
         if self.inner.len() > 1 {
             self.inner.shift_take(value)
@@ -151,8 +148,7 @@ impl<T: Eq + Hash, S: BuildHasher> NEIndexSet<T, S> {
         ensures len { index_set_len self.new + (if is_some result then 1 else 0)
             ≡ index_set_len self.old }
         ensures hasher { hasher_of self.new ≡ hasher_of self.old }
-        ensures unique { IsUnique T.eq self.new }
-        ensures nonempty { 0 < index_set_len self.new }
+        ensures valid { IsValid T.eq self.new }
     {
         if self.inner.len() > 1 {
             self.inner.pop()
@@ -181,7 +177,6 @@ impl<T: Eq + Hash, S: BuildHasher> NEIndexSet<T, S> {
             → (either_way result).keys ≡ filter keeps self.keys }
         ensures called { IsFiltered (CalledAt F.FnMut) f self.keys (either_way result).keys }
         ensures hasher { hasher_of (either_way result) ≡ hasher_of self }
-        ensures unique { IsUnique T.eq (either_way result) }
     {
         let mut inner = self.inner;
         inner.retain(f);

@@ -4,9 +4,10 @@ ghost use Rattle.std.specs.HashSet.Eq.{hash_set_eq_equiv};
 ghost use Rattle.std.specs.Cmp.{partial_equiv_from_equiv};
 ghost use Rattle.std.specs.Iterator.{IsFiniteIterable};
 ghost use Rattle.indexmap.specs.IndexSet.{hasher_of, index_set_eq, index_set_len, IsEmpty, IsClone};
-ghost use Rattle.indexmap.specs.IndexSet.{IsSameSet, IsUnique};
+ghost use Rattle.indexmap.specs.IndexSet.{IsSameSet};
 ghost use Rattle.ne_iter.specs.KeyClones.{KeepsItems};
 ghost use Rattle.ne_index.specs.KeyListSets.{IsKeyListSetOf};
+ghost use Rattle.ne_index.specs.ValidIndexSet.{IsValid};
 
 use super::NEIndexSet;
 use indexmap::IndexSet;
@@ -22,11 +23,8 @@ use std::hash::{BuildHasher, Hash};
 impl<T: Eq + Hash, S: BuildHasher> AsRef<IndexSet<T, S>> for NEIndexSet<T, S> {
     fn as_ref(&self) -> &IndexSet<T, S>
         ensures same { result.now ≡ self.now }
-        ensures unique { IsUnique T.eq self.now }
-        ensures nonempty { 0 < index_set_len self.now }
+        ensures valid { IsValid T.eq self.now }
     {
-        // The contract of `len` says that no two items are equal.
-        let _len = self.inner.len();
         &self.inner
     }
 }
@@ -53,9 +51,7 @@ impl<T: Eq + Hash, S: BuildHasher> Eq for NEIndexSet<T, S> {
 /// Collects items into a set that holds each of them once, in the order in which they first appear.
 impl<T: Eq + Hash + Drop, S: BuildHasher + Default + Drop> FromNonEmptyIterator<T>
     for NEIndexSet<T, S> {
-    ghost use Rattle.std.specs.Prelude.{◌<◌, length};
-
-    ghost collected = { λ items s. IsKeyListSetOf T.eq items s.keys × (0 < length s.keys) };
+    ghost collected = { λ items s. IsKeyListSetOf T.eq items s.keys };
 
     fn from_nonempty_iter<I: IntoNonEmptyIterator<Item = T>>(
         alloc: Global,
@@ -83,7 +79,7 @@ fn collected<
 
 /// Returns the inner `IndexSet` unchanged, with its hasher. Its type no longer guarantees an item.
 impl<T: Eq + Hash, S: BuildHasher> From<NEIndexSet<T, S>> for IndexSet<T, S> {
-    ghost from_gives = { λ s t. (t ≡ s) × (0 < index_set_len t) };
+    ghost from_gives = { λ s t. (t ≡ s) × IsValid T.eq t };
 
     fn from(s: NEIndexSet<T, S>) -> IndexSet<T, S> {
         let NEIndexSet { inner } = s;
@@ -127,11 +123,9 @@ impl<T: Eq + Hash + Clone, S: BuildHasher + Clone> Clone for NEIndexSet<T, S> {
 
 /// Starts with one item, and adds each further item by `insert`.
 impl<T: Eq + Hash + Drop> Singleton for NEIndexSet<T> {
-    ghost use Rattle.std.specs.Prelude.{◌<◌, length};
-
     type Item = T;
 
-    ghost collected = { λ items s. IsKeyListSetOf T.eq items s.keys × (0 < length s.keys) };
+    ghost collected = { λ items s. IsKeyListSetOf T.eq items s.keys };
 
     fn singleton(alloc: Global, item: T) -> Result<NEIndexSet<T>, AllocError> {
         NEIndexSet::new(alloc, item)
@@ -146,7 +140,7 @@ impl<T: Eq + Hash + Drop> Singleton for NEIndexSet<T> {
 /// Calls the inherent method `extend`.
 impl<T: Eq + Hash + Drop, S: BuildHasher> Extend<T> for NEIndexSet<T, S> {
     ghost extend_gives = { λ s items t. IsKeyListSetOf T.eq (s.keys ++ items) t.keys
-        × (hasher_of t ≡ hasher_of s) × (0 < index_set_len t) };
+        × (hasher_of t ≡ hasher_of s) × IsValid T.eq t };
 
     fn extend<I: IntoIterator<Item = T>>(&mut self, iter: I) -> Result<(), AllocError> {
         NEIndexSet::extend(self, iter)

@@ -4,7 +4,7 @@ ghost use Rattle.std.specs.Prelude.{◌≡◌, ◌+◌, ◌-◌, ◌<◌, ◌^�
 ghost use Rattle.std.specs.Prelude.{length, take, None, Some, is_some, slice_get, if◌then◌else◌};
 ghost use Rattle.std.specs.Prelude.{IfSome, IsErr};
 ghost use Rattle.std.specs.BTreeMap.{btree_map_len, get, get_key, is_at, keys, values, IsEmpty};
-ghost use Rattle.std.specs.BTreeMap.{IsLowerBound, IsOrdered, IsRun, IsUpperBound, Updates};
+ghost use Rattle.std.specs.BTreeMap.{IsLowerBound, IsRun, IsUpperBound, Updates};
 ghost use Rattle.std.specs.BTreeMap.IterMut.{values_mut_rest, values_mut_steps};
 ghost use Rattle.std.specs.BTreeMap.Lent.{KeepsKeys};
 ghost use Rattle.std.specs.BTreeMap.Range.{entries_between, IsLeBy, IsLtBy, IsRangeOf};
@@ -20,6 +20,7 @@ ghost use Rattle.ne_iter.specs.KeptEntries.{either_way, kept_entries, ActsAsAtEn
 ghost use Rattle.ne_iter.specs.KeyIterators.{KnownByValue, ListsEntriesByValue};
 ghost use Rattle.ne_tree.specs.TreeLends.{std_values_iterator, LendsValuesAlone};
 ghost use Rattle.ne_tree.specs.TreeLends.{LendsValuesAloneInside};
+ghost use Rattle.ne_tree.specs.ValidTreeMap.{IsValid};
 
 use super::{IntoKeys, IntoValues, NEBTreeMap, ValuesMut};
 use ne_iter::iter::NonEmptyIter;
@@ -44,8 +45,7 @@ impl<K: Ord, V> NEBTreeMap<K, V> {
         ensures updates { IfSome result (λ _. Updates K.cmp self.old self.new k.now None) }
         ensures len { btree_map_len self.new + (if is_some result then 1 else 0)
             ≡ btree_map_len self.old }
-        ensures ordered { IsOrdered K.cmp self.new }
-        ensures nonempty { 0 < btree_map_len self.new }
+        ensures valid { IsValid K.cmp self.new }
     {
         if self.inner.len() > 1 {
             self.inner.remove(k)
@@ -71,8 +71,7 @@ impl<K: Ord, V> NEBTreeMap<K, V> {
         ensures same { IfSome result (λ p. K.cmp k.now p.0 ≡ Equal) }
         ensures len { btree_map_len self.new + (if is_some result then 1 else 0)
             ≡ btree_map_len self.old }
-        ensures ordered { IsOrdered K.cmp self.new }
-        ensures nonempty { 0 < btree_map_len self.new }
+        ensures valid { IsValid K.cmp self.new }
     {
         if self.inner.len() > 1 {
             self.inner.remove_entry(k)
@@ -124,8 +123,7 @@ impl<K: Ord, V> NEBTreeMap<K, V> {
         ensures value { IfSome result (λ p. get K.cmp self.old p.0 ≡ Some p.1) }
         ensures least { IfSome result (λ p. IsLowerBound K.cmp self.old p.0) }
         ensures updates { IfSome result (λ p. Updates K.cmp self.old self.new p.0 None) }
-        ensures ordered { IsOrdered K.cmp self.new }
-        ensures nonempty { 0 < btree_map_len self.new }
+        ensures valid { IsValid K.cmp self.new }
     {
         if self.inner.len() > 1 {
             self.inner.pop_first()
@@ -150,8 +148,7 @@ impl<K: Ord, V> NEBTreeMap<K, V> {
         ensures value { IfSome result (λ p. get K.cmp self.old p.0 ≡ Some p.1) }
         ensures greatest { IfSome result (λ p. IsUpperBound K.cmp self.old p.0) }
         ensures updates { IfSome result (λ p. Updates K.cmp self.old self.new p.0 None) }
-        ensures ordered { IsOrdered K.cmp self.new }
-        ensures nonempty { 0 < btree_map_len self.new }
+        ensures valid { IsValid K.cmp self.new }
     {
         if self.inner.len() > 1 {
             self.inner.pop_last()
@@ -181,7 +178,6 @@ impl<K: Ord, V> NEBTreeMap<K, V> {
             → (either_way result).entries ≡ kept_entries keeps writes self.entries }
         ensures called { RetainsPairs (CalledAtPair F.FnMut) f self.entries
             (either_way result).entries }
-        ensures ordered { IsOrdered K.cmp (either_way result) }
     {
         let mut inner = self.inner;
         inner.retain(f);
@@ -206,11 +202,10 @@ impl<K: Ord, V> NEBTreeMap<K, V> {
             (std_values_iterator result)) }
         ensures keeps { KeepsKeys self.old 0 }
         ensures rest { values_mut_rest (std_values_iterator result) ≡ values self.old }
-        ensures ordered { IsOrdered K.cmp self.old }
         ensures fits { btree_map_len self.old < 2 ^ 63 }
         ensures runs { YieldsMutRefsInOrder (values_mut_steps {K = K} {X = V})
             (values_mut_rest {K = K} {X = V}) }
-        ensures nonempty { 0 < btree_map_len self.old }
+        ensures valid { IsValid K.cmp self.old }
     {
         ValuesMut {
             inner: self.lend_values(),
@@ -222,11 +217,10 @@ impl<K: Ord, V> NEBTreeMap<K, V> {
         ensures* writes_back { sem 𝓛 (LendsValuesAlone K.row V.row K.Ord self.entry result) }
         ensures keeps { KeepsKeys self.old 0 }
         ensures rest { values_mut_rest result ≡ values self.old }
-        ensures ordered { IsOrdered K.cmp self.old }
         ensures fits { btree_map_len self.old < 2 ^ 63 }
         ensures runs { YieldsMutRefsInOrder (values_mut_steps {K = K} {X = V})
             (values_mut_rest {K = K} {X = V}) }
-        ensures nonempty { 0 < btree_map_len self.old }
+        ensures valid { IsValid K.cmp self.old }
     {
         lend_values(&mut self.inner)
     }
@@ -243,8 +237,6 @@ impl<K: Ord, V> NEBTreeMap<K, V> {
         V: Drop,
         ensures keys { result ≡ keys self }
         ensures lists { ListsEntriesByValue KnownByValue result (keys self) }
-        ensures ordered { IsOrdered K.cmp self }
-        ensures nonempty { 0 < btree_map_len self }
     {
         NonEmptyIter::new(self.inner.into_keys())
     }
@@ -261,7 +253,6 @@ impl<K: Ord, V> NEBTreeMap<K, V> {
         V: Drop,
         ensures values { result ≡ values self }
         ensures lists { ListsEntriesByValue KnownByValue result (values self) }
-        ensures nonempty { 0 < btree_map_len self }
     {
         NonEmptyIter::new(self.inner.into_values())
     }
@@ -275,7 +266,7 @@ impl<K: Ord, V> NEBTreeMap<K, V> {
     /// ```
     pub fn is_empty(&self) -> bool
         ensures never { result ≡ false }
-        ensures nonempty { 0 < btree_map_len self.now }
+        ensures valid { IsValid K.cmp self.now }
     {
         let _ = &self.inner; // the invariant is known once a field is used
         false
@@ -305,7 +296,7 @@ impl<K: Ord, V> NEBTreeMap<K, V> {
             (values self.now) }
         ensures listed_back { ValuesAreAmong (TakesLast deref_pair) (λ x. x.1.now) result
             (values self.now) }
-        ensures ordered { IsOrdered K.cmp self.now }
+        ensures valid { IsValid K.cmp self.now }
     {
         self.inner.range(range)
     }
@@ -316,7 +307,6 @@ fn lend_values<'a, K: Ord, V>(map: &'a mut BTreeMap<K, V>) -> btree_map::ValuesM
     ensures* writes_back { sem 𝓛 (LendsValuesAloneInside K.row V.row K.Ord map.entry result) }
     ensures keeps { KeepsKeys map.old 0 }
     ensures rest { values_mut_rest result ≡ values map.old }
-    ensures ordered { IsOrdered K.cmp map.old }
     ensures fits { btree_map_len map.old < 2 ^ 63 }
     ensures runs { YieldsMutRefsInOrder (values_mut_steps {K = K} {X = V})
         (values_mut_rest {K = K} {X = V}) }

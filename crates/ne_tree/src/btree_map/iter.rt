@@ -87,20 +87,21 @@ impl<'a, K: Ord, V> IntoIterator for &'a mut NEBTreeMap<K, V> {
     ghost use Rattle.std.specs.Borrow.{sem};
     ghost use Rattle.std.specs.Map.Iter.{LendsValuesInOrder};
     ghost use Rattle.ne_tree.specs.TreeLends.{LendsValues};
+    ghost use Rattle.ne_tree.specs.ValidTreeMap.{IsValid};
 
     type Item = (&'a K, &'a mut V);
 
     type IntoIter = btree_map::IterMut<'a, K, V>;
 
     ghost into_iter_gives = { λ m it. (iter_mut_rest it ≡ m.now.entries) × IterMutCanStep it
-        × (btree_map_len m.now < 2 ^ 63) × IsOrdered K.cmp m.now × (0 < btree_map_len m.now) };
+        × (btree_map_len m.now < 2 ^ 63) × IsValid K.cmp m.now };
 
     fn into_iter(self) -> btree_map::IterMut<'a, K, V>
         ensures* writes_back { sem 𝓛 (LendsValues K.row V.row K.Ord self.entry result) }
         ensures keeps { KeepsKeys self.old 0 }
         ensures into_iter_gives { (iter_mut_rest result ≡ self.old.entries)
             × IterMutCanStep result × (btree_map_len self.old < 2 ^ 63)
-            × IsOrdered K.cmp self.old × (0 < btree_map_len self.old) }
+            × IsValid K.cmp self.old }
         ensures values_run { LendsValuesInOrder (iter_mut_rest {K = K} {X = V}) }
     {
         self.iter_mut()

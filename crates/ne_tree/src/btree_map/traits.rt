@@ -1,11 +1,12 @@
 //! The traits of an [`NEBTreeMap`]: conversions, clones, equality as a map, collecting, printing.
-ghost use Rattle.std.specs.Prelude.{◌≡◌, ◌<◌, ◌↔◌, ◌++◌, ◌&&◌, IsTrue, MatchResult};
-ghost use Rattle.std.specs.BTreeMap.{IsClone, IsEmpty, IsOrdered, btree_map_len, get};
+ghost use Rattle.std.specs.Prelude.{◌≡◌, ◌↔◌, ◌++◌, ◌&&◌, IsTrue, MatchResult};
+ghost use Rattle.std.specs.BTreeMap.{IsClone, IsEmpty, get};
 ghost use Rattle.std.specs.Cmp.{and_equiv, and_per, on_equiv, on_per};
 ghost use Rattle.std.specs.Cmp.Lexicographic.{lists_equiv, lists_per, pointwise};
 ghost use Rattle.ne_iter.specs.Collected.{IsMapOf};
 ghost use Rattle.ne_iter.specs.KeyClones.{KeepsEntries};
 ghost use Rattle.ne_iter.specs.SameMap.{IsSameMap};
+ghost use Rattle.ne_tree.specs.ValidTreeMap.{IsValid};
 
 use super::NEBTreeMap;
 use ne_iter::{Error, FromNonEmptyIterator, IntoNonEmptyIterator, Singleton};
@@ -19,11 +20,8 @@ use std::fmt::Debug;
 impl<K: Ord, V> AsRef<BTreeMap<K, V>> for NEBTreeMap<K, V> {
     fn as_ref(&self) -> &BTreeMap<K, V>
         ensures same { result.now ≡ self.now }
-        ensures ordered { IsOrdered K.cmp self.now }
-        ensures nonempty { 0 < btree_map_len self.now }
+        ensures valid { IsValid K.cmp self.now }
     {
-        // The contract of `len` says that the keys ascend.
-        let _len = self.inner.len();
         &self.inner
     }
 }
@@ -42,8 +40,6 @@ impl<K: Ord, V: PartialEq> PartialEq for NEBTreeMap<K, V> {
         ensures same_map { IsTrue result
             ↔ IsSameMap V.eq (get K.cmp self.now) (get K.cmp other.now) }
     {
-        // The contract of `len` says that the keys ascend.
-        let _lens = (self.inner.len(), other.inner.len());
         self.inner == other.inner
     }
 }
@@ -55,7 +51,7 @@ impl<K: Ord, V: Eq> Eq for NEBTreeMap<K, V> {
 
 /// Returns the inner `BTreeMap` unchanged. Its type no longer guarantees a key.
 impl<K: Ord, V> From<NEBTreeMap<K, V>> for BTreeMap<K, V> {
-    ghost from_gives = { λ m n. (n ≡ m) × (0 < btree_map_len n) };
+    ghost from_gives = { λ m n. (n ≡ m) × IsValid K.cmp n };
 
     fn from(m: NEBTreeMap<K, V>) -> BTreeMap<K, V> {
         let NEBTreeMap { inner } = m;
@@ -93,10 +89,7 @@ impl<K: Ord + Clone, V: Clone> Clone for NEBTreeMap<K, V> {
 /// Collects pairs into a map that holds each key once, with the value of its last pair. The keys
 /// are in ascending order.
 impl<K: Ord + Drop, V: Drop> FromNonEmptyIterator<(K, V)> for NEBTreeMap<K, V> {
-    ghost use Rattle.std.specs.Prelude.{◌<◌, length};
-
-    ghost collected = { λ pairs m. IsMapOf K.eq pairs m.entries × IsOrdered K.cmp m
-        × (0 < length m.entries) };
+    ghost collected = { λ pairs m. IsMapOf K.eq pairs m.entries };
 
     fn from_nonempty_iter<I: IntoNonEmptyIterator<Item = (K, V)>>(
         alloc: Global,
@@ -116,12 +109,9 @@ impl<K: Ord + Debug, V: Debug> Debug for NEBTreeMap<K, V> {
 
 /// Starts with one pair, and adds each further pair by `insert`.
 impl<K: Ord + Drop, V: Drop> Singleton for NEBTreeMap<K, V> {
-    ghost use Rattle.std.specs.Prelude.{◌<◌, length};
-
     type Item = (K, V);
 
-    ghost collected = { λ pairs m. IsMapOf K.eq pairs m.entries × IsOrdered K.cmp m
-        × (0 < length m.entries) };
+    ghost collected = { λ pairs m. IsMapOf K.eq pairs m.entries };
 
     fn singleton(alloc: Global, item: (K, V)) -> Result<NEBTreeMap<K, V>, AllocError> {
         let (k, v) = item;
@@ -138,7 +128,7 @@ impl<K: Ord + Drop, V: Drop> Singleton for NEBTreeMap<K, V> {
 /// Calls the inherent method `extend`.
 impl<K: Ord + Drop, V: Drop> Extend<(K, V)> for NEBTreeMap<K, V> {
     ghost extend_gives = { λ m pairs n. IsMapOf K.eq (m.entries ++ pairs) n.entries
-        × IsOrdered K.cmp n × (0 < btree_map_len n) };
+        × IsValid K.cmp n };
 
     fn extend<I: IntoIterator<Item = (K, V)>>(&mut self, iter: I) -> Result<(), AllocError> {
         NEBTreeMap::extend(self, iter)

@@ -7,7 +7,7 @@ ghost use Rattle.std.specs.Bool.{OnTrue};
 ghost use Rattle.std.specs.BTreeMap.{is_at};
 ghost use Rattle.std.specs.BTreeMap.Range.{IsLeBy, IsLtBy};
 ghost use Rattle.std.specs.BTreeSet.{btree_set_len, contains, get, keys_between, IsEmpty};
-ghost use Rattle.std.specs.BTreeSet.{IsKeyRangeOf, IsLowerBound, IsOrdered, IsRun, IsUpperBound};
+ghost use Rattle.std.specs.BTreeSet.{IsKeyRangeOf, IsLowerBound, IsRun, IsUpperBound};
 ghost use Rattle.std.specs.BTreeSet.{Updates};
 ghost use Rattle.std.specs.Fn.{CalledAt};
 ghost use Rattle.std.specs.Iterator.{ActsAsAt};
@@ -19,6 +19,7 @@ ghost use Rattle.std.specs.Set.{remove_key};
 ghost use Rattle.ne_vec.specs.Taken.{RemovesFoundUnlessLast, TakesFoundUnlessLast};
 ghost use Rattle.ne_vec.specs.Taken.{TakesUnlessLast};
 ghost use Rattle.ne_iter.specs.KeptEntries.{either_way};
+ghost use Rattle.ne_tree.specs.ValidTreeSet.{IsValid};
 
 use super::NEBTreeSet;
 use std::collections::{BTreeSet, btree_set};
@@ -42,8 +43,7 @@ impl<T: Ord> NEBTreeSet<T> {
         ensures updates { OnTrue result (Updates T.cmp self.old self.new value.now false) }
         ensures len { btree_set_len self.new + (if result then 1 else 0)
             ≡ btree_set_len self.old }
-        ensures ordered { IsOrdered T.cmp self.new }
-        ensures nonempty { 0 < btree_set_len self.new }
+        ensures valid { IsValid T.cmp self.new }
     {
         if self.inner.len() > 1 {
             self.inner.remove(value)
@@ -68,8 +68,7 @@ impl<T: Ord> NEBTreeSet<T> {
         ensures same { IfSome result (λ x. T.cmp value.now x ≡ Equal) }
         ensures len { btree_set_len self.new + (if is_some result then 1 else 0)
             ≡ btree_set_len self.old }
-        ensures ordered { IsOrdered T.cmp self.new }
-        ensures nonempty { 0 < btree_set_len self.new }
+        ensures valid { IsValid T.cmp self.new }
     {
         if self.inner.len() > 1 {
             self.inner.take(value)
@@ -120,8 +119,7 @@ impl<T: Ord> NEBTreeSet<T> {
         ensures found { IfSome result (λ x. IsTrue (contains T.cmp self.old x)) }
         ensures least { IfSome result (IsLowerBound T.cmp self.old) }
         ensures updates { IfSome result (λ x. Updates T.cmp self.old self.new x false) }
-        ensures ordered { IsOrdered T.cmp self.new }
-        ensures nonempty { 0 < btree_set_len self.new }
+        ensures valid { IsValid T.cmp self.new }
     {
         if self.inner.len() > 1 {
             self.inner.pop_first()
@@ -146,8 +144,7 @@ impl<T: Ord> NEBTreeSet<T> {
         ensures found { IfSome result (λ x. IsTrue (contains T.cmp self.old x)) }
         ensures greatest { IfSome result (IsUpperBound T.cmp self.old) }
         ensures updates { IfSome result (λ x. Updates T.cmp self.old self.new x false) }
-        ensures ordered { IsOrdered T.cmp self.new }
-        ensures nonempty { 0 < btree_set_len self.new }
+        ensures valid { IsValid T.cmp self.new }
     {
         if self.inner.len() > 1 {
             self.inner.pop_last()
@@ -175,7 +172,6 @@ impl<T: Ord> NEBTreeSet<T> {
         ensures kept { (keeps : T → Bool) → ActsAsAt F.FnMut f keeps
             → (either_way result).keys ≡ filter keeps self.keys }
         ensures called { IsFiltered (CalledAt F.FnMut) f self.keys (either_way result).keys }
-        ensures ordered { IsOrdered T.cmp (either_way result) }
     {
         let mut inner = self.inner;
         inner.retain(f);
@@ -195,7 +191,7 @@ impl<T: Ord> NEBTreeSet<T> {
     /// ```
     pub fn is_empty(&self) -> bool
         ensures never { result ≡ false }
-        ensures nonempty { 0 < btree_set_len self.now }
+        ensures valid { IsValid T.cmp self.now }
     {
         let _ = &self.inner; // the invariant is known once a field is used
         false
@@ -221,7 +217,7 @@ impl<T: Ord> NEBTreeSet<T> {
         ensures runs { ShowsInOrder (deref {X = T}) }
         ensures runs_back { ShowsInReverse (deref {X = T}) }
         ensures fits { length result < 2 ^ 63 }
-        ensures ordered { IsOrdered T.cmp self.now }
+        ensures valid { IsValid T.cmp self.now }
     {
         self.inner.range(range)
     }

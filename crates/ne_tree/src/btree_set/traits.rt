@@ -1,10 +1,11 @@
 //! The traits of an [`NEBTreeSet`]: conversions, clones, equality as a set, collecting, printing.
-ghost use Rattle.std.specs.Prelude.{◌≡◌, ◌<◌, ◌↔◌, ◌++◌, IsTrue, MatchResult};
-ghost use Rattle.std.specs.BTreeSet.{IsClone, IsEmpty, IsOrdered, IsSameSet, btree_set_len};
+ghost use Rattle.std.specs.Prelude.{◌≡◌, ◌↔◌, ◌++◌, IsTrue, MatchResult};
+ghost use Rattle.std.specs.BTreeSet.{IsClone, IsEmpty, IsSameSet};
 ghost use Rattle.std.specs.Cmp.{on_equiv, on_per};
 ghost use Rattle.std.specs.Cmp.Lexicographic.{lists_equiv, lists_per, pointwise};
 ghost use Rattle.ne_iter.specs.Collected.{IsSetOf};
 ghost use Rattle.ne_iter.specs.KeyClones.{KeepsItems};
+ghost use Rattle.ne_tree.specs.ValidTreeSet.{IsValid};
 
 use super::NEBTreeSet;
 use ne_iter::{Error, FromNonEmptyIterator, IntoNonEmptyIterator, Singleton};
@@ -18,11 +19,8 @@ use std::fmt::Debug;
 impl<T: Ord> AsRef<BTreeSet<T>> for NEBTreeSet<T> {
     fn as_ref(&self) -> &BTreeSet<T>
         ensures same { result.now ≡ self.now }
-        ensures ordered { IsOrdered T.cmp self.now }
-        ensures nonempty { 0 < btree_set_len self.now }
+        ensures valid { IsValid T.cmp self.now }
     {
-        // The contract of `len` says that the items ascend.
-        let _len = self.inner.len();
         &self.inner
     }
 }
@@ -65,9 +63,7 @@ impl<T: Ord> Eq for NEBTreeSet<T> {
 
 /// Collects items into a set that holds each of them once. The items are in ascending order.
 impl<T: Ord + Drop> FromNonEmptyIterator<T> for NEBTreeSet<T> {
-    ghost use Rattle.std.specs.Prelude.{◌<◌, length};
-
-    ghost collected = { λ xs s. IsSetOf T.eq xs s.keys × IsOrdered T.cmp s × (0 < length s.keys) };
+    ghost collected = { λ xs s. IsSetOf T.eq xs s.keys };
 
     fn from_nonempty_iter<I: IntoNonEmptyIterator<Item = T>>(
         alloc: Global,
@@ -80,7 +76,7 @@ impl<T: Ord + Drop> FromNonEmptyIterator<T> for NEBTreeSet<T> {
 
 /// Returns the inner `BTreeSet` unchanged. Its type no longer guarantees an item.
 impl<T: Ord> From<NEBTreeSet<T>> for BTreeSet<T> {
-    ghost from_gives = { λ s t. (t ≡ s) × (0 < btree_set_len t) };
+    ghost from_gives = { λ s t. (t ≡ s) × IsValid T.cmp t };
 
     fn from(s: NEBTreeSet<T>) -> BTreeSet<T> {
         let NEBTreeSet { inner } = s;
@@ -123,11 +119,9 @@ impl<T: Ord + Clone> Clone for NEBTreeSet<T> {
 
 /// Starts with one item, and adds each further item by `insert`.
 impl<T: Ord + Drop> Singleton for NEBTreeSet<T> {
-    ghost use Rattle.std.specs.Prelude.{◌<◌, length};
-
     type Item = T;
 
-    ghost collected = { λ xs s. IsSetOf T.eq xs s.keys × IsOrdered T.cmp s × (0 < length s.keys) };
+    ghost collected = { λ xs s. IsSetOf T.eq xs s.keys };
 
     fn singleton(alloc: Global, item: T) -> Result<NEBTreeSet<T>, AllocError> {
         NEBTreeSet::new(alloc, item)
@@ -142,7 +136,7 @@ impl<T: Ord + Drop> Singleton for NEBTreeSet<T> {
 /// Calls the inherent method `extend`.
 impl<T: Ord + Drop> Extend<T> for NEBTreeSet<T> {
     ghost extend_gives = { λ s items t. IsSetOf T.eq (s.keys ++ items) t.keys
-        × IsOrdered T.cmp t × (0 < btree_set_len t) };
+        × IsValid T.cmp t };
 
     fn extend<I: IntoIterator<Item = T>>(&mut self, iter: I) -> Result<(), AllocError> {
         NEBTreeSet::extend(self, iter)

@@ -3,4 +3,4 @@ use Rattle.ne_tree.proofs.TreeInserts.{one_map}
 
 pub returns-clause-same_map : goal.returns-clause-same_map
 returns-clause-same_map g c = λ pairs m n a b.
-    one_map g.met.K.Ord.total g.met.K.Ord.matches_eq pairs m n a.0 b.0
+    one_map g.met.K.Ord.total g.met.K.Ord.matches_eq pairs m n a b

@@ -2,12 +2,15 @@ use Rattle.ne_index.proofs.index_map.NEIndexMap.extend.Goals as goal
 use Rattle.indexmap.specs.IndexMap.{Extends}
 use Rattle.ne_iter.specs.ExtendListLaws.{extends_by_list}
 use Rattle.ne_iter.specs.KeyList.{IsKeyListMapOf}
-use Rattle.ne_index.proofs.IndexInserts.{key_list_map-extends, nonempty-extends}
+use Rattle.ne_index.proofs.IndexInserts.{key_list_map-extends, valid-extends}
 
 pub invariant_of-self : goal.invariant_of-self
 invariant_of-self g c = let r = c.extend.ensures.ran in
-    nonempty-extends g.met.K.Eq.laws c.self.inside.inner c.extend.new.self r.1 r.3
+    valid-extends g.met.K.Eq.laws c.self.inside.inner c.extend.new.self r.1 r.3
     c.self.invariant
+
+pub returns-clause-valid : goal.returns-clause-valid
+returns-clause-valid = invariant_of-self
 
 pub returns-clause-ran : goal.returns-clause-ran
 returns-clause-ran g c = let r = c.extend.ensures.ran in
@@ -17,16 +20,11 @@ returns-clause-ran g c = let r = c.extend.ensures.ran in
       r.2,
       (
         key_list_map-extends g.met.K.Eq.laws c.self.inside.inner c.extend.new.self r.1 r.3
-            c.len-len.ensures.unique,
+            c.self.invariant.1,
         r.3.2.1,
       ),
       r.4,
     )
-
-pub returns-clause-nonempty : goal.returns-clause-nonempty
-returns-clause-nonempty g c = let r = c.extend.ensures.ran in
-    nonempty-extends g.met.K.Eq.laws c.self.inside.inner c.extend.new.self r.1 r.3
-    c.self.invariant
 
 pub returns-clause-lists : goal.returns-clause-lists
 returns-clause-lists g c =
@@ -34,5 +32,5 @@ returns-clause-lists g c =
     let n = c.extend.new.self in
     rw (← c.self.view_is) (extends_by_list _ _ c.args.iter (Extends g.K.PartialEq.eq) m n
     c.extend.result m.entries (λ all. IsKeyListMapOf g.K.PartialEq.eq all n.entries)
-    (λ ys made. key_list_map-extends g.met.K.Eq.laws m n ys made c.len-len.ensures.unique)
+    (λ ys made. key_list_map-extends g.met.K.Eq.laws m n ys made c.self.invariant.1)
     c.extend.ensures.ran)

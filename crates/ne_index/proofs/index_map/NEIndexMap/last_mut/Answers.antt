@@ -13,7 +13,9 @@ returns g c =
         value = c.value_at.ensures.value;
         stays = λ w. ((c.value_at.ensures.stays w).0, (c.value_at.ensures.stays w).1 ∙ len);
         updates = c.value_at.ensures.updates;
-        unique = c.value_at.ensures.unique;
-        nonempty = subst (λ n. 0 < n) len c.value_at.ensures.nonempty;
+        valid = (
+          subst (λ n. 0 < n) len c.value_at.ensures.valid.0,
+          c.value_at.ensures.valid.1,
+        );
       },
     )

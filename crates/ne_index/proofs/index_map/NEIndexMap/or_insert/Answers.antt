@@ -21,7 +21,6 @@ returns g c = (
     value = ap (λ o. unwrap_or o c.args.v)
         (sym c.value_at.ensures.value ∙ c.in_ok-index.ensures.value);
     refused = tt;
-    unique = c.index_or_insert.ensures.unique;
-    nonempty = c.index_or_insert.ensures.nonempty;
+    valid = c.index_or_insert.ensures.valid;
   },
 )

@@ -1,10 +1,7 @@
 use Rattle.ne_index.proofs.index_set.NEIndexSet.clone.Goals as goal
-use Rattle.ne_iter.specs.KeyCloneLaws.{keeps_items, nonempty_clones}
+use Rattle.ne_iter.specs.KeyCloneLaws.{keeps_items}
 
-pub returns-clause-clones : goal.returns-clause-clones
-returns-clause-clones g c = let made = c.in_ok-inner.ensures.cases in
-    rw (← c.self.view_is) (made, keeps_items _ _ _ made)
-
-pub returns-clause-nonempty : goal.returns-clause-nonempty
-returns-clause-nonempty g c =
-    nonempty_clones _ _ _ c.in_ok-inner.ensures.cases c.self.invariant
+pub returns : goal.returns
+returns g c = let made = c.in_ok-inner.ensures.cases in record {
+  clones = rw (← c.self.view_is) (made, keeps_items _ _ _ made);
+}

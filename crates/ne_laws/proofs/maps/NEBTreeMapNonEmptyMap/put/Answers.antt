@@ -20,4 +20,4 @@ returns-clause-puts g c =
 pub returns-clause-map : goal.returns-clause-map
 returns-clause-map g c =
     is_map g.K.PartialEq.eq g.K.Ord.cmp g.met.K.Ord.matches_eq c.insert.new.self
-    c.insert.ensures.ordered c.insert.ensures.nonempty
+    c.insert.ensures.valid.1 c.insert.ensures.valid.0

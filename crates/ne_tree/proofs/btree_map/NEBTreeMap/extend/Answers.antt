@@ -2,12 +2,15 @@ use Rattle.ne_tree.proofs.btree_map.NEBTreeMap.extend.Goals as goal
 use Rattle.std.specs.BTreeMap.{InsertsAll}
 use Rattle.ne_iter.specs.Collected.{IsMapOf}
 use Rattle.ne_iter.specs.ExtendListLaws.{extends_by_list}
-use Rattle.ne_tree.proofs.TreeInserts.{map_of-inserts_all, nonempty-inserts_all}
+use Rattle.ne_tree.proofs.TreeInserts.{map_of-inserts_all, valid-inserts_all}
 
 pub invariant_of-self : goal.invariant_of-self
 invariant_of-self g c = let r = c.extend.ensures.ran in
-    nonempty-inserts_all g.met.K.Ord.total c.self.inside.inner c.extend.new.self r.1 r.3
+    valid-inserts_all g.met.K.Ord.total c.self.inside.inner c.extend.new.self r.1 r.3
     c.self.invariant
+
+pub returns-clause-valid : goal.returns-clause-valid
+returns-clause-valid = invariant_of-self
 
 pub returns-clause-ran : goal.returns-clause-ran
 returns-clause-ran g c = let r = c.extend.ensures.ran in
@@ -16,14 +19,9 @@ returns-clause-ran g c = let r = c.extend.ensures.ran in
       r.1,
       r.2,
       map_of-inserts_all g.met.K.Ord.total c.self.inside.inner c.extend.new.self r.1 r.3
-          g.met.K.Ord.matches_eq c.len-len.ensures.ordered,
+          g.met.K.Ord.matches_eq c.self.invariant.1,
       r.4,
     )
-
-pub returns-clause-nonempty : goal.returns-clause-nonempty
-returns-clause-nonempty g c = let r = c.extend.ensures.ran in
-    nonempty-inserts_all g.met.K.Ord.total c.self.inside.inner c.extend.new.self r.1 r.3
-    c.self.invariant
 
 pub returns-clause-lists : goal.returns-clause-lists
 returns-clause-lists g c =
@@ -32,4 +30,4 @@ returns-clause-lists g c =
     rw (← c.self.view_is) (extends_by_list _ _ c.args.iter (InsertsAll g.K.Ord.cmp) m n
     c.extend.result m.entries (λ all. IsMapOf g.K.PartialEq.eq all n.entries)
     (λ ys made. map_of-inserts_all g.met.K.Ord.total m n ys made g.met.K.Ord.matches_eq
-    c.len-len.ensures.ordered) c.extend.ensures.ran)
+    c.self.invariant.1) c.extend.ensures.ran)

@@ -1,5 +1,6 @@
 -- `lend_values` borrows the inner map for as long as the map is borrowed. The invariant holds again
--- at the end, since the clause of the inner `values_mut` says that the number of keys is the same.
+-- at the end, since the clause of the inner `values_mut` says that the keys and their number
+-- are the same.
 use mathlib.Core.Path.{◌≡◌, refl, sym, subst}
 use Prim.Native.Nat.{ℕ, ◌+◌}
 use mathlib.Core.List.{List, [], ◌∷◌}
@@ -46,8 +47,9 @@ use denote.Triple.Table.{framed}
 use denote.Triple.Walked.{Stays, stay_dropped, walk_of, Goes-spent_ref}
 use Rattle.std.proofs.raw_atomic.Walks.{proved, leaves}
 use Rattle.std.specs.Prelude.{◌<◌, ◌^◌}
+use Rattle.std.specs.List.Sorted.{IsStrictlySortedBy}
 use Rattle.std.specs.Iterator.Runs.{YieldsMutRefsInOrder}
-use Rattle.std.specs.BTreeMap.{BTreeMap, btree_map_len, values, IsOrdered}
+use Rattle.std.specs.BTreeMap.{BTreeMap, btree_map_len, values}
 use Rattle.std.specs.BTreeMap.IterMut.{values_mut_rest, values_mut_name, values_mut_steps}
 use Rattle.std.specs.BTreeMap.Lent.{KeepsKeys, with_values}
 use Rattle.std.specs.contracts.alloc.Global as global
@@ -58,6 +60,7 @@ use Rattle.std_collections.proofs.btree_map.BTreeMap.TheLaws as inner_laws
 use Rattle.std_collections.specs.contracts.btree_map.iter.lent.ValuesMut as iter
 use Rattle.std_collections.proofs.btree_map.iter.lent.ValuesMut.TheLaws as iter_laws
 use Rattle.ne_tree.specs.TreeLends.{LendsValuesAlone, LendsValuesAloneInside}
+use Rattle.ne_tree.specs.ValidTreeMap.{IsValid}
 use Rattle.ne_tree.specs.contracts.btree_map.NEBTreeMap as outer
 use Rattle.ne_tree.specs.contracts.btree_map.NEBTreeMap.TheInside as inside
 use Rattle.ne_tree.proofs.btree_map.NEBTreeMap.TheLaws as outer_laws
@@ -154,7 +157,7 @@ lend_values_spec 𝓤 𝓛 𝓜 𝓡 wired K V LK LV o₀ d₀ o₁ d₁ o₂ d�
     ⊛ ‵ (LendsValuesAloneInside (param 0 K) (param 1 V)
     (f.K-Ord-whole K V o₀ d₀ o₁ d₁ o₂ d₂ o₃ d₃) ka it) ⊛ raw (fact 𝓤 (KeepsKeys d 0))
     ⊛ raw (fact 𝓤 (values_mut_rest it ≡ values d))
-    ⊛ raw (fact 𝓤 (IsOrdered o₀.cmp d)) ⊛ raw (fact 𝓤 (btree_map_len d < 2 ^ 63))
+    ⊛ raw (fact 𝓤 (btree_map_len d < 2 ^ 63))
     ⊛ raw (fact 𝓤 (YieldsMutRefsInOrder (values_mut_steps {K = K.Denot} {X = V.Denot})
     (values_mut_rest {K = K.Denot} {X = V.Denot})))))))
     (id⊢ 𝓤 _) $
@@ -164,13 +167,14 @@ lend_values_spec 𝓤 𝓛 𝓜 𝓡 wired K V LK LV o₀ d₀ o₁ d₁ o₂ d�
     split ! $
     heard ! _ (λ keeps. split ! $
     heard ! _ (λ rest. split ! $
-    heard ! _ (λ ordered. split ! $ heard ! _ (λ fits. heard ! _ (λ run.
+    heard ! _ (λ fits. heard ! _ (λ run.
     -- [what follows; the tokens; the iterator; what the lender keeps; aged; Back; obs; auth]
     let put : F.Denot → F.Denot = λ w. with_values d 0 (values w) in
-    let many : 0 < btree_map_len d = subst (λ (m : F.Denot). 0 < btree_map_len m) x.1.0 x.1.1 in
-    let good : (w : F.Denot)
-    → 0 < btree_map_len (put w) = λ w.
-    subst (λ (n : ℕ). 0 < n) (sym (keeps.1 (values w))) many in
+    let valid : IsValid o₀.cmp d = subst (λ (m : F.Denot). IsValid o₀.cmp m) x.1.0 x.1.1 in
+    let good : (w : F.Denot) → IsValid o₀.cmp (put w) = λ w. (
+      subst (λ (n : ℕ). 0 < n) (sym (keeps.1 (values w))) valid.0,
+      subst (IsStrictlySortedBy o₀.cmp) (sym (keeps.0 (values w))) valid.1,
+    ) in
     let back : (w : F.Denot)
     → ent 𝓤 (sep 𝓤 (sem 𝓛 ((mem F).own_at (put w) b fo)) Back)
     (sem 𝓛 ((mem R).own_at (put w) b o)) = λ w.
@@ -202,16 +206,15 @@ lend_values_spec 𝓤 𝓛 𝓜 𝓡 wired K V LK LV o₀ d₀ o₁ d₁ o₂ d�
     (param_laws 1 V LV)).lawful 𝓛).typed it (v ∷ []) is).0 $
     returns ! (look_at ! 0 refl) $ free_all ! refl $
     -- [the iterator; the token; the other tokens; what follows]
-    use0 𝓛 (raw (fact 𝓤 (0 < btree_map_len d))) (fact_i 𝓤 _ (emp 𝓤) many) $
+    use0 𝓛 (raw (fact 𝓤 (IsValid o₀.cmp d))) (fact_i 𝓤 _ (emp 𝓤) valid) $
     use0 𝓛 (raw (fact 𝓤 (YieldsMutRefsInOrder (values_mut_steps {K = K.Denot} {X = V.Denot})
     (values_mut_rest {K = K.Denot} {X = V.Denot}))))
     (fact_i 𝓤 _ (emp 𝓤) run) $ join ! $
     use0 𝓛 (raw (fact 𝓤 (btree_map_len d < 2 ^ 63))) (fact_i 𝓤 _ (emp 𝓤) fits) $ join ! $
-    use0 𝓛 (raw (fact 𝓤 (IsOrdered o₀.cmp d))) (fact_i 𝓤 _ (emp 𝓤) ordered) $ join ! $
     use0 𝓛 (raw (fact 𝓤 (values_mut_rest it ≡ values d))) (fact_i 𝓤 _ (emp 𝓤) rest) $ join ! $
     use0 𝓛 (raw (fact 𝓤 (KeepsKeys d 0))) (fact_i 𝓤 _ (emp 𝓤) keeps) $ join ! $
     move ! (4 ∷ 0 ∷ []) $ join ! $
     -- [the ensures; the iterator; the token; the other tokens]
     nothing ! $ nothing ! $ fjoin ! $ move ! (3 ∷ 4 ∷ []) $ join ! $
     -- [the tokens; nothing; the ensures; the iterator]
-    keep ! (0 ∷ 1 ∷ 3 ∷ 2 ∷ []) $ by ! (leaves 𝓛 En hs c y v it (tt, tt) (tt, tt))))))))))))))))))
+    keep ! (0 ∷ 1 ∷ 3 ∷ 2 ∷ []) $ by ! (leaves 𝓛 En hs c y v it (tt, tt) (tt, tt)))))))))))))))))

@@ -2,12 +2,15 @@ use Rattle.ne_tree.proofs.btree_set.NEBTreeSet.extend.Goals as goal
 use Rattle.std.specs.BTreeSet.{InsertsAll}
 use Rattle.ne_iter.specs.Collected.{IsSetOf}
 use Rattle.ne_iter.specs.ExtendListLaws.{extends_by_list}
-use Rattle.ne_tree.proofs.TreeInserts.{set_of-inserts_all, nonempty_set-inserts_all}
+use Rattle.ne_tree.proofs.TreeInserts.{set_of-inserts_all, valid_set-inserts_all}
 
 pub invariant_of-self : goal.invariant_of-self
 invariant_of-self g c = let r = c.extend.ensures.ran in
-    nonempty_set-inserts_all g.met.T.Ord.total c.self.inside.inner c.extend.new.self r.1 r.3
+    valid_set-inserts_all g.met.T.Ord.total c.self.inside.inner c.extend.new.self r.1 r.3
     c.self.invariant
+
+pub returns-clause-valid : goal.returns-clause-valid
+returns-clause-valid = invariant_of-self
 
 pub returns-clause-ran : goal.returns-clause-ran
 returns-clause-ran g c = let r = c.extend.ensures.ran in
@@ -19,11 +22,6 @@ returns-clause-ran g c = let r = c.extend.ensures.ran in
           c.extend.new.self r.1 r.3,
       r.4,
     )
-
-pub returns-clause-nonempty : goal.returns-clause-nonempty
-returns-clause-nonempty g c = let r = c.extend.ensures.ran in
-    nonempty_set-inserts_all g.met.T.Ord.total c.self.inside.inner c.extend.new.self r.1 r.3
-    c.self.invariant
 
 pub returns-clause-lists : goal.returns-clause-lists
 returns-clause-lists g c =

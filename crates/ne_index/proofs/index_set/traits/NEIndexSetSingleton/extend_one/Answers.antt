@@ -3,8 +3,6 @@ use Rattle.std.proofs.Common.{rules}
 use Rattle.ne_index.proofs.IndexInserts.{key_list_set-put}
 
 pub returns-clause-added : goal.returns-clause-added
-returns-clause-added g c = λ xs h. (
-  key_list_set-put g.met.T.Eq.laws xs c.args.self.now c.insert.new.self c.args.item
-      c.insert.ensures.unique (search rules) (search rules) h.0,
-  c.insert.ensures.nonempty,
-)
+returns-clause-added g c = λ xs h.
+    key_list_set-put g.met.T.Eq.laws xs c.args.self.now c.insert.new.self c.args.item
+    c.insert.ensures.valid.1 (search rules) (search rules) h

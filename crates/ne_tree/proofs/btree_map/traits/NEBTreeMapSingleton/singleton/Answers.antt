@@ -3,5 +3,4 @@ use Rattle.ne_tree.proofs.TreeInserts.{one_made}
 
 pub returns : goal.returns
 returns g c =
-    one_made g.K.PartialEq.eq g.K.Ord.cmp c.new.result c.args.item c.new.ensures.entries
-    c.new.ensures.ordered
+    one_made g.K.PartialEq.eq c.new.result c.args.item c.new.ensures.entries

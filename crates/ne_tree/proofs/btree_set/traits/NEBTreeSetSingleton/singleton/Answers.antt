@@ -3,5 +3,4 @@ use Rattle.ne_tree.proofs.TreeInserts.{one_item_made}
 
 pub returns : goal.returns
 returns g c =
-    one_item_made g.T.PartialEq.eq g.T.Ord.cmp c.new.result c.args.item c.new.ensures.keys
-    c.new.ensures.ordered
+    one_item_made g.T.PartialEq.eq c.new.result c.args.item c.new.ensures.keys
