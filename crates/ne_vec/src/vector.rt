@@ -1,10 +1,9 @@
 //! [`NEVec`], a vector that is never empty, and its iterators.
 //!
-//! The methods are in the Rust crate's order. This module has those that read and edit, `search`
-//! those that search, `sort` those that sort, `random` those that draw from a random number
-//! generator, `dedup` those that drop repeated neighbours, and `additions` further ones of `Vec`'s
-//! that the Rust crate lacks. `iter` has the non-empty iterators, and `traits` the other trait
-//! implementations.
+//! The methods are in the Rust crate's order, with those that it lacks beside what they are like.
+//! This module has those that read and edit, `search` those that search, `sort` those that sort,
+//! `random` those that draw from a random number generator, and `dedup` those that drop repeated
+//! neighbours. `iter` has the non-empty iterators, and `traits` the other trait implementations.
 //!
 //! If an allocation fails, the Rust crate's methods abort the process. Here a method that allocates
 //! returns `AllocError`, and its comment says what holds after that. Constructors take an
@@ -14,13 +13,12 @@ ghost use Rattle.std.specs.Prelude.{◌≡◌, ◌-◌, ◌<◌, ◌≤◌, ◌�
 ghost use Rattle.std.specs.Prelude.{length, take, drop, reverse, replicate, Some, None, IsSome};
 ghost use Rattle.std.specs.Prelude.{IfSome, IfOk, OnOk, OnErr, IsErr, slice_get};
 ghost use Rattle.std.specs.NonZero.{non_zero_usize_get};
-ghost use Rattle.std.specs.List.{AllZip, AllClonesOf, filter, insert, remove, swap_remove};
-ghost use Rattle.std.specs.List.{list_any};
+ghost use Rattle.std.specs.List.{AllZip, AllClonesOf, AppendsClones, filter, insert, list_any};
+ghost use Rattle.std.specs.List.{remove, swap, swap_remove};
 ghost use Rattle.std.specs.List.Retain.{IsFiltered, RetainsInTurn};
 ghost use Rattle.std.specs.Fn.{CalledAt, CalledAtMut};
 ghost use Rattle.std.specs.Iterator.{ActsAsAt, IsFiniteIterable, ExtendsWithItems};
 
-mod additions;
 mod dedup;
 mod iter;
 mod random;
@@ -531,6 +529,22 @@ impl<T> NEVec<T> {
         }
     }
 
+    /// Swaps the items at the indices `a` and `b`. All other items stay where they are.
+    ///
+    /// Both indices must be less than the length; `Vec` panics otherwise.
+    ///
+    /// ```
+    /// let mut items = nev![alloc; 4, 6, 8]?;
+    /// items.swap(0, 2); // [8, 6, 4]
+    /// ```
+    pub fn swap(&mut self, a: usize, b: usize)
+        requires a_within { a < length self.old }
+        requires b_within { b < length self.old }
+        ensures { self.new ≡ swap self.old a b }
+    {
+        self.inner.swap(a, b);
+    }
+
     /// Reverses the items in place.
     ///
     /// ```
@@ -555,6 +569,26 @@ impl<T> NEVec<T> {
         ensures { self.new ≡ take (non_zero_usize_get len) self.old }
     {
         self.inner.truncate(len.get());
+    }
+
+    /// Keeps the first `at` items, and returns the others, in order, in a `Vec` with the same
+    /// allocator. At least one item stays, and what is returned may be empty.
+    ///
+    /// `at` must be at most the length; `Vec` panics otherwise. Returns `AllocError` if the
+    /// allocation fails; the vector is then unchanged.
+    ///
+    /// ```
+    /// let mut items = nev![alloc; 4, 6, 8, 9]?;
+    /// let rest = items.split_off(NonZeroUsize::new(1).unwrap())?; // &[6, 8, 9], and items is [4]
+    /// ```
+    pub fn split_off(&mut self, at: NonZeroUsize) -> Result<Vec<T>, AllocError>
+        requires { non_zero_usize_get at ≤ length self.old }
+        ensures kept { OnOk result (self.new ≡ take (non_zero_usize_get at) self.old) }
+        ensures rest { IfOk result (λ rest.
+            rest.items ≡ drop (non_zero_usize_get at) self.old) }
+        ensures unchanged { OnErr result (self.new ≡ self.old) }
+    {
+        self.inner.split_off(at.get())
     }
 
     /// Returns a vector of clones of the items of `slice`, in order, or `Ok(None)` if `slice` is
@@ -691,6 +725,27 @@ impl<T> NEVec<T> {
             (λ old xs new. new ≡ old ++ xs) iter self.old self.new result }
     {
         self.inner.extend(iter)
+    }
+
+    /// Appends clones of the items of `other` to the end, in order.
+    ///
+    /// Returns `AllocError` if the vector has to grow and the allocation fails, or if cloning an
+    /// item fails; the vector is then unchanged. The items are the same if a clone equals its
+    /// original.
+    ///
+    /// ```
+    /// let mut items = nev![alloc; 4, 6]?;
+    /// items.extend_from_slice(&[8, 9])?; // [4, 6, 8, 9]
+    /// ```
+    pub fn extend_from_slice(&mut self, other: &[T]) -> Result<(), AllocError>
+    where
+        T: Clone + Drop,
+        ensures clones { OnOk result (AppendsClones T.is_clone self.old self.new other.now) }
+        ensures same { OnOk result (((x y : T) → T.is_clone x y → y ≡ x)
+            → self.new ≡ self.old ++ other.now) }
+        ensures unchanged { OnErr result (self.new ≡ self.old) }
+    {
+        self.inner.extend_from_slice(other)
     }
 
     /// Returns all items as a non-empty slice.
