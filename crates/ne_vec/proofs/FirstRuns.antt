@@ -1,13 +1,14 @@
 -- The first run of a list, found item by item, and the division that such runs make.
 use Rattle.std.proofs.Common.{◌≡◌, ◌≢◌, ℕ, zero, suc, ◌+◌, ◌-◌, ◌<◌, ◌≤◌, Bool, true, false, List}
 use Rattle.std.proofs.Common.{[], ◌∷◌, ◌++◌, length, take, drop, refl, sym, ap, subst, ◌∙◌, arith}
-use Rattle.std.proofs.lemmas.List.{drop_all}
+use Rattle.std.proofs.lemmas.List.{drop_all, length-take-le, get_or-take}
+use Rattle.std.proofs.lemmas.Option.{slice_get_read}
 use Rattle.std.proofs.lemmas.List.Elements.{All-drop}
 use Rattle.std.specs.Prelude.{All, Some, slice_get, slice_index_or}
 use Rattle.std.specs.Borrow.{Bor}
 use Rattle.std.specs.Fn.{Shared}
 use Rattle.std.specs.Iterator.{Yields}
-use Rattle.ne_vec.specs.Divisions.{Adjacent, IsRun, Breaks, IsDivision, by_first, by_previous}
+use Rattle.ne_vec.specs.Divisions.{Adjacent, IsRun, Breaks, IsDivision, by_previous}
 use Rattle.ne_vec.specs.SliceRuns.{Cutting, ActsAsAtPair, CallableAtPairs, CutsRun, IsFirstRun}
 use Rattle.ne_vec.specs.SliceRuns.{TakesPair}
 use Rattle.ne_vec.proofs.Divisions.{run_one, run_more}
@@ -65,27 +66,21 @@ module _ {A : Type 0} (goes_on : List A → A → Bool) where
       → length xs ≤ n → IsRun goes_on (take n xs) → IsFirstRun goes_on xs n
   run_is_all xs n e run = (run, subst (Breaks goes_on (take n xs)) (sym (drop_all n xs e)) tt)
 
--- Whether an item continues the first n items depends on the first of them, or on the last.
-module _ {A : Type 0} (same : A → A → Bool) where
-  pub by_first-take : (xs : List A) (n : ℕ) (first x : A)
-      → 0 < n → slice_get xs 0 ≡ Some first → by_first same (take n xs) x ≡ same first x
-  by_first-take xs zero first x some e = absurd (omega (arith, some))
-  by_first-take [] (suc n) first x some e = let e = e in cc
-  by_first-take (y ∷ xs) (suc n) first x some e = let e = e in cc
+-- the item at place k is in the first n items too
+pub prefix_read : {A : Type 0} (xs : List A) (n k : ℕ) (x : A) → n ≤ length xs → k < n
+    → x ≡ slice_index_or xs k x → slice_get (take n xs) k ≡ Some x
+prefix_read xs n k x within inside read =
+    slice_get_read (take n xs) n k x (sym (length-take-le n xs within)) inside
+    (read ∙ sym (get_or-take n xs k x inside))
 
-  by_previous-last : (r : List A) (last x : A) → by_previous same (r ++ last ∷ []) x ≡ same last x
-  by_previous-last [] last x = refl
-  by_previous-last (a ∷ []) last x = refl
-  by_previous-last (a ∷ b ∷ r) last x = by_previous-last (b ∷ r) last x
-
-  pub by_previous-take : (xs : List A) (n : ℕ) (last x : A)
-      → 0 < n → slice_get xs (n - 1) ≡ Some last → by_previous same (take n xs) x ≡ same last x
-  by_previous-take xs zero last x some e = absurd (omega (arith, some))
-  by_previous-take xs (suc n) last x some e =
-      let before : suc n - 1 ≡ n = omega arith in
-      let here : slice_get xs n ≡ Some last = subst (λ k. slice_get xs k ≡ Some last) before e in
-      ap (λ r. by_previous same r x) (take_one_more xs n last here)
-      ∙ by_previous-last (take n xs) last x
+pub by_previous-last : {A : Type 0} (same : A → A → Bool) (run : List A) (x next : A)
+    → slice_get run (length run - 1) ≡ Some x → by_previous same run next ≡ same x next
+by_previous-last same [] x next e = absurd cc
+by_previous-last same (a ∷ []) x next e = let e = e in cc
+by_previous-last same (a ∷ b ∷ r) x next e =
+    let back : suc (suc (length r)) - 1 ≡ suc (suc (length r) - 1) = omega arith in
+    by_previous-last same (b ∷ r) x next
+    (subst (λ k. slice_get (a ∷ b ∷ r) k ≡ Some x) back e)
 
 module _ {A : Type 0} (goes_on : List A → A → Bool) where
   breaks_before : (run rest : List A) (all : List (List A)) → Breaks goes_on run rest

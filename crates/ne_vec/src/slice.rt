@@ -11,13 +11,14 @@ ghost use Rattle.std.specs.Hash as fed;
 
 mod runs;
 
+use runs::Runs;
 pub use runs::{AdjacentRuns, AdjacentRunsIter, SliceRuns, SliceRunsIter};
 use std::alloc::AllocError;
 use std::cmp::Ordering;
 use std::convert::AsSlice;
 use std::fmt::Debug;
 use std::hash::{Hash, Hasher};
-use std::marker::Model;
+use std::marker::{Model, PhantomData};
 use std::num::NonZeroUsize;
 use std::ops::Index;
 use std::{fmt, slice};
@@ -191,9 +192,10 @@ impl<'a, T> NESlice<'a, T> {
             (⟦<SliceRunsIter<'a, T, F> as Iterator>⟧.remaining) result }
         ensures lists { RunsGive F.Fn by_first same result self.now }
     {
-        SliceRuns {
+        Runs {
             items: self.inner,
             same,
+            by: PhantomData,
         }
     }
 
@@ -220,9 +222,10 @@ impl<'a, T> NESlice<'a, T> {
             (⟦<AdjacentRunsIter<'a, T, F> as Iterator>⟧.remaining) result }
         ensures lists { RunsGive F.Fn by_previous same result self.now }
     {
-        AdjacentRuns {
+        Runs {
             items: self.inner,
             same,
+            by: PhantomData,
         }
     }
 }
