@@ -1,11 +1,11 @@
 -- The invariant of a binary search, and the precondition on its closure.
 use Rattle.std.proofs.Common.{◌≡◌, ◌⊎◌, inl, inr, ℕ, zero, suc, ◌+◌, ◌<◌, ◌≤◌, Bool, true, false}
-use Rattle.std.proofs.Common.{List, [], ◌∷◌, length, refl, sym, ap, subst, arith}
-use Rattle.std.specs.Prelude.{slice_index_or, All, Contains}
+use Rattle.std.proofs.Common.{List, [], ◌∷◌, length, refl, sym, ap, subst, ◌∙◌, arith}
+use Rattle.std.specs.Prelude.{cond, slice_index_or, All, Contains, Result, Ok, Err}
 use Rattle.std.specs.Borrow.{Bor}
-use Rattle.std.specs.Fn.{Mut, Called, CalledAt, AlwaysReturns}
+use Rattle.std.specs.Fn.{Mut, Called, CalledAt, TakesAt, AlwaysReturns, ReturnsEach, ComputesKey}
 use Rattle.std.specs.List.{FoldsTo, AllWithin, HoldsAt}
-use Rattle.std.specs.List.Sorted.{IsPartitionedBy, IsPartitionPoint, IsNonDecreasingBy}
+use Rattle.std.specs.List.Sorted.{IsBinarySearchResult, IsPartitionedBy, IsPartitionPoint, IsNonDecreasingBy}
 use Rattle.std.specs.Ordering.{is_gt, ordering_index}
 use Rattle.std.specs.declared.cmp.Ordering.{Ordering}
 use Rattle.std.specs.declared.cmp.Ordering.TheVariants.{Less, Equal, Greater}
@@ -50,6 +50,38 @@ module _ {F X R : Type 0} (calls : Mut F X R) (P : X → R → Type 0) where
   answers_next f a r g called always =
       ((always.at (a ∷ []) r g called).0, record { at = λ xs. (always.at (a ∷ xs) r g called).1 })
 
+-- A closure each of whose calls calls another one, `under` it, with the same item.
+module _ {F G A K R : Type 0} (inner : Mut F (Bor A × Unit {0}) K)
+    (outer : Mut G (Bor A × Unit {0}) R) (under : G → F) (fixed : G → Type 0) (of : K → R)
+    (calls : (g h : G) (x : A) (r : R) → CalledAt outer g x r h → (k : K)
+    × CalledAt inner (under g) x k (under h) × (fixed g → (r ≡ of k) × fixed h)) where
+  folds_under : (xs : List A) (g h : G) → FoldsTo (λ p x q. (r : R) × CalledAt outer p x r q) g xs h
+      → FoldsTo (λ p x q. (k : K) × CalledAt inner p x k q) (under g) xs (under h)
+  folds_under [] g h same = ap under same
+  folds_under (x ∷ xs) g h (j, (r, called), later) =
+      let s = calls g j x r called in
+      (under j, (s.0, s.1), folds_under xs j h later)
+
+  pub callable_under : (g : G) (xs : List A)
+      → ((h : G) (x : A) → TakesAt inner (under h) x → TakesAt outer h x)
+      → CallableAtItems inner (under g) xs → CallableAtItems outer g xs
+  callable_under g xs takes callable shown h among folds k d inside =
+      takes h _ (callable shown (under h) among (folds_under shown g h folds) k d inside)
+
+  returns_each : (key : A → K) (xs : List (Bor A × Unit {0})) (g : G) → fixed g
+      → ComputesKey inner key (under g)
+      → ReturnsEach outer (λ a r. r ≡ of (key a.0.now)) g xs
+  returns_each key [] g fix computes = tt
+  returns_each key (a ∷ xs) g fix computes = λ r h called.
+      let s = calls g h a.0.now r (record { shown = a.0; shows = refl; called = called }) in
+      let n = answers_next inner _ _ _ _ _ s.1.called computes in
+      let t = s.2 fix in
+      (t.0 ∙ ap of (n.0 ∙ ap key s.1.shows), returns_each key xs h t.1 n.1)
+
+  pub computes_under : (key : A → K) (g : G) → fixed g → ComputesKey inner key (under g)
+      → ComputesKey outer (λ y. of (key y)) g
+  computes_under key g fix computes = record { at = λ xs. returns_each key xs g fix computes }
+
 not_both : (b : Bool) → b ≡ true → b ≡ false → ⊥
 not_both true p q = absurd cc
 not_both false p q = absurd cc
@@ -57,49 +89,6 @@ not_both false p q = absurd cc
 is_false : (b : Bool) → (b ≡ true → ⊥) → b ≡ false
 is_false true h = absurd (h refl)
 is_false false h = refl
-
--- ---- by a test
-
-module _ {A : Type 0} (meets : A → Bool) (xs : List A) where
-  -- The result is not before base, and not after base + size.
-  pub record Halved (base size : ℕ) : Type 0 where
-    pub low : (base ≡ 0) ⊎ HoldsAt (λ y. meets y ≡ true) xs base
-    pub high : IsPartitionedBy meets xs
-        → AllWithin (λ y. meets y ≡ false) xs (base + size) (length xs)
-
-  past_failing : (m low : ℕ) → m ≤ low → HoldsAt (λ y. meets y ≡ false) xs m
-      → IsPartitionedBy meets xs → AllWithin (λ y. meets y ≡ false) xs low (length xs)
-  past_failing m low h fails parted k d a b =
-      is_false _ (λ t. not_both _ (parted m k d (omega arith) b t) (fails d))
-
-  pub failed : (base size mid left : ℕ) → mid ≤ base + left → Halved base size
-      → HoldsAt (λ y. meets y ≡ false) xs mid → Halved base left
-  failed base size mid left h n fails =
-      record { low = n.low; high = past_failing mid (base + left) h fails }
-
-  pub passed : (base size mid left : ℕ) → base + size ≤ mid + left → Halved base size
-      → HoldsAt (λ y. meets y ≡ true) xs mid → Halved mid left
-  passed base size mid left h n passes =
-      record { low = inr passes; high = λ parted k d a b. n.high parted k d (omega arith) b }
-
-  pub after_passing : (base size : ℕ) → size ≤ 1 → base < length xs → Halved base size
-      → HoldsAt (λ y. meets y ≡ true) xs base → IsPartitionedBy meets xs
-      → IsPartitionPoint (λ y. meets y ≡ true) (λ y. meets y ≡ false) xs (base + 1)
-  after_passing base size one inside n passes parted = (
-    λ k d a b. parted k base d (omega arith) inside (passes d),
-    λ k d a b. n.high parted k d (omega arith) b,
-  )
-
-  before : (base : ℕ) → (base ≡ 0) ⊎ HoldsAt (λ y. meets y ≡ true) xs base
-      → HoldsAt (λ y. meets y ≡ false) xs base → AllWithin (λ y. meets y ≡ true) xs 0 base
-  before base (inl e) fails k d a b = absurd (omega arith)
-  before base (inr passes) fails k d a b = absurd (not_both _ (passes d) (fails d))
-
-  pub at_failing : (base size : ℕ) → Halved base size
-      → HoldsAt (λ y. meets y ≡ false) xs base → IsPartitionedBy meets xs
-      → IsPartitionPoint (λ y. meets y ≡ true) (λ y. meets y ≡ false) xs base
-  at_failing base size n fails parted =
-      (before base n.low fails, past_failing base base (omega arith) fails parted)
 
 -- ---- by an order
 
@@ -166,3 +155,36 @@ module _ {A : Type 0} (order : A → Ordering) (xs : List A) where
       → IsPartitionPoint (λ y. order y ≡ Less) (λ y. order y ≡ Greater) xs base
   at_greater base size n is rises =
       (in_front base n.low is, past_greater base base (omega arith) is rises)
+
+-- ---- by a test
+
+met : (b : Bool) → cond b Less Greater ≡ Less → b ≡ true
+met true e = refl
+met false e = absurd cc
+
+unmet : (b : Bool) → cond b Less Greater ≡ Greater → b ≡ false
+unmet true e = absurd cc
+unmet false e = refl
+
+never_equal : (b : Bool) → cond b Less Greater ≡ Equal → ⊥
+never_equal true e = cc
+never_equal false e = cc
+
+not_less : (p q : Bool) → (q ≡ true → p ≡ true)
+    → ordering_index (cond p Less Greater) ≤ ordering_index (cond q Less Greater)
+not_less true q h = omega arith
+not_less false true h = let e = h refl in absurd cc
+not_less false false h = omega arith
+
+-- from a search by whether an item meets a test to the place between those that do and the others
+pub partition_of : {A : Type 0} (meets : A → Bool) (xs : List A) (r : Result ℕ ℕ) (i : ℕ)
+    → IsPartitionedBy meets xs → IsBinarySearchResult (λ y. cond (meets y) Less Greater) xs r
+    → (r ≡ Ok i) ⊎ (r ≡ Err i)
+    → IsPartitionPoint (λ y. meets y ≡ true) (λ y. meets y ≡ false) xs i
+partition_of meets xs r i parted found (inl e) =
+    let equal = subst (IsBinarySearchResult (λ y. cond (meets y) Less Greater) xs) e found in
+    (λ k d a b. absurd (never_equal _ (equal d)), λ k d a b. absurd (never_equal _ (equal d)))
+partition_of meets xs r i parted found (inr e) =
+    let sides = subst (IsBinarySearchResult (λ y. cond (meets y) Less Greater) xs) e found
+    (λ k j d a b. not_less _ _ (parted k j d a b)) in
+    (λ k d a b. met _ (sides.0 k d a b), λ k d a b. unmet _ (sides.1 k d a b))

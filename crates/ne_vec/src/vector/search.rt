@@ -4,11 +4,12 @@
 //! return the same results. They are written out here because std's searches need a closure that
 //! can be called with any value, while these need only one that can be called with the items of the
 //! slice.
-ghost use Rattle.std.specs.Prelude.{◌≡◌, ◌<◌, ◌≤◌, Bool, true, false, length};
+ghost use Rattle.std.specs.Prelude.{◌≡◌, ◌<◌, ◌≤◌, Bool, true, false, cond, length};
 ghost use Rattle.std.specs.List.Sorted.{IsBinarySearchResult, IsSearchInRange, IsPartitionedBy};
 ghost use Rattle.std.specs.List.Sorted.{IsPartitionPoint};
-ghost use Rattle.std.specs.Fn.{ComputesKey};
+ghost use Rattle.std.specs.Fn.{CalledAt, ComputesKey, TakesAt};
 ghost use Rattle.std.specs.declared.cmp.Ordering.{Ordering};
+ghost use Rattle.std.specs.declared.cmp.Ordering.TheVariants.{Less, Greater};
 ghost use Rattle.ne_vec.specs.Searches.{CallableAtItems};
 
 use super::NEVec;
@@ -71,14 +72,20 @@ impl<T> NEVec<T> {
     pub fn binary_search_by_key<B: Ord + Drop, F: FnMut(&T) -> B>(
         &self,
         b: &B,
-        f: F,
+        mut f: F,
     ) -> Result<usize, usize>
         requires { CallableAtItems F.FnMut f self.now }
         ensures bound { IsSearchInRange result (length self.now) }
         ensures position { (key : T → B) → ComputesKey F.FnMut key f
             → IsBinarySearchResult (λ y. B.cmp (key y) b.now) self.now result }
     {
-        binary_search_by_key(self.inner.as_slice(), b, f)
+        self.binary_search_by(
+            |x|
+                requires { TakesAt F.FnMut f x.now }
+                ensures { (key : B) × CalledAt F.FnMut f.entry x.now key f.exit
+                    × (result ≡ B.cmp key b.entry.now) }
+            { f(x).cmp(b) },
+        )
     }
 
     /// Returns how many of the first items meet `pred`.
@@ -91,37 +98,30 @@ impl<T> NEVec<T> {
     /// let items = nev![alloc; 1, 1, 3, 2, 4, 5, 6, 9]?;
     /// let count = items.partition_point(|x| *x / 2 < 5); // 8
     /// ```
-    pub fn partition_point<P: FnMut(&T) -> bool>(&self, pred: P) -> usize
+    pub fn partition_point<P: FnMut(&T) -> bool>(&self, mut pred: P) -> usize
         requires { CallableAtItems P.FnMut pred self.now }
         ensures bound { result ≤ length self.now }
         ensures partitioned { (meets : T → Bool) → ComputesKey P.FnMut meets pred
             → IsPartitionedBy meets self.now → IsPartitionPoint (λ y. meets y ≡ true)
             (λ y. meets y ≡ false) self.now result }
     {
-        partition_point(self.inner.as_slice(), pred)
-    }
-}
-
-// See `NEVec::partition_point`.
-fn partition_point<T, P: FnMut(&T) -> bool>(items: &[T], mut pred: P) -> usize
-    requires some { 0 < length items.now }
-    requires callable { CallableAtItems P.FnMut pred items.now }
-    ensures bound { result ≤ length items.now }
-    ensures partitioned { (meets : T → Bool) → ComputesKey P.FnMut meets pred
-        → IsPartitionedBy meets items.now
-        → IsPartitionPoint (λ y. meets y ≡ true) (λ y. meets y ≡ false) items.now result }
-{
-    let mut base = 0;
-    let mut size = items.len();
-    while size > 1 {
-        let half = size / 2;
-        let mid = base + half;
-        if pred(&items[mid]) {
-            base = mid;
+        let found = self.binary_search_by(
+            |x|
+                requires { TakesAt P.FnMut pred x.now }
+                ensures { (met : Bool) × CalledAt P.FnMut pred.entry x.now met pred.exit
+                    × (result ≡ cond met Less Greater) }
+            {
+                if pred(x) {
+                    Ordering::Less
+                } else {
+                    Ordering::Greater
+                }
+            },
+        );
+        match found {
+            Ok(place) | Err(place) => place,
         }
-        size -= half;
     }
-    if pred(&items[base]) { base + 1 } else { base }
 }
 
 // See `NEVec::binary_search_by`.
@@ -143,35 +143,6 @@ fn binary_search_by<T, F: FnMut(&T) -> Ordering>(items: &[T], mut f: F) -> Resul
         size -= half;
     }
     match f(&items[base]) {
-        Ordering::Equal => Ok(base),
-        Ordering::Less => Err(base + 1),
-        Ordering::Greater => Err(base),
-    }
-}
-
-// See `NEVec::binary_search_by_key`.
-fn binary_search_by_key<T, B: Ord + Drop, F: FnMut(&T) -> B>(
-    items: &[T],
-    b: &B,
-    mut f: F,
-) -> Result<usize, usize>
-    requires some { 0 < length items.now }
-    requires callable { CallableAtItems F.FnMut f items.now }
-    ensures bound { IsSearchInRange result (length items.now) }
-    ensures position { (key : T → B) → ComputesKey F.FnMut key f
-        → IsBinarySearchResult (λ y. B.cmp (key y) b.now) items.now result }
-{
-    let mut base = 0;
-    let mut size = items.len();
-    while size > 1 {
-        let half = size / 2;
-        let mid = base + half;
-        if !f(&items[mid]).cmp(b).is_gt() {
-            base = mid;
-        }
-        size -= half;
-    }
-    match f(&items[base]).cmp(b) {
         Ordering::Equal => Ok(base),
         Ordering::Less => Err(base + 1),
         Ordering::Greater => Err(base),
