@@ -1,11 +1,13 @@
--- The invariant of a binary search, and the precondition on its closure.
+-- The calls that a binary search makes of its closure, its invariant, and the searches by a key and
+-- by a test, whose closures call another one.
 use Rattle.std.proofs.Common.{◌≡◌, ◌⊎◌, inl, inr, ℕ, zero, suc, ◌+◌, ◌<◌, ◌≤◌, Bool, true, false}
 use Rattle.std.proofs.Common.{List, [], ◌∷◌, length, refl, sym, ap, subst, ◌∙◌, arith}
 use Rattle.std.specs.Prelude.{cond, slice_index_or, All, Contains, Result, Ok, Err}
 use Rattle.std.specs.Borrow.{Bor}
 use Rattle.std.specs.Fn.{Mut, Called, CalledAt, TakesAt, AlwaysReturns, ReturnsEach, ComputesKey}
 use Rattle.std.specs.List.{FoldsTo, AllWithin, HoldsAt}
-use Rattle.std.specs.List.Sorted.{IsBinarySearchResult, IsPartitionedBy, IsPartitionPoint, IsNonDecreasingBy}
+use Rattle.std.specs.List.Sorted.{IsBinarySearchResult, IsNonDecreasingBy, IsPartitionedBy}
+use Rattle.std.specs.List.Sorted.{IsPartitionPoint}
 use Rattle.std.specs.Ordering.{is_gt, ordering_index}
 use Rattle.std.specs.declared.cmp.Ordering.{Ordering}
 use Rattle.std.specs.declared.cmp.Ordering.TheVariants.{Less, Equal, Greater}
@@ -86,12 +88,6 @@ not_both : (b : Bool) → b ≡ true → b ≡ false → ⊥
 not_both true p q = absurd cc
 not_both false p q = absurd cc
 
-is_false : (b : Bool) → (b ≡ true → ⊥) → b ≡ false
-is_false true h = absurd (h refl)
-is_false false h = refl
-
--- ---- by an order
-
 top : (o : Ordering) → 2 ≤ ordering_index o → o ≡ Greater
 top Less h = absurd (omega arith)
 top Equal h = absurd (omega arith)
@@ -112,6 +108,7 @@ module _ {A : Type 0} (order : A → Ordering) (xs : List A) where
   abbrev Rises : Type 0
   Rises = IsNonDecreasingBy (λ y. ordering_index (order y)) xs
 
+  -- base is 0, or its item is not `Greater`; in ascending items each from base + size on is
   pub record Narrowed (base size : ℕ) : Type 0 where
     pub low : (base ≡ 0) ⊎ HoldsAt (λ y. is_gt (order y) ≡ false) xs base
     pub high : IsNonDecreasingBy (λ y. ordering_index (order y)) xs
@@ -155,8 +152,6 @@ module _ {A : Type 0} (order : A → Ordering) (xs : List A) where
       → IsPartitionPoint (λ y. order y ≡ Less) (λ y. order y ≡ Greater) xs base
   at_greater base size n is rises =
       (in_front base n.low is, past_greater base base (omega arith) is rises)
-
--- ---- by a test
 
 met : (b : Bool) → cond b Less Greater ≡ Less → b ≡ true
 met true e = refl

@@ -1,9 +1,8 @@
-//! The methods of [`NEVec`] that search, and their loops over the slice of its items.
+//! The methods of [`NEVec`] that search.
 //!
-//! The loops call the closure with the same items as std's searches do, in the same order, and
-//! return the same results. They are written out here because std's searches need a closure that
-//! can be called with any value, while these need only one that can be called with the items of the
-//! slice.
+//! They call the closure with the same items as std's searches do, in the same order, and return
+//! the same results. Their loop is written out here because std's searches need a closure that can
+//! be called with any value, while these need only one that can be called with the vector's items.
 ghost use Rattle.std.specs.Prelude.{◌≡◌, ◌<◌, ◌≤◌, Bool, true, false, cond, length};
 ghost use Rattle.std.specs.List.Sorted.{IsBinarySearchResult, IsSearchInRange, IsPartitionedBy};
 ghost use Rattle.std.specs.List.Sorted.{IsPartitionPoint};
@@ -49,13 +48,28 @@ impl<T> NEVec<T> {
     /// let items = nev![alloc; 500u32, 100, 10]?;
     /// let place = items.binary_search_by(|x| (1000 / *x).cmp(&10)); // Ok(1)
     /// ```
-    pub fn binary_search_by<F: FnMut(&T) -> Ordering>(&self, f: F) -> Result<usize, usize>
+    pub fn binary_search_by<F: FnMut(&T) -> Ordering>(&self, mut f: F) -> Result<usize, usize>
         requires { CallableAtItems F.FnMut f self.now }
         ensures bound { IsSearchInRange result (length self.now) }
         ensures position { (order : T → Ordering) → ComputesKey F.FnMut order f
             → IsBinarySearchResult order self.now result }
     {
-        binary_search_by(self.inner.as_slice(), f)
+        let items = self.inner.as_slice();
+        let mut base = 0;
+        let mut size = items.len();
+        while size > 1 {
+            let half = size / 2;
+            let mid = base + half;
+            if !f(&items[mid]).is_gt() {
+                base = mid;
+            }
+            size -= half;
+        }
+        match f(&items[base]) {
+            Ordering::Equal => Ok(base),
+            Ordering::Less => Err(base + 1),
+            Ordering::Greater => Err(base),
+        }
     }
 
     /// Searches for an item whose key, as `f` returns it, equals `b`. Returns `Ok` with its index.
@@ -121,30 +135,5 @@ impl<T> NEVec<T> {
         match found {
             Ok(place) | Err(place) => place,
         }
-    }
-}
-
-// See `NEVec::binary_search_by`.
-fn binary_search_by<T, F: FnMut(&T) -> Ordering>(items: &[T], mut f: F) -> Result<usize, usize>
-    requires some { 0 < length items.now }
-    requires callable { CallableAtItems F.FnMut f items.now }
-    ensures bound { IsSearchInRange result (length items.now) }
-    ensures position { (order : T → Ordering) → ComputesKey F.FnMut order f
-        → IsBinarySearchResult order items.now result }
-{
-    let mut base = 0;
-    let mut size = items.len();
-    while size > 1 {
-        let half = size / 2;
-        let mid = base + half;
-        if !f(&items[mid]).is_gt() {
-            base = mid;
-        }
-        size -= half;
-    }
-    match f(&items[base]) {
-        Ordering::Equal => Ok(base),
-        Ordering::Less => Err(base + 1),
-        Ordering::Greater => Err(base),
     }
 }

@@ -1,5 +1,5 @@
 use Rattle.ne_vec.proofs.vector.NEVec.partition_point.Goals as goal
-use Rattle.std.proofs.Common.{◌≡◌, cond, refl, rules}
+use Rattle.std.proofs.Common.{cond, rules}
 use Rattle.std.specs.Prelude.{⊤}
 use Rattle.std.specs.declared.cmp.Ordering.TheVariants.{Less, Greater}
 use Rattle.ne_vec.proofs.Halving.{callable_under, computes_under, partition_of}

@@ -1,4 +1,4 @@
-use Rattle.ne_vec.proofs.vector.search.binary_search_by.Given as goal
+use Rattle.ne_vec.proofs.vector.NEVec.binary_search_by.Given as goal
 use Rattle.std.proofs.Common.{◌<◌, ◌≤◌, ◌+◌, length}
 use Rattle.std.specs.declared.cmp.Ordering.{Ordering}
 use Rattle.std.specs.Fn.{ComputesKey}
