@@ -1,4 +1,6 @@
--- The list that a source yields, from its first item to its last, also through a view.
+-- The list that a source yields, from its first item to its last, also through a view: a value made
+-- of each item, as by `λ x. x` for the items themselves. `grind` does not unfold what is `unfoldable`.
+-- It stands in this crate because vectors, slices, chunks and runs say by `Listed` what they yield.
 use Rattle.std.specs.Prelude.{◌≡◌, ◌≤◌, ◌<◌, ℕ, Bool, slice_get, true, List, [], ◌++◌, map, length}
 use Rattle.std.specs.Prelude.{Option, false, ◌&&◌}
 use Rattle.std.specs.Bool.{OnFalse}
@@ -7,8 +9,7 @@ use Rattle.std.specs.List.{fold}
 use Rattle.std.specs.Iterator.{DrainsIf}
 use Rattle.std.specs.Iterator.Runs.{EachRunFrom, FoldIsAtMost, Run, Trigger}
 
--- With a view, a contract speaks of `of x` for each item x. `is_itself` says that `of x` is x.
--- A view turns each item x of type A into a value `of x` of type Target.
+-- A view turns each item x into a value `of x` of type Target; `is_itself` says that `of x` is x.
 pub record View (A : Type 0) : Type 1 where
   pub Target : Type 0
   pub of : A → Target
@@ -42,15 +43,12 @@ numbered v = in_pairs itself v
 abbrev pub IsPrefix : {A : Type 0} → Bool → List A → List A → Type 0
 IsPrefix {A} whole xs us = (more : List A) × (xs ≡ us ++ more) × (whole ≡ true → more ≡ [])
 
--- `list_trigger` names no view, as `grind` matches no function such as `λ p. (p.0, p.1.now)`.
 -- For the automatic proof: the trigger at which `grind` finds facts about a source and its list.
 unfoldable pub list_trigger : {U A : Type 0} → U → List A → ℕ
 list_trigger u xs = 0
 
 module _ {U S A : Type 0} (becomes : U → S → Type 0) (steps : S → Option A → S → Type 0) where
-  -- The items that an iterator of u has yielded so far are, through `view`, a prefix of xs, and all
-  -- of xs at its end. `view` is `λ x. x` for the items themselves. `grind` does not unfold `Lists`.
-  -- The items that the source u yields, through `view`, are the list xs.
+  -- The source u yields the list xs through `view`: so far a prefix of it, and all at the end.
   unfoldable pub Lists : {B : Type 0} → (A → B) → U → List B → Type 0
   Lists view u xs = (it : S) → becomes u it → (whole : Bool) (ys : List A)
       → DrainsIf steps (whole ≡ true) it ys → IsPrefix whole xs (map view ys)
@@ -60,9 +58,7 @@ module _ {U S A : Type 0} (becomes : U → S → Type 0) (steps : S → Option A
   Listed view u xs = (list_trigger u xs ≡ 0) × Lists view u xs
 
 module _ {S A : Type 0} (steps : S → Option A → S → Type 0) where
-  -- The run has at most as many items as xs, and all of xs if it is whole. A fold that never
-  -- decreases is at most the fold over xs. The item at each index is that of xs.
-  -- For the automatic proof: the facts about a run p of an iterator that yields xs.
+  -- For the automatic proof: the length, items and folds of a run p of an iterator that yields xs.
   abbrev pub IsPrefixRun : List A → Run steps → Type 0
   IsPrefixRun xs p = (p.len ≤ length xs) × (p.whole ≡ true → p.items ≡ xs)
       × ((h : ℕ → A → ℕ) (n : ℕ) → ((a : ℕ) (x : A) → a ≤ h a x)
@@ -83,13 +79,11 @@ module _ {S A : Type 0} (steps : S → Option A → S → Type 0) where
   abbrev pub YieldsPrefixesThrough : {B : Type 0} → (A → B) → List B → S → Type 0
   YieldsPrefixesThrough view xs it = EachRunFrom steps it (λ p. IsPrefixRunThrough view xs p)
 
--- `grind` does not unfold `Became`, and so meets the premise at once.
--- For the automatic proof: the source u becomes the iterator `it`.
+-- For the automatic proof: the source u becomes the iterator `it`, as a premise met at once.
 unfoldable pub Became : {U S : Type 0} → (U → S → Type 0) → U → S → Type 0
 Became becomes u it = becomes u it
 
 module _ {U S A : Type 0} (becomes : U → S → Type 0) (steps : S → Option A → S → Type 0) where
-  -- The iterator is `p.from` and no variable, since `grind` finds only what a conclusion names.
   -- P holds for each run of an iterator that the source u becomes.
   abbrev pub EachRunOf : U → (Run steps → Type 0) → Type 0
   EachRunOf u P = (p : Run steps) → Trigger p.len → Became becomes u p.from → P p
@@ -118,8 +112,7 @@ Naming x P = (x ≡ x) × P x
 abbrev pub EachList : {U A : Type 0} → (U → List A → Type 0) → U → (List A → Type 0) → Type 0
 EachList {A = A} lists u P = (xs : List A) → lists u xs → (list_trigger u xs ≡ 0) × P xs
 
--- If `view.is_itself` is true, the second part is left out, so that no fact is stated twice.
--- P holds for each list of the source's items, and for each list of its items through `view`.
+-- P holds for each list of the source's items, and through `view`, unless that is `itself`.
 abbrev pub EachView : {U A : Type 0} (view : View A)
     → ((view : View A) → U → List view.Target → Type 0) → U
     → ((view : View A) → List view.Target → Type 0) → Type 0

@@ -1,4 +1,6 @@
--- The runs of a slice, in order, for a closure that compares two items.
+-- The runs of a slice, in order, for a closure that compares two items. `place` is `by_first` or
+-- `by_previous`, which make of a test of two items the test of whether an item continues a run. What
+-- `next` takes is a run if the closure acts as a test, and is not empty with any other closure.
 use Rattle.std.specs.Prelude.{◌≡◌, ◌≢◌, ℕ, ◌<◌, length, Bool, List, [], ◌++◌, take, drop, Option}
 use Rattle.std.specs.Prelude.{MatchOption, All}
 use Rattle.std.specs.Borrow.{Bor}
@@ -28,9 +30,6 @@ module _ {A F : Type 0} (calls : Shared F (Bor A × (Bor A × Unit {0})) Bool) w
   abbrev pub CallableAtPairs : F → List A → Type 0
   CallableAtPairs f xs = All (λ x. All (TakesPair f x) xs) xs
 
-  -- `place` is `by_first` or `by_previous`, and turns a test of two items into the test of whether
-  -- an item continues a run. The list taken is not empty. If the closure acts as a test of two
-  -- items, the list is a run, and the next item doesn't continue the run.
   -- One call of `next` takes a run from the start of the items left, or returns `None` at the end.
   abbrev pub CutsRun : ((A → A → Bool) → List A → A → Bool)
       → Cutting A F → Option (List A) → Cutting A F → Type 0

@@ -22,7 +22,8 @@ returns-then-not-same-clause-run g c test acts =
     let before = prefix_read items n _ _ i.1 c.index.ensures.within c.index-items-index.is in
     let said = sym (acts _ _ _ (says_at_two g.F.Fn c.same.ensures refl)) in
     run_breaks (g.C.Comparison.place test) items n _ here (i.2 test acts)
-    (c.index.ensures.compares test _ _ _ (length-take-le n items i.1) before ∙ said ∙ c.if-not-same.true)
+    (c.index.ensures.compares test _ _ _ (length-take-le n items i.1) before ∙ said
+    ∙ c.if-not-same.true)
 
 pub loop-end-preserved : goal.loop-end-preserved
 loop-end-preserved g c = (
