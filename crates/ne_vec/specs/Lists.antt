@@ -1,6 +1,6 @@
--- The list that a source yields, from its first item to its last, also through a view: a value made
--- of each item, as by `λ x. x` for the items themselves. `grind` does not unfold what is `unfoldable`.
--- It stands in this crate because vectors, slices, chunks and runs say by `Listed` what they yield.
+-- The list that a source yields, from its first item to its last, also through a view: a function
+-- of an item, `λ x. x` for the items themselves. `grind` unfolds no `unfoldable` definition.
+-- This file stands in this crate because vectors, slices, chunks and runs use `Listed`.
 use Rattle.std.specs.Prelude.{◌≡◌, ◌≤◌, ◌<◌, ℕ, Bool, slice_get, true, List, [], ◌++◌, map, length}
 use Rattle.std.specs.Prelude.{Option, false, ◌&&◌}
 use Rattle.std.specs.Bool.{OnFalse}

@@ -1,5 +1,5 @@
 -- The runs of a slice, in order, for a closure that compares two items. `place` is `by_first` or
--- `by_previous`, which make of a test of two items the test of whether an item continues a run. What
+-- `by_previous`: it makes of a test of two items the test of whether an item continues a run. What
 -- `next` takes is a run if the closure acts as a test, and is not empty with any other closure.
 use Rattle.std.specs.Prelude.{◌≡◌, ◌≢◌, ℕ, ◌<◌, length, Bool, List, [], ◌++◌, take, drop, Option}
 use Rattle.std.specs.Prelude.{MatchOption, All}

@@ -9,7 +9,7 @@ returns-clause-steps g c =
     let cut = c.first_run.ensures in
     let items = c.self.inside.items.now in
     rw (← c.self.view_is, c.split_at.ensures.front, c.split_at.ensures.back) (
-      refl,
+      refl {a = c.self.inside.same},
       (
         sym (take-append-drop c.first_run.result items),
         front_is_some items c.first_run.result cut.some cut.within,
