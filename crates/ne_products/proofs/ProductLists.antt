@@ -9,7 +9,7 @@ use Rattle.ne_iter.specs.Sources.{ReadsList, Reads, SameLists}
 use Rattle.ne_iter.specs.SourceLists.{BecomesList}
 use Rattle.ne_products.specs.Pairs.{cartesian_product, CanRefuse}
 use Rattle.ne_products.specs.Restarts.{ClonesAgain, ClonesYield, HasExactClones, NeverRefuses}
-use Rattle.ne_products.specs.Restarts.{PairsListed, PairsLists, ProductGives}
+use Rattle.ne_products.specs.Restarts.{PairsListed, PairsLists, YieldsPairs}
 use Rattle.ne_products.proofs.ProductPrefixes.{all_values, product_prefix}
 
 module _ {U S A : Type 0} (becomes : U → S → Type 0) (steps : S → Option A → S → Type 0) where
@@ -46,7 +46,7 @@ abbrev Gives : {U V X J A B E : Type 0} → (Bool → U → List A → Type 0)
     → (Bool → V → List (Result (A × B) E) → Type 0) → (J → Count) → (J → J → Type 0)
     → (J → Option B → J → Type 0) → (A → A → Type 0) → (A → Type 0) → (X → J → Type 0)
     → (J → Type 0) → U → X → V → Type 0
-Gives reads paired left copies next clones infallible begins certain u x v = ProductGives reads
+Gives reads paired left copies next clones infallible begins certain u x v = YieldsPairs reads
     (ClonesAgain begins left copies x) (begins x) (Yields next)
     (ClonesYield begins copies (Yields next) x) clones infallible (CanRefuse begins certain x)
     paired u v

@@ -7,8 +7,8 @@ use Rattle.std.specs.Prelude.{Err, refl}
 use Rattle.std.specs.Iterator.{Count, IsFinite, size, count_map, count_unless, MakesProgress}
 use Rattle.std.specs.Option.{option_len}
 use Rattle.ne_products.specs.declared.products.ProductIter.{ProductIter}
-use Rattle.ne_products.specs.Product.{left_of, right_of, row_of, restart_of, is_over, Restarts}
-use Rattle.ne_products.specs.Product.{CanPair, pairs_left, row_size, PairsItems}
+use Rattle.ne_products.specs.Product.{left_of, right_of, row_of, restart_of, is_exhausted}
+use Rattle.ne_products.specs.Product.{CanRestart, CanPair, pairs_left, row_size, PairsItems}
 
 live_count : (b : Bool) (c : Count) → b ≡ false → count_unless b c ≡ c
 live_count false c e = refl
@@ -28,13 +28,13 @@ module _ {I J A : Type 0} (lefts : I → Count) (rights : J → Count) where
   live_left s = count_map (λ n. (n + option_len (row_of s)) * row_size rights (restart_of s)
       + size (rights (right_of s)) + 1) (lefts (left_of s))
 
-  pub fresh_finite : (s : ProductIter I J A) → is_over s ≡ false → IsFinite (lefts (left_of s))
+  pub fresh_finite : (s : ProductIter I J A) → is_exhausted s ≡ false → IsFinite (lefts (left_of s))
       → IsFinite (pairs_left lefts rights s)
-  fresh_finite s live f = subst IsFinite (sym (live_count (is_over s) (live_left s) live)) f
+  fresh_finite s live f = subst IsFinite (sym (live_count (is_exhausted s) (live_left s) live)) f
 
   module _ (can_left : I → Type 0) (can_right : J → Type 0) (clones : A → A → Type 0)
       (infallible : A → Type 0) (copies : J → J → Type 0) (s : ProductIter I J A)
-      (live : is_over s ≡ false) (can : CanPair can_left can_right rights copies s) where
+      (live : is_exhausted s ≡ false) (can : CanPair can_left can_right rights copies s) where
     abbrev Can : ProductIter I J A → Type 0
     Can = CanPair can_left can_right rights copies
 
@@ -42,7 +42,7 @@ module _ {I J A : Type 0} (lefts : I → Count) (rights : J → Count) where
     Goes r t = MakesProgress Can (pairs_left lefts rights) s (Some r) t
 
     finite : IsFinite (pairs_left lefts rights s) → IsFinite (lefts (left_of s))
-    finite f = subst IsFinite (live_count (is_over s) (live_left s) live) f
+    finite f = subst IsFinite (live_count (is_exhausted s) (live_left s) live) f
 
     -- w is the item of the row, and l is the left side at that point.
     abbrev Row : A → I → Type 0
@@ -59,7 +59,7 @@ module _ {I J A : Type 0} (lefts : I → Count) (rights : J → Count) where
         let p = h.1.on f in (p.1, omega (arith, p.2, ap option_len h.0))
 
     pub row_goes : {B E : Type 0} (m t : ProductIter I J A) (w x : A) (y : B) (l : I) (d c : J)
-        (r : Result (A × B) E) → restart_of m ≡ restart_of s → is_over m ≡ true
+        (r : Result (A × B) E) → restart_of m ≡ restart_of s → is_exhausted m ≡ true
         → restart_of s ≡ Some c → copies c d → Row w l
         → MakesProgress can_left lefts l (Some x) (left_of m)
         → MakesProgress can_right rights d (Some y) (right_of m)
@@ -71,7 +71,7 @@ module _ {I J A : Type 0} (lefts : I → Count) (rights : J → Count) where
           rests = λ f. tt;
         })
       where
-        restarts : Restarts can_right rights copies c
+        restarts : CanRestart can_right rights copies c
         restarts = MatchOption-at_some _ _ c has (can live).3
 
         again : can_right d × IsFinite (rights d) × (size (rights d) ≤ size (rights c))
@@ -98,7 +98,7 @@ module _ {I J A : Type 0} (lefts : I → Count) (rights : J → Count) where
         subst (Goes (Err e)) (sym pair.1) (record {
           on = λ f. (
             next,
-            over_finite (is_over m) (live_left m) over,
+            over_finite (is_exhausted m) (live_left m) over,
             rw (live, over) (omega arith),
           );
           keeps = next;

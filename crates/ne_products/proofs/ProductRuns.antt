@@ -8,8 +8,9 @@ use Rattle.std.specs.Iterator.{AlwaysYields, DrainsIf, Yields}
 use Rattle.std.specs.List.{list_all}
 use Rattle.ne_iter.specs.Sources.{HasFirst}
 use Rattle.ne_products.specs.Pairs.{cartesian_product, ClonedPairs}
-use Rattle.ne_products.specs.Product.{left_of, right_of, row_of, restart_of, is_over, RowItem}
-use Rattle.ne_products.specs.Product.{RowEnds, GivesPair, EndsPairs, PairsNext, RefusesClone}
+use Rattle.ne_products.specs.Product.{left_of, right_of, row_of, restart_of, is_exhausted}
+use Rattle.ne_products.specs.Product.{IsRowItem, EndsRow, GivesPair, EndsPairs, PairsNext}
+use Rattle.ne_products.specs.Product.{RefusesClone}
 use Rattle.ne_products.specs.declared.products.ProductIter.{ProductIter}
 
 both_true : (a b : Bool) → (a && b) ≡ true → (a ≡ true) × (b ≡ true)
@@ -35,7 +36,7 @@ module _ {I J A B : Type 0} (E refused : Type 0) (lefts : I → Option A → I �
   Pair = GivesPair lefts rights clones infallible copies certain
 
   abbrev Of : State → A → I → Type 0
-  Of = RowItem lefts rights clones infallible copies certain
+  Of = IsRowItem lefts rights clones infallible copies certain
 
   abbrev Refuses : State → Type 0
   Refuses = RefusesClone lefts rights clones infallible copies certain
@@ -62,7 +63,7 @@ module _ {I J A B : Type 0} (E refused : Type 0) (lefts : I → Option A → I �
       × ((whole && list_all is_ok zs) ≡ true
       → length zs ≡ length (qs ++ cartesian_product xs bs))
 
-  silent : (W : Type 0) (s : State) (zs : List (Result (A × B) E)) → is_over s ≡ true
+  silent : (W : Type 0) (s : State) (zs : List (Result (A × B) E)) → is_exhausted s ≡ true
       → DrainsIf Next W s zs → zs ≡ []
   silent W s [] over run = refl
   silent W s (z ∷ zs) over (t, (j, st, rest), fin) =
@@ -85,12 +86,12 @@ module _ {I J A B : Type 0} (E refused : Type 0) (lefts : I → Option A → I �
   none_ready bs s ready none = MatchOption-at_none _ _ none ready
 
   row_refused : (bs : List B) (s : State) (l : I) → Ready bs s
-      → RowEnds lefts rights clones infallible copies certain s l (λ c. certain c → ⊥) → refused
+      → EndsRow lefts rights clones infallible copies certain s l (λ c. certain c → ⊥) → refused
   row_refused bs s l ready ends = (MatchOption-at_some _ _ ends.2 ends.5 ready).0 ends.6
 
   -- A clone fails.
   stops : (bs : List B) (s j : State) (l : I) (qs : List (A × B)) (e : E)
-      (zs : List (Result (A × B) E)) → is_over s ≡ false → (Refuses s → Stops bs l qs e)
+      (zs : List (Result (A × B) E)) → is_exhausted s ≡ false → (Refuses s → Stops bs l qs e)
       → Next s (Some (Err e)) j → DrainsIf Next (whole ≡ true) j zs → Came bs l qs (Err e ∷ zs)
   stops bs s j l qs e zs live why st run =
       let refuses = MatchBool-at_false _ _ live st in
@@ -105,11 +106,11 @@ module _ {I J A B : Type 0} (E refused : Type 0) (lefts : I → Option A → I �
       )
 
   -- The end, after which no result follows.
-  at_end : (s t : State) → is_over s ≡ false → s ≡ t
+  at_end : (s t : State) → is_exhausted s ≡ false → s ≡ t
       → (whole ≡ true → (u : State) × Next t None u) → (whole && true) ≡ true → Ends s
   at_end s t live e fin w =
       let over = fin (both_true whole true w).0 in
-      let there = subst (λ q. is_over q ≡ false) e live in
+      let there = subst (λ q. is_exhausted q ≡ false) e live in
       subst Ends (sym e) (MatchBool-at_false _ _ there over.1).0
 
   ready_on : (bs : List B) (s t : State) → restart_of t ≡ restart_of s → Ready bs s → Ready bs t
@@ -117,7 +118,7 @@ module _ {I J A B : Type 0} (E refused : Type 0) (lefts : I → Option A → I �
       subst (IsReady bs) (sym same) ready
 
   -- The right side has no item, although its first call does not return `None`. No result follows.
-  none_came : (s : State) (zs : List (Result (A × B) E)) → is_over s ≡ false → row_of s ≡ None
+  none_came : (s : State) (zs : List (Result (A × B) E)) → is_exhausted s ≡ false → row_of s ≡ None
       → Ready [] s → Gives (right_of s) [] → HasFirst rights (right_of s)
       → DrainsIf Next (whole ≡ true) s zs → Came [] (left_of s) [] zs
   none_came s [] live at ready right has (t, e, fin) =
@@ -144,7 +145,7 @@ module _ {I J A B : Type 0} (E refused : Type 0) (lefts : I → Option A → I �
 
   module _ (y : B) (ys : List B) where
     abbrev Behind : State → List (Result (A × B) E) → Type 0
-    Behind j zs = (x : A) (bs : List B) → is_over j ≡ false → row_of j ≡ Some x
+    Behind j zs = (x : A) (bs : List B) → is_exhausted j ≡ false → row_of j ≡ Some x
         → Ready (y ∷ ys) j → Gives (right_of j) bs
         → Came (y ∷ ys) (left_of j) (map (λ b. (x, b)) bs) zs
 
@@ -171,7 +172,7 @@ module _ {I J A B : Type 0} (E refused : Type 0) (lefts : I → Option A → I �
     first_of s w l at (inr h) = h.1
 
     restarted : (s : State) (l : I) (d : J) → Ready (y ∷ ys) s
-        → RowEnds lefts rights clones infallible copies certain s l (λ c. copies c d)
+        → EndsRow lefts rights clones infallible copies certain s l (λ c. copies c d)
         → Gives d (y ∷ ys)
     restarted s l d ready ends = (MatchOption-at_some _ _ ends.2 ends.5 ready).1 d ends.6
 
@@ -233,7 +234,7 @@ module _ {I J A B : Type 0} (E refused : Type 0) (lefts : I → Option A → I �
     within : (s j : State) (x w : A) (bs : List B) (p : A × B) (zs : List (Result (A × B) E))
         → Gives (right_of s) bs → rights (right_of s) (Some p.1) (right_of j)
         → (w ≡ x) × (left_of j ≡ left_of s) → clones w p.0 → row_of j ≡ Some w
-        → is_over j ≡ false → Ready (y ∷ ys) j → Behind j zs
+        → is_exhausted j ≡ false → Ready (y ∷ ys) j → Behind j zs
         → Came (y ∷ ys) (left_of s) (map (λ b. (x, b)) bs) (Ok p ∷ zs)
     within s j x w [] p zs none g h same now on ready ih = absurd (none p.1 (right_of j) g)
     within s j x w (b ∷ bs) p zs some g h same now on ready ih =
@@ -245,7 +246,7 @@ module _ {I J A B : Type 0} (E refused : Type 0) (lefts : I → Option A → I �
 
     begins : (l : I) (j : State) (w : A) (d : J) (p : A × B) (zs : List (Result (A × B) E))
         → Gives d (y ∷ ys) → rights d (Some p.1) (right_of j) → lefts l (Some w) (left_of j)
-        → clones w p.0 → row_of j ≡ Some w → is_over j ≡ false → Ready (y ∷ ys) j → Behind j zs
+        → clones w p.0 → row_of j ≡ Some w → is_exhausted j ≡ false → Ready (y ∷ ys) j → Behind j zs
         → Came (y ∷ ys) l [] (Ok p ∷ zs)
     begins l j w d p zs some g st same now on ready ih =
         let first = some.1 p.1 (right_of j) g in
@@ -276,7 +277,7 @@ module _ {I J A B : Type 0} (E refused : Type 0) (lefts : I → Option A → I �
         absurd (right.0 g.2.1 g.2.4)
 
     in_row : (s : State) (x : A) (bs : List B) (zs : List (Result (A × B) E))
-        → is_over s ≡ false → row_of s ≡ Some x → Ready (y ∷ ys) s → Gives (right_of s) bs
+        → is_exhausted s ≡ false → row_of s ≡ Some x → Ready (y ∷ ys) s → Gives (right_of s) bs
         → DrainsIf Next (whole ≡ true) s zs
         → Came (y ∷ ys) (left_of s) (map (λ b. (x, b)) bs) zs
     in_row s x bs [] live at ready right (t, e, fin) =
@@ -295,8 +296,9 @@ module _ {I J A B : Type 0} (E refused : Type 0) (lefts : I → Option A → I �
         (λ w cs on now on_ready gives. in_row j w cs zs on now on_ready gives (t, rest, fin))
 
     -- The results from before the first pair on.
-    some_came : (s : State) (zs : List (Result (A × B) E)) → is_over s ≡ false → row_of s ≡ None
-        → Ready (y ∷ ys) s → Gives (right_of s) (y ∷ ys) → DrainsIf Next (whole ≡ true) s zs
+    some_came : (s : State) (zs : List (Result (A × B) E)) → is_exhausted s ≡ false
+        → row_of s ≡ None → Ready (y ∷ ys) s → Gives (right_of s) (y ∷ ys)
+        → DrainsIf Next (whole ≡ true) s zs
         → Came (y ∷ ys) (left_of s) [] zs
     some_came s [] live at ready right (t, e, fin) = (
       [],
@@ -312,7 +314,7 @@ module _ {I J A B : Type 0} (E refused : Type 0) (lefts : I → Option A → I �
         (λ w cs on now on_ready gives. in_row j w cs zs on now on_ready gives (t, rest, fin))
 
   pub DrainsIf-product : (bs : List B) (s : State) (zs : List (Result (A × B) E))
-      → is_over s ≡ false → row_of s ≡ None → Ready bs s → Gives (right_of s) bs
+      → is_exhausted s ≡ false → row_of s ≡ None → Ready bs s → Gives (right_of s) bs
       → HasFirst rights (right_of s) → DrainsIf Next (whole ≡ true) s zs
       → Came bs (left_of s) [] zs
   DrainsIf-product [] s zs live at ready right has run = none_came s zs live at ready right has run

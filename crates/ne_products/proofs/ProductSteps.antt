@@ -3,8 +3,8 @@ use Rattle.std.proofs.Common.{rules, subst, sym, ap, inl, inr, ◌∙◌}
 use Rattle.std.specs.Prelude.{◌≡◌, Bool, true, false, Option, None, Some, Result, Ok, Err}
 use Rattle.std.specs.Bool.{MatchBool}
 use Rattle.ne_products.specs.declared.products.ProductIter.{ProductIter}
-use Rattle.ne_products.specs.Product.{left_of, right_of, row_of, restart_of, is_over, RowEnds}
-use Rattle.ne_products.specs.Product.{PairsNext, PairsItems, RowItem, TriesRestart}
+use Rattle.ne_products.specs.Product.{left_of, right_of, row_of, restart_of, is_exhausted, EndsRow}
+use Rattle.ne_products.specs.Product.{PairsNext, PairsItems, IsRowItem, TriesRestart}
 
 at_false : {Q : Type 0} (P : Type 0) (b : Bool) → b ≡ false → Q → MatchBool b P Q
 at_false P false e q = q
@@ -13,35 +13,35 @@ at_false P true e q = let f = e in search rules
 module _ {I J A B : Type 0} (lefts : I → Option A → I → Type 0)
     (rights : J → Option B → J → Type 0) (clones : A → A → Type 0) (infallible : A → Type 0)
     (copies : J → J → Type 0) (certain : J → Type 0) (s : ProductIter I J A)
-    (live : is_over s ≡ false) where
+    (live : is_exhausted s ≡ false) where
   abbrev Next : {E : Type 0} → Option (Result (A × B) E) → ProductIter I J A → Type 0
   Next = PairsNext lefts rights clones infallible copies certain s
 
   abbrev Item : A → I → Type 0
-  Item = RowItem lefts rights clones infallible copies certain s
+  Item = IsRowItem lefts rights clones infallible copies certain s
 
   abbrev Ends : I → J → Type 0
-  Ends l d = RowEnds lefts rights clones infallible copies certain s l (λ c. copies c d)
+  Ends l d = EndsRow lefts rights clones infallible copies certain s l (λ c. copies c d)
 
   pub goes_on : {E : Type 0} (m t : ProductIter I J A) (x : A) (y : B) (r : Result (A × B) E)
-      → restart_of m ≡ restart_of s → is_over m ≡ true → Item x (left_of m)
+      → restart_of m ≡ restart_of s → is_exhausted m ≡ true → Item x (left_of m)
       → rights (right_of s) (Some y) (right_of m) → PairsItems clones infallible m x y r t
       → Next (Some r) t
   goes_on m t x y (Ok p) same over row came pair = at_false _ _ live (
     x,
     ap row_of pair.2,
     pair.0,
-    ap is_over pair.2,
+    ap is_exhausted pair.2,
     ap restart_of pair.2 ∙ same,
     inl (subst (λ q. Item x q) (sym (ap left_of pair.2)) row, rw (pair.1, pair.2) came),
   )
   goes_on m t x y (Err e) same over row came pair = at_false _ _ live (
     inr (inl (x, y, left_of m, right_of m, inl (row, came), pair.0)),
-    ap is_over pair.1 ∙ over,
+    ap is_exhausted pair.1 ∙ over,
   )
 
   pub no_restart : {E : Type 0} (t : ProductIter I J A) (w x : A) (l u : I) (j : J) (e : E)
-      (o : Option J) → o ≡ restart_of s → is_over t ≡ true → Item w l
+      (o : Option J) → o ≡ restart_of s → is_exhausted t ≡ true → Item w l
       → rights (right_of s) None j → lefts l (Some x) u
       → TriesRestart copies certain o (Err e) → Next (Some (Err e)) t
   no_restart t w x l u j e o same over row ended came (inl none) =
@@ -52,14 +52,14 @@ module _ {I J A B : Type 0} (lefts : I → Option A → I → Type 0)
   )
 
   pub begins_row : {E : Type 0} (m t : ProductIter I J A) (x : A) (y : B) (l : I) (d : J)
-      (r : Result (A × B) E) → restart_of m ≡ restart_of s → is_over m ≡ true → Ends l d
+      (r : Result (A × B) E) → restart_of m ≡ restart_of s → is_exhausted m ≡ true → Ends l d
       → lefts l (Some x) (left_of m) → rights d (Some y) (right_of m)
       → PairsItems clones infallible m x y r t → Next (Some r) t
   begins_row m t x y l d (Ok p) same over ends came first pair = at_false _ _ live (
     x,
     ap row_of pair.2,
     pair.0,
-    ap is_over pair.2,
+    ap is_exhausted pair.2,
     ap restart_of pair.2 ∙ same,
     inr (
       l,
@@ -72,10 +72,11 @@ module _ {I J A B : Type 0} (lefts : I → Option A → I → Type 0)
   begins_row m t x y l d (Err e) same over ends came first pair =
       at_false _ _ live (
         inr (inl (x, y, left_of m, right_of m, inr (l, d, ends, came, first), pair.0)),
-        ap is_over pair.1 ∙ over,
+        ap is_exhausted pair.1 ∙ over,
       )
 
   pub no_row : (E : Type 0) (t : ProductIter I J A) (x : A) (l u : I) (d k : J)
-      → is_over t ≡ true → Ends l d → lefts l (Some x) u → rights d None k → Next {E = E} None t
+      → is_exhausted t ≡ true → Ends l d → lefts l (Some x) u → rights d None k
+      → Next {E = E} None t
   no_row E t x l u d k over ends came none =
       at_false _ _ live (inr (inr (l, d, x, u, k, ends, came, none)), over)

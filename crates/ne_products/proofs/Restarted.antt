@@ -4,7 +4,7 @@ use Rattle.std.specs.Prelude.{◌≡◌, Bool, true, false, List, [], ◌∷◌,
 use Rattle.std.specs.Prelude.{MatchOption}
 use Rattle.std.specs.Iterator.{AlwaysYields, Count, DrainsIf, IsFiniteIterable}
 use Rattle.ne_vec.specs.Lists.{IsPrefix}
-use Rattle.ne_products.specs.Product.{Restarts}
+use Rattle.ne_products.specs.Product.{CanRestart}
 use Rattle.ne_products.specs.Restarts.{ClonesAgain}
 
 -- If the items of an iterator are always a prefix of ys, and all of ys at its end, then the
@@ -43,7 +43,7 @@ module _ {J B : Type 0} (steps : J → Option B → J → Type 0) where
 module _ {U J : Type 0} (becomes : U → J → Type 0) (can : J → Type 0) (left : J → Count)
     (copies : J → J → Type 0) (u : U) (ends : IsFiniteIterable becomes can left u)
     (again : ClonesAgain becomes left copies u) where
-  pub restarts : (j c : J) → becomes u j → copies j c → Restarts can left copies c
+  pub restarts : (j c : J) → becomes u j → copies j c → CanRestart can left copies c
   restarts j c made copied =
       let one = again j c made copied in (
         (ends c one.0).1,

@@ -1,5 +1,6 @@
 -- For `cartesian_product`: what is required of its second source, which is iterated over once for
--- each row, and the pairs that are then yielded.
+-- each row, and the pairs that are then yielded. It becomes an iterator j, and its items ys are the
+-- list that j and the clones of j yield.
 use Rattle.std.specs.Prelude.{◌≡◌, ◌≤◌, Bool, Contains, List, Option, Result, Ok, map}
 use Rattle.std.specs.Iterator.{Count, size}
 use Rattle.std.specs.declared.alloc.AllocError.{AllocError}
@@ -8,7 +9,6 @@ use Rattle.ne_iter.specs.Collected.{values_or_first_err}
 use Rattle.ne_products.specs.Pairs.{cartesian_product, IsProduct}
 
 -- Each clone of an iterator that u becomes is one that u becomes too, with no more items left.
--- A cloned iterator of the source u yields what its original yields.
 abbrev pub ClonesAgain : {U J : Type 0} → (U → J → Type 0) → (J → Count) → (J → J → Type 0) → U
     → Type 0
 ClonesAgain {J = J} becomes left copies u = (j c : J) → becomes u j → copies j c
@@ -29,12 +29,11 @@ abbrev pub ClonesYield : {U J B : Type 0} → (U → J → Type 0) → (J → J 
 ClonesYield {J = J} becomes copies yields u ys =
     (j c : J) → becomes u j → copies j c → yields j ys → yields c ys
 
--- The other side becomes an iterator j, and ys is the list that j and its clones yield.
 -- `cartesian_product` yields the pairs of the source's items and the items ys.
-abbrev pub ProductGives : {U J V A B E : Type 0} → (Bool → U → List A → Type 0) → Type 0
+abbrev pub YieldsPairs : {U J V A B E : Type 0} → (Bool → U → List A → Type 0) → Type 0
     → (J → Type 0) → (J → List B → Type 0) → (List B → Type 0) → (A → A → Type 0)
     → (A → Type 0) → Type 0 → (Bool → V → List (Result (A × B) E) → Type 0) → U → V → Type 0
-ProductGives {J = J} {A = A} {B = B} {E = E} reads again begins yields keep clones infallible
+YieldsPairs {J = J} {A = A} {B = B} {E = E} reads again begins yields keep clones infallible
     refused paired source result =
     again → (whole : Bool) (zs : List (Result (A × B) E)) → paired whole result zs
     → (j : J) × begins j × ((ys : List B) → yields j ys → keep ys
@@ -49,8 +48,7 @@ PairsListed {A = A} {B = B} made next exact v xs ys = exact xs
     ≡ Ok (cartesian_product xs ys))
     × Listed made next (λ x. x) v (map Ok (cartesian_product xs ys))
 
--- The second source w may be one that no call mentions.
--- For the automatic proof: `gives` holds for the lists xs and ys that two sources yield.
+-- For the automatic proof: `gives` holds for the lists of u and of w, which no call may mention.
 abbrev pub PairsLists : {U W A B : Type 0} → (U → List A → Type 0) → (W → List B → Type 0)
     → (W → List B → Type 0) → (List A → List B → Type 0) → U → W → Type 0
 PairsLists {A = A} {B = B} lists others meets gives u w =

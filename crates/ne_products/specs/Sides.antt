@@ -1,4 +1,5 @@
--- The two cases of an `NEEither`, as a value of one of two types and as one of two sources.
+-- The two cases of an `NEEither`, as a value of one of two types and as one of two sources. For a
+-- source that is one of two vectors, `by_side (λ v. v) (λ w. w)` is the list of that vector.
 use Rattle.either.specs.declared.Either.TheVariants as side
 use Rattle.std.specs.Prelude.{List}
 use Rattle.ne_vec.specs.Lists.{Naming}
@@ -6,7 +7,6 @@ use Rattle.either.specs.declared.Either.{Either}
 use Rattle.ne_products.specs.declared.sides.NEEither.{NEEither}
 use Rattle.ne_products.specs.declared.sides.NEEither.TheVariants.{Left, Right}
 
--- For a source that is one of two vectors, `by_side (λ v. v) (λ w. w)` is the list of that vector.
 -- The result of f for a `Left`, and of g for a `Right`.
 abbrev pub by_side : {U V X : Type 0} → (U → X) → (V → X) → NEEither U V → X
 by_side f g (Left u) = f u

@@ -6,7 +6,7 @@ ghost use Rattle.ne_iter.specs.Sources.{EachReading, ReadsList};
 ghost use Rattle.ne_products.specs.Pairs.{cartesian_product, CanRefuse};
 ghost use Rattle.ne_products.specs.Product.{product_first, product_second};
 ghost use Rattle.ne_products.specs.Restarts.{ClonesAgain, ClonesYield, HasExactClones};
-ghost use Rattle.ne_products.specs.Restarts.{NeverRefuses, ProductGives};
+ghost use Rattle.ne_products.specs.Restarts.{NeverRefuses, YieldsPairs};
 ghost use Rattle.ne_products.specs.Sides.{MatchSide};
 
 use crate::products::Product;
@@ -28,7 +28,7 @@ where
     U::Item: Drop,
     <U::IntoNEIter as IntoIterator>::IntoIter: Clone,
     ensures { (product : _) (xs : List S.Item) (ys : List U.Item)
-        → ProductGives (⟦<S as Source>⟧.reads)
+        → YieldsPairs (⟦<S as Source>⟧.reads)
         (ClonesAgain U.IntoNEIter.into_iter_gives U.IntoNEIter.IntoIter.remaining
         U.IntoNEIter.IntoIter.is_clone (product_second product))
         (U.IntoNEIter.into_iter_gives (product_second product))

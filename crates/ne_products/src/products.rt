@@ -7,7 +7,7 @@ ghost use Rattle.ne_products.specs.Pairs.{CanRefuse};
 ghost use Rattle.ne_products.specs.Product.{product_first, product_second, restart_of, PairsItems};
 ghost use Rattle.ne_products.specs.Product.{PairsNext, TriesRestart};
 ghost use Rattle.ne_products.specs.Restarts.{ClonesAgain, ClonesYield, HasExactClones};
-ghost use Rattle.ne_products.specs.Restarts.{NeverRefuses, PairsListed, PairsLists, ProductGives};
+ghost use Rattle.ne_products.specs.Restarts.{NeverRefuses, PairsListed, PairsLists, YieldsPairs};
 ghost use Rattle.ne_products.specs.Unique.{ChecksDistinct, ChecksUnique};
 
 use ne_iter::iter::Source;
@@ -54,7 +54,7 @@ pub trait NonEmptyItertools: NonEmptyIterator {
             → ClonesAgain J.IntoNEIter.into_iter_gives J.IntoNEIter.IntoIter.remaining
             J.IntoNEIter.IntoIter.is_clone (product_second result)
             → ⟦<Product<Self, J::IntoNEIter> as Source>⟧.ends result }
-        ensures gives { ProductGives (⟦<Self as Source>⟧.reads)
+        ensures gives { YieldsPairs (⟦<Self as Source>⟧.reads)
             (ClonesAgain J.IntoNEIter.into_iter_gives J.IntoNEIter.IntoIter.remaining
             J.IntoNEIter.IntoIter.is_clone (product_second result))
             (J.IntoNEIter.into_iter_gives (product_second result))

@@ -1,6 +1,7 @@
 use Rattle.ne_products.proofs.products.ProductIterIterator.next.Goals as goal
 use Rattle.std.proofs.Common.{◌≡◌, inl, inr, None, Some, sym, ap, ◌∙◌, subst, true}
-use Rattle.ne_products.specs.Product.{RowItem, RowEnds, restart_of, left_of, right_of, is_over}
+use Rattle.ne_products.specs.Product.{IsRowItem, EndsRow, restart_of, left_of, right_of}
+use Rattle.ne_products.specs.Product.{is_exhausted}
 use Rattle.ne_products.proofs.ProductSteps.{begins_row, goes_on, no_restart, no_row}
 use Rattle.ne_products.proofs.ProductProgress.{row_goes}
 use Rattle.ne_products.proofs.products.ProductIterIterator.next.Goals.{in-Some}
@@ -15,7 +16,7 @@ returns-in-Some-next-clause-steps g c =
     let copies = g.J.Clone.is_clone in
     let certain = g.J.Clone.is_infallible in
     let now = c.args.self.now in
-    let row : RowItem steps others clones infallible copies certain now c.match-take.row
+    let row : IsRowItem steps others clones infallible copies certain now c.match-take.row
     c.match-take.self.left =
     elim c.match-take.branch [
       | in-Some w ↦ inl (
@@ -36,8 +37,8 @@ returns-in-Some-next-clause-steps g c =
       | in-None+in_ok-row-in-None w ↦ ap right_of w.self-is
     ] in
     let over : c.match-take.self.is_over ≡ true = elim c.match-take.branch [
-      | in-Some w ↦ ap is_over w.self-is
-      | in-None+in_ok-row-in-None w ↦ ap is_over w.self-is
+      | in-Some w ↦ ap is_exhausted w.self-is
+      | in-None+in_ok-row-in-None w ↦ ap is_exhausted w.self-is
     ] in
     goes_on steps others clones infallible copies certain now c.if-self.false _ c.pair.new.self _ _
     _ again over row
@@ -53,7 +54,7 @@ returns-in_default-restart-clause-steps g c =
     let copies = g.J.Clone.is_clone in
     let certain = g.J.Clone.is_infallible in
     let now = c.args.self.now in
-    let row : RowItem steps others clones infallible copies certain now c.match-take.row
+    let row : IsRowItem steps others clones infallible copies certain now c.match-take.row
     c.match-take.self.left =
     elim c.match-take.branch [
       | in-Some w ↦ inl (
@@ -74,8 +75,8 @@ returns-in_default-restart-clause-steps g c =
       | in-None+in_ok-row-in-None w ↦ ap right_of w.self-is
     ] in
     let over : c.match-take.self.is_over ≡ true = elim c.match-take.branch [
-      | in-Some w ↦ ap is_over w.self-is
-      | in-None+in_ok-row-in-None w ↦ ap is_over w.self-is
+      | in-Some w ↦ ap is_exhausted w.self-is
+      | in-None+in_ok-row-in-None w ↦ ap is_exhausted w.self-is
     ] in
     no_restart steps others clones infallible copies certain now c.if-self.false _ c.match-take.row
     c.in_ok-next_row.next_row c.match-take.self.left c.next-3.new.self c.next-2.new.self _
@@ -94,7 +95,7 @@ returns-in_err-right-clause-steps g c =
     let now = c.args.self.now in
     let l = c.match-take.self.left in
     let d = c.in-Ok.restarted in
-    let row : RowItem steps others clones infallible copies certain now c.match-take.row l =
+    let row : IsRowItem steps others clones infallible copies certain now c.match-take.row l =
     elim c.match-take.branch [
       | in-Some w ↦ inl (
         (let v = w.in-Some.ensures.value in let r = w.row-is in cc),
@@ -114,11 +115,11 @@ returns-in_err-right-clause-steps g c =
       | in-None+in_ok-row-in-None w ↦ ap right_of w.self-is
     ] in
     let over : c.match-take.self.is_over ≡ true = elim c.match-take.branch [
-      | in-Some w ↦ ap is_over w.self-is
-      | in-None+in_ok-row-in-None w ↦ ap is_over w.self-is
+      | in-Some w ↦ ap is_exhausted w.self-is
+      | in-None+in_ok-row-in-None w ↦ ap is_exhausted w.self-is
     ] in
     let from = c.in-Ok.ensures in
-    let ends : RowEnds steps others clones infallible copies certain now l (λ c. copies c d) = (
+    let ends : EndsRow steps others clones infallible copies certain now l (λ c. copies c d) = (
       c.match-take.row,
       c.next-2.new.self,
       from.0,
@@ -143,7 +144,7 @@ returns-clause-steps g c =
     let now = c.args.self.now in
     let l = c.match-take.self.left in
     let d = c.in-Ok.restarted in
-    let row : RowItem steps others clones infallible copies certain now c.match-take.row l =
+    let row : IsRowItem steps others clones infallible copies certain now c.match-take.row l =
     elim c.match-take.branch [
       | in-Some w ↦ inl (
         (let v = w.in-Some.ensures.value in let r = w.row-is in cc),
@@ -163,11 +164,11 @@ returns-clause-steps g c =
       | in-None+in_ok-row-in-None w ↦ ap right_of w.self-is
     ] in
     let over : c.match-take.self.is_over ≡ true = elim c.match-take.branch [
-      | in-Some w ↦ ap is_over w.self-is
-      | in-None+in_ok-row-in-None w ↦ ap is_over w.self-is
+      | in-Some w ↦ ap is_exhausted w.self-is
+      | in-None+in_ok-row-in-None w ↦ ap is_exhausted w.self-is
     ] in
     let from = c.in-Ok.ensures in
-    let ends : RowEnds steps others clones infallible copies certain now l (λ c. copies c d) = (
+    let ends : EndsRow steps others clones infallible copies certain now l (λ c. copies c d) = (
       c.match-take.row,
       c.next-2.new.self,
       from.0,
@@ -189,8 +190,8 @@ returns-clause-goes g c =
       | in-None+in_ok-row-in-None w ↦ ap restart_of w.self-is
     ] in
     let over : c.match-take.self.is_over ≡ true = elim c.match-take.branch [
-      | in-Some w ↦ ap is_over w.self-is
-      | in-None+in_ok-row-in-None w ↦ ap is_over w.self-is
+      | in-Some w ↦ ap is_exhausted w.self-is
+      | in-None+in_ok-row-in-None w ↦ ap is_exhausted w.self-is
     ] in
     row_goes g.I.Iterator.remaining g.J.Iterator.remaining g.I.Iterator.can_next
     g.J.Iterator.can_next g.I.Item.Clone.is_clone g.I.Item.Clone.is_infallible g.J.Clone.is_clone
