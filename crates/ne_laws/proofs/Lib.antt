@@ -1,4 +1,2 @@
 pub mod CallsSoFar
-pub mod MapCalls
 pub mod TreeMaps
-pub mod VectorCalls

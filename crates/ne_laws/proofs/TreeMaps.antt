@@ -4,7 +4,7 @@ use Rattle.std.specs.BTreeMap.{BTreeMap, IsOrdered, btree_map_len, keys}
 use Rattle.std.specs.Ordering.{eq_by_cmp}
 use Rattle.std.specs.declared.cmp.Ordering.{Ordering}
 use Rattle.std.proofs.lemmas.Map.Keys.{IsDistinct-from_sorted}
-use Rattle.ne_laws.specs.Maps.{IsMap}
+use Rattle.ne_laws.specs.Maps.{IsNonEmptyMap}
 use mathlib.Core.Path.{fun_ext}
 
 module _ {K : Type 0} (eq : K → K → Bool) (cmp : K → K → Ordering)
@@ -14,6 +14,6 @@ module _ {K : Type 0} (eq : K → K → Bool) (cmp : K → K → Ordering)
   by_eq P p = subst P (sym (fun_ext (λ x. fun_ext (λ y. same x y)))) p
 
   pub is_map : {V : Type 0} (m : BTreeMap K V) → IsOrdered cmp m → 0 < btree_map_len m
-      → IsMap eq m.entries
+      → IsNonEmptyMap eq m.entries
   is_map m ordered some =
-      by_eq (λ e. IsMap e m.entries) (IsDistinct-from_sorted cmp (keys m) ordered, some)
+      by_eq (λ e. IsNonEmptyMap e m.entries) (IsDistinct-from_sorted cmp (keys m) ordered, some)

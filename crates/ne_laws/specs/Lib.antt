@@ -1,3 +1,4 @@
+pub mod Calls
 pub mod MapCalls
 pub mod Maps
 pub mod VectorCalls

@@ -6,11 +6,10 @@ use Rattle.std.specs.Map.{keys_of, lookup}
 
 module _ {K V : Type 0} (eq : K → K → Bool) where
   -- No two keys are equal, and there is at least one key.
-  abbrev pub IsMap : List (K × V) → Type 0
-  IsMap es = IsDistinct eq (keys_of es) × (0 < length es)
+  abbrev pub IsNonEmptyMap : List (K × V) → Type 0
+  IsNonEmptyMap es = IsDistinct eq (keys_of es) × (0 < length es)
 
-  -- fs has one key more than es if k is new, and as many keys if k is not new.
-  -- fs has v at the key k, and at each other key it has the same as es.
+  -- fs has v at the key k, the same as es at each other key, and one key more than es if k is new.
   abbrev pub Puts : List (K × V) → K → V → List (K × V) → Type 0
   Puts es k v fs = ((q : K) → lookup (eq q) fs ≡ cond (eq k q) (Some v) (lookup (eq q) es))
       × (length fs ≡ length es + (if is_some (lookup (eq k) es) then 0 else 1))

@@ -1,7 +1,8 @@
 //! A list of calls on a map, made one after another.
 ghost use Rattle.std.specs.Prelude.{◌≡◌, length, IfOk, OnErr};
-ghost use Rattle.ne_laws.specs.MapCalls.{Replies, RunsSome, RunsTo};
-ghost use Rattle.ne_laws.specs.Maps.{IsMap};
+ghost use Rattle.ne_laws.specs.Calls.{RunsPrefix, RunsTo};
+ghost use Rattle.ne_laws.specs.MapCalls.{MapReplies};
+ghost use Rattle.ne_laws.specs.Maps.{IsNonEmptyMap};
 
 use crate::maps::NonEmptyMap;
 use std::alloc::{AllocError, Global};
@@ -52,12 +53,12 @@ pub fn run_map<K: Eq + Drop, V: Drop, M: NonEmptyMap<K, V>>(
     m: &mut M,
     calls: Vec<MapCall<K, V>>,
 ) -> Result<Vec<MapReply<V>>, AllocError>
-    ensures run { IfOk result (λ replies. RunsTo K.eq (M.entries m.old) calls.items replies.items
-        (M.entries m.new)) }
-    ensures refused { OnErr result (RunsSome K.eq (M.entries m.old) calls.items
-        (M.entries m.new)) }
+    ensures run { IfOk result (λ replies. RunsTo (IsNonEmptyMap K.eq) (MapReplies K.eq)
+        (M.entries m.old) calls.items replies.items (M.entries m.new)) }
+    ensures refused { OnErr result (RunsPrefix (IsNonEmptyMap K.eq) (MapReplies K.eq)
+        (M.entries m.old) calls.items (M.entries m.new)) }
     ensures one_each { IfOk result (λ replies. length replies.items ≡ length calls.items) }
-    ensures map { IsMap K.eq (M.entries m.new) }
+    ensures map { IsNonEmptyMap K.eq (M.entries m.new) }
 {
     // The contract of `size` says that there is a key.
     let _size = m.size();
@@ -74,11 +75,11 @@ fn reply_to<K: Eq + Drop, V: Drop, M: NonEmptyMap<K, V>>(
     m: &mut M,
     call: MapCall<K, V>,
 ) -> Result<MapReply<V>, AllocError>
-    requires { IsMap K.eq (M.entries m.old) }
-    ensures step { IfOk result (λ reply. Replies K.eq (M.entries m.old) call reply
+    requires { IsNonEmptyMap K.eq (M.entries m.old) }
+    ensures step { IfOk result (λ reply. MapReplies K.eq (M.entries m.old) call reply
         (M.entries m.new)) }
     ensures unchanged { OnErr result (M.entries m.new ≡ M.entries m.old) }
-    ensures map { IsMap K.eq (M.entries m.new) }
+    ensures map { IsNonEmptyMap K.eq (M.entries m.new) }
 {
     match call {
         MapCall::Insert(k, v) => Ok(MapReply::Old(m.put(k, v)?)),

@@ -4,7 +4,7 @@ ghost use Rattle.std.specs.Prelude.{◌≡◌, List, length, is_some, IfOk, OnEr
 ghost use Rattle.std.specs.BTreeMap.{get, BTreeMap};
 ghost use Rattle.std.specs.Int.NonZero.{non_zero_usize_get};
 ghost use Rattle.std.specs.Map.{lookup};
-ghost use Rattle.ne_laws.specs.Maps.{IsMap, Puts, Writes};
+ghost use Rattle.ne_laws.specs.Maps.{IsNonEmptyMap, Puts, Writes};
 
 use nonempty_collections::{NEBTreeMap, NEIndexMap, NEMap};
 use std::alloc::AllocError;
@@ -15,8 +15,8 @@ use std::num::NonZeroUsize;
 /// A map that holds at least one key. Keys are compared by `==`.
 ///
 /// In contracts it is the list of its entries, in some order: `lookup (K.eq k) (M.entries m)` is
-/// the value of the key `k`, and `IsMap K.eq (M.entries m)` says that no two keys are equal and
-/// that there is at least one.
+/// the value of the key `k`, and `IsNonEmptyMap K.eq (M.entries m)` says that no two keys are equal
+/// and that there is at least one.
 ///
 /// ```
 /// let mut map = NEMap::new(alloc, 1, 10)?;
@@ -37,7 +37,7 @@ pub trait NonEmptyMap<K: Eq, V> {
         ensures old { IfOk result (λ old. old ≡ lookup (K.eq k) (entries self.old)) }
         ensures puts { OnOk result (Puts K.eq (entries self.old) k v (entries self.new)) }
         ensures unchanged { OnErr result (entries self.new ≡ entries self.old) }
-        ensures map { IsMap K.eq (entries self.new) };
+        ensures map { IsNonEmptyMap K.eq (entries self.new) };
 
     /// Returns whether the map holds a key equal to `k`.
     fn has(&self, k: &K) -> bool
@@ -48,12 +48,12 @@ pub trait NonEmptyMap<K: Eq, V> {
     fn set(&mut self, k: &K, v: V) -> Option<V>
         ensures old { result ≡ lookup (K.eq k.now) (entries self.old) }
         ensures writes { Writes K.eq (entries self.old) k.now v (entries self.new) }
-        ensures map { IsMap K.eq (entries self.new) };
+        ensures map { IsNonEmptyMap K.eq (entries self.new) };
 
     /// Returns the number of keys, which is at least 1.
     fn size(&self) -> NonZeroUsize
         ensures size { non_zero_usize_get result ≡ length (entries self.now) }
-        ensures map { IsMap K.eq (entries self.now) };
+        ensures map { IsNonEmptyMap K.eq (entries self.now) };
 }
 
 /// Looking up a key of a tree map by the order of the keys, as std does, and by `==`, as lists of

@@ -1,6 +1,7 @@
 //! A list of calls on a vector, made one after another.
 ghost use Rattle.std.specs.Prelude.{◌≡◌, ◌<◌, length, IfOk, OnErr};
-ghost use Rattle.ne_laws.specs.VectorCalls.{Replies, RunsSome, RunsTo};
+ghost use Rattle.ne_laws.specs.Calls.{RunsPrefix, RunsTo};
+ghost use Rattle.ne_laws.specs.VectorCalls.{HasItem, VectorReplies};
 
 use nonempty_collections::NEVec;
 use std::alloc::{AllocError, Global};
@@ -62,8 +63,9 @@ pub fn run_vec<T: Drop>(
     v: &mut NEVec<T>,
     calls: Vec<VecCall<T>>,
 ) -> Result<Vec<VecReply<T>>, AllocError>
-    ensures run { IfOk result (λ replies. RunsTo v.old calls.items replies.items v.new) }
-    ensures refused { OnErr result (RunsSome v.old calls.items v.new) }
+    ensures run { IfOk result (λ replies. RunsTo HasItem VectorReplies v.old calls.items
+        replies.items v.new) }
+    ensures refused { OnErr result (RunsPrefix HasItem VectorReplies v.old calls.items v.new) }
     ensures one_each { IfOk result (λ replies. length replies.items ≡ length calls.items) }
     ensures nonempty { 0 < length v.new }
 {
@@ -80,7 +82,7 @@ pub fn run_vec<T: Drop>(
 
 // Makes one call.
 fn reply_to<T: Drop>(v: &mut NEVec<T>, call: VecCall<T>) -> Result<VecReply<T>, AllocError>
-    ensures step { IfOk result (λ reply. Replies v.old call reply v.new) }
+    ensures step { IfOk result (λ reply. VectorReplies v.old call reply v.new) }
     ensures unchanged { OnErr result (v.new ≡ v.old) }
 {
     match call {

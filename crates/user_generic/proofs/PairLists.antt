@@ -15,7 +15,7 @@ use Rattle.std.proofs.lemmas.Map.{keys-set_value, length-set_value}
 use Rattle.std.proofs.lemmas.Map.Keys.{IsDistinct-push}
 use Rattle.std.proofs.lemmas.Map.Made.{is_some-lookup, IsDistinct-from_count}
 use Rattle.std.proofs.lemmas.Option.{none-some, slice_get_cases, slice_get_past}
-use Rattle.ne_laws.specs.Maps.{IsMap, Puts, Writes}
+use Rattle.ne_laws.specs.Maps.{IsNonEmptyMap, Puts, Writes}
 
 one_more : (n : ℕ) → 1 + n ≡ suc n
 one_more n = omega arith
@@ -121,17 +121,17 @@ module _ {K V : Type 0} (test : K → Bool) where
       here = find_at passes es ∙ ap (slice_get es) place ∙ is
 
 module _ {K V : Type 0} {eq : K → K → Bool} (laws : IsEquivalence eq) (k : K) (v : V) where
-  pub one_pair : IsMap eq ((k, v) ∷ [])
+  pub one_pair : IsNonEmptyMap eq ((k, v) ∷ [])
   one_pair = (IsDistinct-from_count laws (k ∷ []) refl, some 0)
 
   -- The value of a key that is there is written at the key's position.
   pub written_there : (es at : List (K × V)) (i : ℕ) (p : K × V) (w : V) → at ≡ es
-      → Some i ≡ position (λ e. eq k e.0) es → slice_get at i ≡ Some p → w ≡ v → IsMap eq at
+      → Some i ≡ position (λ e. eq k e.0) es → slice_get at i ≡ Some p → w ≡ v → IsNonEmptyMap eq at
       → (Some p.1 ≡ lookup (eq k) es) × Writes eq es k v (slice_set at i (p.0, w))
-      × IsMap eq (slice_set at i (p.0, w))
+      × IsNonEmptyMap eq (slice_set at i (p.0, w))
   written_there es at i p w same place is new map =
       subst (λ l. (Some p.1 ≡ lookup (eq k) l) × Writes eq l k v (slice_set at i (p.0, w))
-      × IsMap eq (slice_set at i (p.0, w))) same
+      × IsNonEmptyMap eq (slice_set at i (p.0, w))) same
       (rw new (rw (here.1 v) (sym here.0, writes, is_map)))
     where
       here : (lookup (eq k) at ≡ Some p.1)
@@ -152,7 +152,7 @@ module _ {K V : Type 0} {eq : K → K → Bool} (laws : IsEquivalence eq) (k : K
       writes = subst (λ o. MatchOption o (set_value (eq k) at v ≡ at) (λ _. Puts eq at k v
           (set_value (eq k) at v))) (sym here.0) puts
 
-      is_map : IsMap eq (set_value (eq k) at v)
+      is_map : IsNonEmptyMap eq (set_value (eq k) at v)
       is_map = (subst (IsDistinct eq) (sym (keys-set_value (eq k) at v)) map.0, rw len map.1)
 
   behind : (q : K) (es : List (K × V)) → NonePasses (eq k) es
@@ -172,9 +172,9 @@ module _ {K V : Type 0} {eq : K → K → Bool} (laws : IsEquivalence eq) (k : K
 
   -- A key that is not there is added after the others.
   pub added_last : (es at new : List (K × V)) → at ≡ es → new ≡ at ++ (k, v) ∷ []
-      → is_some (lookup (eq k) es) ≡ false → IsMap eq at → Puts eq es k v new × IsMap eq new
+      → is_some (lookup (eq k) es) ≡ false → IsNonEmptyMap eq at → Puts eq es k v new × IsNonEmptyMap eq new
   added_last es at new same is absent map =
-      subst (λ l. Puts eq l k v new × IsMap eq new) same (rw is (puts, is_map))
+      subst (λ l. Puts eq l k v new × IsNonEmptyMap eq new) same (rw is (puts, is_map))
     where
       absent_here : is_some (lookup (eq k) at) ≡ false
       absent_here = subst (λ l. is_some (lookup (eq k) l) ≡ false) (sym same) absent
@@ -188,7 +188,7 @@ module _ {K V : Type 0} {eq : K → K → Bool} (laws : IsEquivalence eq) (k : K
         rw absent_here len,
       )
 
-      is_map : IsMap eq (at ++ (k, v) ∷ [])
+      is_map : IsNonEmptyMap eq (at ++ (k, v) ∷ [])
       is_map = (
         subst (IsDistinct eq) (sym (map-append (λ e. e.0) at ((k, v) ∷ [])))
             (IsDistinct-push laws (keys_of at) k map.0

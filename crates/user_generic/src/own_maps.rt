@@ -17,13 +17,13 @@ pub struct PairMap<K: Eq, V> {
 
 impl<K: Eq, V> Model for PairMap<K, V> {
     ghost use Rattle.std.specs.Prelude.{List};
-    ghost use Rattle.ne_laws.specs.Maps.{IsMap};
+    ghost use Rattle.ne_laws.specs.Maps.{IsNonEmptyMap};
 
     ghost Value = { List (K × V) };
 
     ghost view = { λ m. m.pairs };
 
-    ghost invariant = { λ m. IsMap K.eq m.pairs };
+    ghost invariant = { λ m. IsNonEmptyMap K.eq m.pairs };
 }
 
 impl<K: Eq + Drop, V: Drop> PairMap<K, V> {

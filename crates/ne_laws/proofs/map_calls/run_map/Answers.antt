@@ -1,12 +1,11 @@
 use Rattle.ne_laws.proofs.map_calls.run_map.Goals as goal
 use Rattle.std.proofs.Common.{◌∷◌, [], ◌++◌, sym}
 use Rattle.std.specs.Vec.Iter.{into_iter_items}
-use Rattle.ne_laws.proofs.CallsSoFar.{as_many, left_after, on_err}
-use Rattle.ne_laws.proofs.MapCalls.{one_more}
+use Rattle.ne_laws.proofs.CallsSoFar.{as_many, left_after, on_err, one_more}
 
 pub loop-call-preserved : goal.loop-call-preserved
 loop-call-preserved g c = record {
-  run = rw c.in_ok-push.ensures.items (one_more g.K.PartialEq.eq _ c.loop-call.yielded
+  run = rw c.in_ok-push.ensures.items (one_more _ _ _ c.loop-call.yielded
       c.loop-call.replies.items _ c.in-Some.call c.in_ok-reply.reply _
       c.loop-call.invariant.run c.in_ok-reply.ensures.step c.reply_to.ensures.map);
   map = c.reply_to.ensures.map;
@@ -23,7 +22,7 @@ returns-in_err-push-clause-refused g c =
       c.loop-call.replies.items ++ c.in_ok-reply.reply ∷ [],
       sym (left_after c.loop-call.yielded c.in-Some.call _ _ _ c.in-Some.ensures.steps.0
           c.loop-call.invariant.left),
-      one_more g.K.PartialEq.eq _ c.loop-call.yielded c.loop-call.replies.items _ c.in-Some.call
+      one_more _ _ _ c.loop-call.yielded c.loop-call.replies.items _ c.in-Some.call
           c.in_ok-reply.reply _ c.loop-call.invariant.run c.in_ok-reply.ensures.step
           c.reply_to.ensures.map,
     )

@@ -1,14 +1,13 @@
 use Rattle.ne_laws.proofs.vector_calls.run_vec.Goals as goal
-use Rattle.std.proofs.Common.{rules, ◌<◌, ◌∷◌, [], ◌++◌, length, sym}
+use Rattle.std.proofs.Common.{◌∷◌, [], ◌++◌, sym}
 use Rattle.std.specs.Vec.Iter.{into_iter_items}
-use Rattle.ne_laws.proofs.CallsSoFar.{as_many, left_after, on_err}
-use Rattle.ne_laws.proofs.VectorCalls.{one_more}
+use Rattle.ne_laws.proofs.CallsSoFar.{as_many, left_after, on_err, one_more}
 
 pub loop-call-preserved : goal.loop-call-preserved
 loop-call-preserved g c =
     let some = c.is_empty-after.ensures.nonempty in
     record {
-      run = rw c.in_ok-push.ensures.items (one_more _ c.loop-call.yielded
+      run = rw c.in_ok-push.ensures.items (one_more _ _ _ c.loop-call.yielded
           c.loop-call.replies.items _ c.in-Some.call c.in_ok-reply.reply _
           c.loop-call.invariant.run c.in_ok-reply.ensures.step some);
       some = some;
@@ -26,6 +25,6 @@ returns-in_err-push-clause-refused g c =
       c.loop-call.replies.items ++ c.in_ok-reply.reply ∷ [],
       sym (left_after c.loop-call.yielded c.in-Some.call _ _ _ c.in-Some.ensures.steps.0
           c.loop-call.invariant.left),
-      one_more _ c.loop-call.yielded c.loop-call.replies.items _ c.in-Some.call
+      one_more _ _ _ c.loop-call.yielded c.loop-call.replies.items _ c.in-Some.call
           c.in_ok-reply.reply _ c.loop-call.invariant.run c.in_ok-reply.ensures.step some,
     )
