@@ -18,8 +18,7 @@ join-cons : (first : ℕ) (rest : List ℕ) → join_with_byte 32 (map decimal (
 join-cons first [] = sym (append-nil (decimal first))
 join-cons first (next ∷ rest) = ap (λ t. decimal first ++ (32 ∷ t)) (join-cons next rest)
 
--- `begun` is the text with the row's first number, and `written` the text with all of its numbers.
--- A line feed ends the row that was written.
+-- A line feed ends the row: `begun` is the text with its first number, `written` that with all.
 pub row_written : {E : Type 0} (r : Result (Unit {0}) E) (old begun written new : List ℕ)
     (first : ℕ) (rest : List ℕ) → begun ≡ old ++ decimal first
     → written ≡ begun ++ flat_map behind rest → new ≡ cond (is_ok r) (written ++ 10 ∷ []) written

@@ -7,6 +7,7 @@ use Rattle.ne_runs.specs.Lines.{lines_of, is_bad}
 use Rattle.ne_runs.specs.declared.fault.Fault.{Fault}
 use Rattle.ne_runs.specs.declared.fault.Fault.TheVariants.{Empty, BadLine, TooLong, Usage, Read}
 use Rattle.ne_runs.specs.declared.fault.Fault.TheVariants.{Write, Memory}
+use Rattle.ne_runs.specs.declared.whole_run.TheConstants.{LIMIT}
 
 -- The text that a fault prints.
 abbrev pub fault_text : Fault → List ℕ
@@ -28,10 +29,6 @@ fault_status Read = 3
 fault_status Write = 3
 fault_status Memory = 4
 
--- The greatest number of bytes that a run accepts.
-abbrev pub most_bytes : ℕ
-most_bytes = 1048576
-
 -- The fault of the first bad line, if there is one. Lines count from 1.
 abbrev pub bad_line : List (List ℕ) → Option Fault
 bad_line lines = option_map (λ place. BadLine (place + 1)) (position is_bad lines)
@@ -43,5 +40,5 @@ fault_of_lines (line ∷ lines) = bad_line (line ∷ lines)
 
 -- The fault of an input: `TooLong` if it is too long, and otherwise the fault of its lines.
 abbrev pub fault_of : List ℕ → Option Fault
-fault_of input = if nat_lt most_bytes (length input) then Some TooLong else fault_of_lines
+fault_of input = if nat_lt LIMIT (length input) then Some TooLong else fault_of_lines
     (lines_of input)

@@ -18,8 +18,7 @@ pub record EndsOpen (text : List ℕ) (lines : List (List ℕ)) : Type 0 where
   pub not_empty : last ≢ []
   pub joined : text ≡ flat_map ended prefix ++ last
 
--- No line holds a line feed. Each line is ended, except perhaps a last one that is not empty.
--- The text consists of these lines.
+-- The text consists of these lines, each ended, except perhaps a last one that is not empty.
 pub record AreLines (text : List ℕ) (lines : List (List ℕ)) : Type 0 where
   pub no_feed : AllByRecursion (AllByRecursion (λ byte. byte ≢ 10)) lines
   pub joined : (text ≡ flat_map ended lines) ⊎ EndsOpen text lines

@@ -74,14 +74,8 @@ AreRows Chain numbers rows = IsDivision (by_previous is_near) numbers rows
 abbrev pub row_text : List ℕ → List ℕ
 row_text row = join_with_byte 32 (map decimal row) ++ 10 ∷ []
 
--- `goes_on` says whether a number continues a run.
--- The text is one line for each run of the numbers.
-abbrev pub HasRowOfEachRun : (List ℕ → ℕ → Bool) → List ℕ → List ℕ → Type 0
-HasRowOfEachRun goes_on numbers text =
-    (rows : List (List ℕ)) × IsDivision goes_on numbers rows × (text ≡ flat_map row_text rows)
-
--- The text that a mode writes for numbers: its rows, one line each.
-pub record IsText (mode : Mode) (numbers text : List ℕ) : Type 0 where
+-- The text is rows for which `are_rows` holds, one line each.
+pub record IsText (are_rows : List (List ℕ) → Type 0) (text : List ℕ) : Type 0 where
   pub rows : List (List ℕ)
-  pub of_mode : AreRows mode numbers rows
+  pub holds : are_rows rows
   pub written : text ≡ flat_map row_text rows

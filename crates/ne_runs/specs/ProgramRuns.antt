@@ -4,9 +4,10 @@ use Rattle.std.specs.Prelude.{◌≡◌, ℕ, ◌+◌, ◌⊎◌, List, [], ◌+
 use Rattle.std.specs.Prelude.{MatchResult}
 use Rattle.std.specs.Io.KnownBytes.{Appends, Consumes, IsAtEnd}
 use Rattle.ne_runs.specs.Lines.{numbers_of}
-use Rattle.ne_runs.specs.Modes.{IsText}
-use Rattle.ne_runs.specs.Faults.{fault_of, most_bytes}
+use Rattle.ne_runs.specs.Modes.{AreRows, IsText}
+use Rattle.ne_runs.specs.Faults.{fault_of}
 use Rattle.ne_runs.specs.declared.mode.Mode.{Mode}
+use Rattle.ne_runs.specs.declared.whole_run.TheConstants.{LIMIT}
 use Rattle.ne_runs.specs.declared.fault.Fault.{Fault}
 use Rattle.ne_runs.specs.declared.fault.Fault.TheVariants.{Write}
 
@@ -20,13 +21,10 @@ pub record TakesPart (text rest : List ℕ) (taken taken' : Option (List ℕ)) :
 pub record WritesBut (rest : List ℕ) (mode : Mode) (input : List ℕ)
     (taken taken' : Option (List ℕ)) : Type 0 where
   pub text : List ℕ
-  pub is_text : IsText mode (numbers_of input) text
+  pub is_text : IsText (AreRows mode (numbers_of input)) text
   pub takes : TakesPart text rest taken taken'
 
--- If the result is `Ok`, the input has no fault and the whole text was written. An `Err` has the
--- fault of the input. If there is none, the error is `Write`: a write or the flush failed, and a
--- rest of the text, perhaps empty, was left.
--- The result of a run that has read this input, and what the writer took.
+-- The run wrote the whole text for the input, or returns the input's fault, or failed to write.
 abbrev pub EndsWith : Mode → List ℕ → Option (List ℕ) → Option (List ℕ) → Result (Unit {0}) Fault
     → Type 0
 EndsWith mode input taken taken' result =
@@ -36,11 +34,10 @@ EndsWith mode input taken taken' result =
     ⊎ ((fault_of input ≡ None) × (fault ≡ Write)
     × ((rest : List ℕ) × WritesBut rest mode input taken taken')))
 
--- The run reads the whole input, or one byte more than it accepts, and ends as `EndsWith` says.
--- A run in which no read and no allocation fails.
+-- A run in which no read and no allocation fails: it reads the input, and ends as `EndsWith` says.
 pub record Completes (mode : Mode) (left left' taken taken' : Option (List ℕ))
     (result : Result (Unit {0}) Fault) : Type 0 where
   pub input : List ℕ
   pub read : Consumes left left' input
-  pub whole : (IsAtEnd left') ⊎ (length input ≡ most_bytes + 1)
+  pub whole : (IsAtEnd left') ⊎ (length input ≡ LIMIT + 1)
   pub ends : EndsWith mode input taken taken' result

@@ -15,7 +15,7 @@ pub enum Fault {
     Empty,
     /// A line of the input is bad. The number is that of the first bad line, counted from 1.
     BadLine(u32),
-    /// The input has more than 1,048,576 bytes.
+    /// The input has more than [`LIMIT`](crate::whole_run::LIMIT) bytes.
     TooLong,
     /// There is not exactly one word, or it names no mode. Nothing was read.
     Usage,

@@ -3,9 +3,10 @@ ghost use Rattle.std.specs.Prelude.{◌≡◌, ℕ, ◌+◌, ◌^◌, ◌==◌, 
 ghost use Rattle.std.specs.Prelude.{position, None, Some, IfOk, MatchOption, MatchResult, true};
 ghost use Rattle.std.specs.Prelude.{false};
 ghost use Rattle.std.specs.Fmt.{decimal};
-ghost use Rattle.ne_runs.specs.Faults.{bad_line, most_bytes};
+ghost use Rattle.ne_runs.specs.Faults.{bad_line};
 ghost use Rattle.ne_runs.specs.Lines.{AreLines, lines_of, is_number, number_of, numbers_of};
 ghost use Rattle.ne_runs.specs.Lines.{place_value};
+ghost use Rattle.ne_runs.specs.declared.whole_run.TheConstants.{LIMIT};
 
 use crate::fault::Fault;
 use std::alloc::Global;
@@ -68,7 +69,7 @@ fn number(line: &[u8]) -> Option<u32>
 /// The sum of the numbers fits in 64 bits: there are no more numbers than bytes, and each number
 /// fits in 32 bits.
 pub fn numbers(alloc: Global, text: &[u8]) -> Result<Vec<u32>, Fault>
-    requires { length text.now ≤ most_bytes }
+    requires { length text.now ≤ LIMIT }
     ensures fits { IfOk result (λ numbers. sum numbers.items < 2 ^ 64) }
     ensures lines { MatchResult result
         (λ numbers. (bad_line (lines_of text.now) ≡ None) × (numbers.items ≡ numbers_of text.now))

@@ -4,11 +4,9 @@
 ghost use Rattle.std.specs.Prelude.{◌≡◌, ◌^◌, ◌<◌, ◌∷◌, ◌++◌, OnOk, IfOk, string_bytes, List, ℕ};
 ghost use Rattle.std.specs.Prelude.{Bool, length, sum, true};
 ghost use Rattle.std.specs.Iterator.{IsFiniteIterable};
-ghost use Rattle.std.specs.List.{flat_map};
-ghost use Rattle.nonempty_collections.specs.Divisions.{by_first, by_previous};
+ghost use Rattle.nonempty_collections.specs.Divisions.{IsDivision, by_first, by_previous};
 ghost use Rattle.nonempty_collections.specs.SliceRuns.{ActsAsAtPair, CallableAtPairs};
-ghost use Rattle.ne_runs.specs.Modes.{row_text, AreRows, HasRowOfEachRun, IsText, IsLeast};
-ghost use Rattle.ne_runs.specs.Modes.{IsGreatest};
+ghost use Rattle.ne_runs.specs.Modes.{row_text, AreRows, IsText, IsLeast, IsGreatest};
 ghost use Rattle.ne_runs.specs.declared.mode.Mode.{Mode};
 
 use crate::mode::Mode;
@@ -40,7 +38,7 @@ impl Mode {
     /// The sum of the numbers must fit in 64 bits, whichever mode it is.
     pub fn text(&self, alloc: Global, numbers: &NEVec<u32>) -> Result<String, AllocError>
         requires { sum numbers.now < 2 ^ 64 }
-        ensures { IfOk result (λ text. IsText self.now numbers.now (string_bytes text)) }
+        ensures { IfOk result (λ text. IsText (AreRows self.now numbers.now) (string_bytes text)) }
     {
         match self {
             Mode::Ends => ends_text(alloc, numbers),
@@ -56,7 +54,7 @@ impl Mode {
 
 // How many numbers there are, the first and the last.
 fn ends_text(alloc: Global, numbers: &NEVec<u32>) -> Result<String, AllocError>
-    ensures { IfOk result (λ text. IsText Mode.Ends numbers.now (string_bytes text)) }
+    ensures { IfOk result (λ text. IsText (AreRows Mode.Ends numbers.now) (string_bytes text)) }
 {
     let mut text = String::new(alloc);
     let count = numbers.len().get() as u64;
@@ -69,7 +67,7 @@ fn ends_text(alloc: Global, numbers: &NEVec<u32>) -> Result<String, AllocError>
 // The least number, the greatest and the sum of all.
 fn stats_text(alloc: Global, numbers: &NEVec<u32>) -> Result<String, AllocError>
     requires { sum numbers.now < 2 ^ 64 }
-    ensures { IfOk result (λ text. IsText Mode.Stats numbers.now (string_bytes text)) }
+    ensures { IfOk result (λ text. IsText (AreRows Mode.Stats numbers.now) (string_bytes text)) }
 {
     let mut text = String::new(alloc);
     let least = u64::from(least(numbers));
@@ -80,21 +78,21 @@ fn stats_text(alloc: Global, numbers: &NEVec<u32>) -> Result<String, AllocError>
 
 // The runs of equal numbers.
 fn equal_text(alloc: Global, numbers: &NEVec<u32>) -> Result<String, AllocError>
-    ensures { IfOk result (λ text. IsText Mode.Equal numbers.now (string_bytes text)) }
+    ensures { IfOk result (λ text. IsText (AreRows Mode.Equal numbers.now) (string_bytes text)) }
 {
     text_by_first(alloc, numbers, |a, b| *a == *b)
 }
 
 // The runs of numbers that are all even or all odd.
 fn parity_text(alloc: Global, numbers: &NEVec<u32>) -> Result<String, AllocError>
-    ensures { IfOk result (λ text. IsText Mode.Parity numbers.now (string_bytes text)) }
+    ensures { IfOk result (λ text. IsText (AreRows Mode.Parity numbers.now) (string_bytes text)) }
 {
     text_by_first(alloc, numbers, |a, b| (*a % 2 == 0) == (*b % 2 == 0))
 }
 
 // Each number once, in the order in which they first appear.
 fn distinct_text(alloc: Global, numbers: &NEVec<u32>) -> Result<String, AllocError>
-    ensures { IfOk result (λ text. IsText Mode.Distinct numbers.now (string_bytes text)) }
+    ensures { IfOk result (λ text. IsText (AreRows Mode.Distinct numbers.now) (string_bytes text)) }
 {
     let distinct: NEIndexSet<u32> = numbers.nonempty_iter().copied().collect(alloc)?;
     let mut text = String::new(alloc);
@@ -104,14 +102,14 @@ fn distinct_text(alloc: Global, numbers: &NEVec<u32>) -> Result<String, AllocErr
 
 // The runs of numbers that differ from their run's first by at most 1.
 fn near_text(alloc: Global, numbers: &NEVec<u32>) -> Result<String, AllocError>
-    ensures { IfOk result (λ text. IsText Mode.Near numbers.now (string_bytes text)) }
+    ensures { IfOk result (λ text. IsText (AreRows Mode.Near numbers.now) (string_bytes text)) }
 {
     text_by_first(alloc, numbers, |a, b| a.abs_diff(*b) <= 1)
 }
 
 // The runs of numbers that differ from the one before by at most 1.
 fn chain_text(alloc: Global, numbers: &NEVec<u32>) -> Result<String, AllocError>
-    ensures { IfOk result (λ text. IsText Mode.Chain numbers.now (string_bytes text)) }
+    ensures { IfOk result (λ text. IsText (AreRows Mode.Chain numbers.now) (string_bytes text)) }
 {
     text_by_previous(alloc, numbers, |a, b| a.abs_diff(*b) <= 1)
 }
@@ -124,7 +122,7 @@ fn text_by_first<F: Fn(&u32, &u32) -> bool>(
 ) -> Result<String, AllocError>
     requires { CallableAtPairs F.Fn same numbers.now }
     ensures { IfOk result (λ text. (h : ℕ → ℕ → Bool) → ActsAsAtPair F.Fn same h
-        → HasRowOfEachRun (by_first h) numbers.now (string_bytes text)) }
+        → IsText (IsDivision (by_first h) numbers.now) (string_bytes text)) }
 {
     slice_runs_are_the_division::<u32, F>();
     let items = numbers.as_nonempty_slice();
@@ -139,7 +137,7 @@ fn text_by_previous<F: Fn(&u32, &u32) -> bool>(
 ) -> Result<String, AllocError>
     requires { CallableAtPairs F.Fn same numbers.now }
     ensures { IfOk result (λ text. (h : ℕ → ℕ → Bool) → ActsAsAtPair F.Fn same h
-        → HasRowOfEachRun (by_previous h) numbers.now (string_bytes text)) }
+        → IsText (IsDivision (by_previous h) numbers.now) (string_bytes text)) }
 {
     slice_runs_are_the_division::<u32, F>();
     let items = numbers.as_nonempty_slice();
@@ -152,9 +150,7 @@ fn text_of_runs<'a, R: NonEmptyIterator<Item = NESlice<'a, u32>>>(
     runs: R,
 ) -> Result<String, AllocError>
     requires { IsFiniteIterable R.into_iter_gives R.IntoIter.can_next R.IntoIter.remaining runs }
-    ensures { IfOk result (λ text. (rows : List (List ℕ))
-        × ⟦<R as Source>⟧.reads true runs rows
-        × (string_bytes text ≡ flat_map row_text rows)) }
+    ensures { IfOk result (λ text. IsText (⟦<R as Source>⟧.reads true runs) (string_bytes text)) }
 {
     let mut text = String::new(alloc);
     for run in runs {

@@ -3,7 +3,6 @@ ghost use Rattle.std.specs.Prelude.{◌≡◌, ◌≢◌, ℕ, ◌+◌, ◌⊎�
 ghost use Rattle.std.specs.Prelude.{false, None, IfOk, IfErr, OnOk, OnErr, IfSome, IsErr, IsTrue};
 ghost use Rattle.std.specs.Prelude.{IsErrOf, MatchResult, string_bytes};
 ghost use Rattle.std.specs.Io.KnownBytes.{Consumes, IsAtEnd};
-ghost use Rattle.ne_runs.specs.Faults.{most_bytes};
 ghost use Rattle.ne_runs.specs.Modes.{mode_of};
 ghost use Rattle.ne_runs.specs.ProgramRuns.{Completes, TakesPart};
 
@@ -40,7 +39,7 @@ fn read_all<R: Source>(alloc: Global, reader: &mut R) -> Result<Vec<u8>, Fault>
     ensures bytes { IfOk result (λ input. Consumes (R.left reader.old) (R.left reader.new)
         input.items) }
     ensures whole { IfOk result (λ input. IsAtEnd (R.left reader.new)
-        ⊎ (length input.items ≡ most_bytes + 1)) }
+        ⊎ (length input.items ≡ LIMIT + 1)) }
 {
     let mut input = Vec::new(alloc);
     let mut chunk = [0u8; CHUNK];

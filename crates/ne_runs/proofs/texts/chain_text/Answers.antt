@@ -5,5 +5,4 @@ use Rattle.ne_runs.specs.Modes.{is_near}
 
 pub returns : goal.returns
 returns c = IfOk-weaker c.text_by_previous.result _ _ (λ text says.
-    let made = says is_near (λ x y r answered. search rules) in
-    record { rows = made.0; of_mode = made.1; written = made.2 }) c.text_by_previous.ensures
+    says is_near (λ x y r answered. search rules)) c.text_by_previous.ensures

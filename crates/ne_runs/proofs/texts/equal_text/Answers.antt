@@ -5,5 +5,4 @@ use Rattle.std.specs.Prelude.{nat_eq}
 
 pub returns : goal.returns
 returns c = IfOk-weaker c.text_by_first.result _ _ (λ text says.
-    let made = says nat_eq (λ x y r answered. search rules) in
-    record { rows = made.0; of_mode = made.1; written = made.2 }) c.text_by_first.ensures
+    says nat_eq (λ x y r answered. search rules)) c.text_by_first.ensures

@@ -6,5 +6,5 @@ use Rattle.ne_runs.specs.Modes.{is_even}
 
 pub returns : goal.returns
 returns c = IfOk-weaker c.text_by_first.result _ _ (λ text says.
-    let made = says (λ m n. beq (is_even m) (is_even n)) (λ x y r answered. search rules) in
-    record { rows = made.0; of_mode = made.1; written = made.2 }) c.text_by_first.ensures
+    says (λ m n. beq (is_even m) (is_even n)) (λ x y r answered. search rules))
+    c.text_by_first.ensures

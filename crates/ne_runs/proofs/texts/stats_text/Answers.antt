@@ -4,7 +4,7 @@ use Rattle.std.proofs.Common.{◌∷◌, [], rules}
 pub returns : goal.returns
 returns c = record {
   rows = (c.from-least.result ∷ c.from-greatest.result ∷ c.sum.result ∷ []) ∷ [];
-  of_mode = (
+  holds = (
     c.least.result,
     c.greatest.result,
     c.least.ensures,

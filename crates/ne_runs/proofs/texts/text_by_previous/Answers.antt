@@ -10,9 +10,9 @@ returns g c = IfOk-weaker c.text_of_runs.result _ _ (λ text made h acts.
     let holds = c.adjacent_runs.ensures.holds in
     let acts_here = subst (λ s. ActsAsAtPair g.F.Fn s.closure h) (sym holds) acts in
     let whole = c.slice_runs_are_the_division.ensures.by_previous runs h acts_here in
-    let prefix = whole.2 true made.0 made.1 in
-    let rows = prefix.1 ∙ ap (λ l. made.0 ++ l) (prefix.2 refl) ∙ append-nil made.0 in
+    let prefix = whole.2 true made.rows made.holds in
+    let rows = prefix.1 ∙ ap (λ l. made.rows ++ l) (prefix.2 refl) ∙ append-nil made.rows in
     let numbers = ap (λ s. s.left) holds ∙ c.as_nonempty_slice-items.ensures in
     let divided = subst (λ rs. IsDivision (by_previous h) runs.left rs) rows whole.1 in
-    let of_numbers = subst (λ xs. IsDivision (by_previous h) xs made.0) numbers divided in
-    (made.0, of_numbers, made.2)) c.text_of_runs.ensures
+    let of_numbers = subst (λ xs. IsDivision (by_previous h) xs made.rows) numbers divided in
+    record { rows = made.rows; holds = of_numbers; written = made.written }) c.text_of_runs.ensures
