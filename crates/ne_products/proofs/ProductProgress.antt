@@ -1,14 +1,14 @@
 -- A call of a product's iterator that begins a row brings it nearer to its end.
-use Rattle.std.proofs.Common.{rules, arith, subst, sym, ap, inl, inr, ◌⊎◌, ◌∙◌}
+use Rattle.std.proofs.Common.{rules, arith, subst, sym, ap, inl, inr, ◌∙◌}
 use Rattle.std.proofs.Math.Nat.{mul-le-mul_right}
 use Rattle.std.proofs.lemmas.Option.{MatchOption-at_some}
-use Rattle.std.specs.Prelude.{◌≡◌, ℕ, ◌+◌, ◌*◌, ◌<◌, ◌≤◌, Bool, true, false, None, Some, Result, Ok}
+use Rattle.std.specs.Prelude.{◌≡◌, ℕ, ◌+◌, ◌*◌, ◌<◌, ◌≤◌, Bool, true, false, Some, Result, Ok}
 use Rattle.std.specs.Prelude.{Err, refl}
 use Rattle.std.specs.Iterator.{Count, IsFinite, size, count_map, count_unless, MakesProgress}
 use Rattle.std.specs.Option.{option_len}
 use Rattle.ne_products.specs.declared.products.ProductIter.{ProductIter}
 use Rattle.ne_products.specs.Product.{left_of, right_of, row_of, restart_of, is_exhausted}
-use Rattle.ne_products.specs.Product.{CanRestart, CanPair, pairs_left, row_size, PairsItems}
+use Rattle.ne_products.specs.Product.{IsRowItem, CanRestart, CanPair, pairs_left, row_size, PairsItems}
 
 live_count : (b : Bool) (c : Count) → b ≡ false → count_unless b c ≡ c
 live_count false c e = refl
@@ -46,8 +46,7 @@ module _ {I J A : Type 0} (lefts : I → Count) (rights : J → Count) where
 
     -- w is the item of the row, and l is the left side at that point.
     abbrev Row : A → I → Type 0
-    Row w l = ((row_of s ≡ Some w) × (l ≡ left_of s))
-        ⊎ ((row_of s ≡ None) × MakesProgress can_left lefts (left_of s) (Some w) l)
+    Row = IsRowItem (MakesProgress can_left lefts) s
 
     row_found : (w : A) (l : I) → Row w l → IsFinite (lefts (left_of s)) → IsFinite (lefts l)
         × (size (lefts l) + 1 ≤ size (lefts (left_of s)) + option_len (row_of s))

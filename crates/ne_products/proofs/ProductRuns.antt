@@ -36,7 +36,7 @@ module _ {I J A B : Type 0} (E refused : Type 0) (lefts : I → Option A → I �
   Pair = GivesPair lefts rights clones infallible copies certain
 
   abbrev Of : State → A → I → Type 0
-  Of = IsRowItem lefts rights clones infallible copies certain
+  Of = IsRowItem lefts
 
   abbrev Refuses : State → Type 0
   Refuses = RefusesClone lefts rights clones infallible copies certain

@@ -67,22 +67,23 @@ MakesProduct lefts rights clones infallible s it = lefts (product_first s) (left
     × MatchOption (restart_of it) (infallible (right_of it) → ⊥) (clones (right_of it))
     × (row_of it ≡ None) × (is_exhausted it ≡ false)
 
+-- x is the item of this row, held or drawn now, and l is the left side after x was drawn.
+abbrev pub IsRowItem : {I J A : Type 0} → (I → Option A → I → Type 0) → ProductIter I J A → A → I
+    → Type 0
+IsRowItem draws s x l = ((row_of s ≡ Some x) × (l ≡ left_of s))
+    ⊎ ((row_of s ≡ None) × draws (left_of s) (Some x) l)
+
 module _ {I J A B : Type 0} (lefts : I → Option A → I → Type 0)
     (rights : J → Option B → J → Type 0) (clones : A → A → Type 0) (infallible : A → Type 0)
     (copies : J → J → Type 0) (certain : J → Type 0) where
-  -- x is the item of this row, held or drawn now, and l is the left side after x was drawn.
-  abbrev pub IsRowItem : ProductIter I J A → A → I → Type 0
-  IsRowItem s x l = ((row_of s ≡ Some x) × (l ≡ left_of s))
-      ⊎ ((row_of s ≡ None) × lefts (left_of s) (Some x) l)
-
   -- This row has ended, l is the left side after its item, and P holds for `restart_of` s.
   abbrev pub EndsRow : ProductIter I J A → I → (J → Type 0) → Type 0
-  EndsRow s l P = (w : A) × (j : J) × (c : J) × IsRowItem s w l × rights (right_of s) None j
+  EndsRow s l P = (w : A) × (j : J) × (c : J) × IsRowItem lefts s w l × rights (right_of s) None j
       × (restart_of s ≡ Some c) × P c
 
   -- The next pair is that of x and y, in this row or the next, and the sides are l and r after it.
   abbrev pub IsNextPair : ProductIter I J A → A → B → I → J → Type 0
-  IsNextPair s x y l r = (IsRowItem s x l × rights (right_of s) (Some y) r)
+  IsNextPair s x y l r = (IsRowItem lefts s x l × rights (right_of s) (Some y) r)
       ⊎ ((k : I) × (d : J) × EndsRow s k (λ c. copies c d) × lefts k (Some x) l
       × rights d (Some y) r)
 
@@ -94,7 +95,7 @@ module _ {I J A B : Type 0} (lefts : I → Option A → I → Type 0)
   -- The product has ended: the left side has, or the right side began again with no item.
   abbrev pub EndsPairs : ProductIter I J A → Type 0
   EndsPairs s = ((u : I) × (row_of s ≡ None) × lefts (left_of s) None u)
-      ⊎ (((w : A) × (l : I) × (j : J) × (u : I) × IsRowItem s w l × rights (right_of s) None j
+      ⊎ (((w : A) × (l : I) × (j : J) × (u : I) × IsRowItem lefts s w l × rights (right_of s) None j
       × lefts l None u)
       ⊎ ((l : I) × (d : J) × (x : A) × (u : I) × (k : J) × EndsRow s l (λ c. copies c d)
       × lefts l (Some x) u × rights d None k))

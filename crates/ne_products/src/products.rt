@@ -1,11 +1,13 @@
 //! Products of two non-empty iterators, and whether the items of one are distinct.
-ghost use Rattle.std.specs.Prelude.{◌≡◌, IfOk};
+ghost use Rattle.std.specs.Prelude.{◌≡◌, IfOk, MatchOption, None};
+ghost use Rattle.std.specs.Iterator.{MakesProgress};
 ghost use Rattle.ne_vec.specs.Lists.{EachList, itself};
 ghost use Rattle.ne_iter.specs.SourceLists.{BecomesList};
 ghost use Rattle.ne_iter.specs.Sources.{ReadsList};
 ghost use Rattle.ne_products.specs.Pairs.{CanRefuse};
 ghost use Rattle.ne_products.specs.Product.{product_first, product_second, restart_of, PairsItems};
-ghost use Rattle.ne_products.specs.Product.{PairsNext, TriesRestart};
+ghost use Rattle.ne_products.specs.Product.{PairsNext, TriesRestart, IsRowItem, is_exhausted};
+ghost use Rattle.ne_products.specs.Product.{left_of, right_of, row_of};
 ghost use Rattle.ne_products.specs.Restarts.{ClonesAgain, ClonesYield, HasExactClones};
 ghost use Rattle.ne_products.specs.Restarts.{NeverRefuses, PairsListed, PairsLists, YieldsPairs};
 ghost use Rattle.ne_products.specs.Unique.{ChecksDistinct, ChecksUnique};
@@ -171,7 +173,6 @@ where
     J::Item: Drop,
     J::IntoIter: Clone,
 {
-    ghost use Rattle.ne_products.specs.Product.{left_of, right_of};
     ghost use Rattle.ne_products.specs.ProductLaws.{HasFirst-product};
 
     ghost not_empty = { λ s it made. HasFirst-product I.IntoIter.next_gives J.IntoIter.next_gives
@@ -225,10 +226,7 @@ where
         if self.restart.is_none() {
             return Some(Err(AllocError));
         }
-        let row = match self.row.take() {
-            Some(row) => row,
-            None => self.left.next()?,
-        };
+        let row = self.row()?;
         if let Some(right) = self.right.next() {
             return Some(self.pair(row, right));
         }
@@ -247,6 +245,23 @@ where
     I::Item: Clone + Drop,
     J::Item: Drop,
 {
+    // Returns the item of this row, which is drawn from the left side if none is held.
+    fn row(&mut self) -> Option<I::Item>
+        requires { row_of self.old ≡ None → I.can_next (left_of self.old) }
+        ensures row { MatchOption result
+            ((row_of self.old ≡ None) × I.next_gives (left_of self.old) None (left_of self.new))
+            (λ x. IsRowItem I.next_gives self.old x (left_of self.new)
+            × IsRowItem (MakesProgress I.can_next I.remaining) self.old x (left_of self.new)) }
+        ensures right { right_of self.new ≡ right_of self.old }
+        ensures restart { restart_of self.new ≡ restart_of self.old }
+        ensures exhausted { is_exhausted self.new ≡ is_exhausted self.old }
+    {
+        match self.row.take() {
+            Some(row) => Some(row),
+            None => self.left.next(),
+        }
+    }
+
     // Returns the pair of a clone of `row` and `right`. The row continues only if the clone
     // succeeds.
     fn pair(&mut self, row: I::Item, right: J::Item) -> Result<(I::Item, J::Item), AllocError>
