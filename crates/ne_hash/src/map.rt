@@ -2,39 +2,37 @@
 //!
 //! An [`NEMap`] finds a key by its hash, and iterates in an unspecified order. Keys are compared by
 //! `==`. A key that is in the map stays as it is if an equal one is inserted.
-ghost use Rattle.std.specs.Prelude.{◌≡◌, ◌+◌, ◌<◌, ◌≤◌, ◌^◌, ◌++◌, [], ◌∷◌, false, None};
-ghost use Rattle.std.specs.Prelude.{if◌then◌else◌, is_some, length, IfOk, IfSome, IsOk, IsSome};
-ghost use Rattle.std.specs.Prelude.{MatchOption, OnErr, OnOk, Some, ◌↔◌, Bool, Contains, IsErr};
-ghost use Rattle.std.specs.Prelude.{IsTrue};
+ghost use Rattle.std.specs.Prelude.{◌≡◌, ◌+◌, ◌<◌, ◌≤◌, ◌^◌, ◌++◌, [], ◌∷◌, if◌then◌else◌, ◌↔◌};
+ghost use Rattle.std.specs.Prelude.{false, is_some, length, None, IfOk, IfSome, IsOk, IsSome};
+ghost use Rattle.std.specs.Prelude.{MatchOption, OnErr, OnOk, Some, Bool, Contains, IsErr, IsTrue};
 ghost use Rattle.std.specs.HashMap.{get, get_key, hash_map_len, hasher_of, keys, spare, values};
-ghost use Rattle.std.specs.HashMap.{IsEmpty, IsReordered, IsUnchanged, PutsEntry};
-ghost use Rattle.std.specs.HashMap.{IsClone, Updates};
-ghost use Rattle.std.specs.HashMap.IterMut.{iter_mut_rest, IterMutCanStep, values_mut_rest};
-ghost use Rattle.std.specs.HashMap.IterMut.{values_mut_steps};
+ghost use Rattle.std.specs.HashMap.{IsEmpty, IsReordered, IsUnchanged, PutsEntry, IsClone, Updates};
+ghost use Rattle.std.specs.HashMap.IterMut.{iter_mut_rest, values_mut_rest, values_mut_steps};
+ghost use Rattle.std.specs.HashMap.IterMut.{IterMutCanStep};
 ghost use Rattle.std.specs.HashMap.Lent.{KeepsKeys};
 ghost use Rattle.std.specs.Borrow.{sem};
 ghost use Rattle.std.specs.Int.NonZero.{non_zero_usize_get};
 ghost use Rattle.std.specs.Iterator.{ExtendsWithItems, IsFiniteIterable};
 ghost use Rattle.std.specs.List.{IsAmong};
-ghost use Rattle.std.specs.Map.Iter.{LendsValuesInOrder, ShowsInOrder, ShowsValuesInOrder, deref};
-ghost use Rattle.std.specs.Map.Iter.{deref_pair};
+ghost use Rattle.std.specs.Map.Iter.{deref, deref_pair, LendsValuesInOrder, ShowsInOrder};
+ghost use Rattle.std.specs.Map.Iter.{ShowsValuesInOrder};
 ghost use Rattle.std.specs.Option.{option_copied, option_copied_mut, option_map};
 ghost use Rattle.std.specs.Set.{is_member};
-ghost use Rattle.ne_vec.specs.Lists.{itself};
-ghost use Rattle.ne_iter.specs.Collected.{IsMapOf};
-ghost use Rattle.ne_iter.specs.ExtendLists.{ExtendsByList};
-ghost use Rattle.ne_iter.specs.KeyIterators.{ListsEntries, KnownByValue, ListsEntriesByValue};
-ghost use Rattle.ne_iter.specs.SourceLists.{MeetsList};
-ghost use Rattle.ne_hash.specs.HashLends.{std_iterator, LendsValue, LendsValues, LendsValuesAlone};
-ghost use Rattle.ne_hash.specs.HashLends.{std_values};
-ghost use Rattle.ne_iter.specs.KeyClones.{KeepsEntries};
-ghost use Rattle.ne_hash.specs.ValidHashMap.{IsValid};
 ghost use Rattle.std.specs.Iterator.Runs.{YieldsMutRefsInOrder};
 ghost use Rattle.std.specs.List.Sorted.{IsPermutation};
 ghost use Rattle.std.specs.Map.{remove_entry};
 ghost use Rattle.std.specs.Map.Calls.{CallableOnEachPair, CalledAtPair, RetainsPairs, TakesPair};
+ghost use Rattle.ne_vec.specs.Lists.{itself};
 ghost use Rattle.ne_vec.specs.Taken.{TakesFoundUnlessLast};
-ghost use Rattle.ne_iter.specs.KeptEntries.{ActsAsAtEntry, either_way, kept_entries};
+ghost use Rattle.ne_iter.specs.Collected.{IsMapOf};
+ghost use Rattle.ne_iter.specs.ExtendLists.{ExtendsByList};
+ghost use Rattle.ne_iter.specs.KeyIterators.{ListsEntries, KnownByValue, ListsEntriesByValue};
+ghost use Rattle.ne_iter.specs.SourceLists.{MeetsList};
+ghost use Rattle.ne_iter.specs.KeyClones.{KeepsEntries};
+ghost use Rattle.ne_iter.specs.KeptEntries.{either_way, kept_entries, ActsAsAtEntry};
+ghost use Rattle.ne_hash.specs.HashLends.{std_iterator, std_values, LendsValue, LendsValues};
+ghost use Rattle.ne_hash.specs.HashLends.{LendsValuesAlone};
+ghost use Rattle.ne_hash.specs.ValidHashMap.{IsValid};
 
 mod iter;
 mod traits;
@@ -128,6 +126,61 @@ impl<K: Eq + Hash + Drop, V: Drop> NEMap<K, V> {
 }
 
 impl<K: Eq + Hash, V, S: BuildHasher> NEMap<K, V, S> {
+    /// Creates a map that holds the key `k` with the value `v`, with the hasher `hasher` and room
+    /// for at least `capacity` keys, `k` included.
+    ///
+    /// Returns `AllocError` if the allocation fails or if `capacity` is more than can be allocated;
+    /// the hasher and the pair are then dropped.
+    ///
+    /// ```
+    /// let (room, hasher) = (NonZeroUsize::new(9).unwrap(), BuildHasherDefault::new());
+    /// let mut map: NEMap<u32, u32> =
+    ///     NEMap::with_capacity_and_hasher(alloc, room, hasher, 2, 1)?;
+    /// let has_room = map.capacity().get() >= 9; // true
+    /// let is_empty = map.is_empty(); // false
+    /// map.shrink_to_fit()?; // {2: 1}
+    /// let hasher = map.hasher();
+    /// ```
+    pub fn with_capacity_and_hasher(
+        alloc: Global,
+        capacity: NonZeroUsize,
+        hasher: S,
+        k: K,
+        v: V,
+    ) -> Result<Self, AllocError>
+    where
+        K: Drop,
+        V: Drop,
+        S: Drop,
+        ensures entries { IfOk result (λ m. m.entries ≡ (k, v) ∷ []) }
+        ensures value { IfOk result (λ m. get K.eq m k ≡ Some v) }
+        ensures hasher { IfOk result (λ m. hasher_of m ≡ hasher) }
+        ensures room { IfOk result (λ m. non_zero_usize_get capacity ≤ hash_map_len m + spare m) }
+    {
+        let inner = HashMap::with_capacity_and_hasher(alloc, capacity.get(), hasher)?;
+        of_one_key(inner, k, v)
+    }
+
+    /// Creates a map that holds the key `k` with the value `v`, with the hasher `hasher`.
+    ///
+    /// Returns `AllocError` if the allocation fails; the hasher and the pair are then dropped.
+    ///
+    /// ```
+    /// let hasher = BuildHasherDefault::new();
+    /// let map: NEMap<u32, u32> = NEMap::with_hasher(alloc, hasher, 5, 60)?; // {5: 60}
+    /// ```
+    pub fn with_hasher(alloc: Global, hasher: S, k: K, v: V) -> Result<Self, AllocError>
+    where
+        K: Drop,
+        V: Drop,
+        S: Drop,
+        ensures entries { IfOk result (λ m. m.entries ≡ (k, v) ∷ []) }
+        ensures value { IfOk result (λ m. get K.eq m k ≡ Some v) }
+        ensures hasher { IfOk result (λ m. hasher_of m ≡ hasher) }
+    {
+        of_one_key(HashMap::with_hasher(alloc, hasher), k, v)
+    }
+
     /// Returns the map as a non-empty map, or `None` if and only if it is empty. The entries and
     /// the hasher stay as they are, and nothing is allocated.
     ///
@@ -556,61 +609,6 @@ impl<K: Eq + Hash, V, S: BuildHasher> NEMap<K, V, S> {
     {
         self.inner.shrink_to_fit();
         Ok(())
-    }
-
-    /// Creates a map that holds the key `k` with the value `v`, with the hasher `hasher` and room
-    /// for at least `capacity` keys, `k` included.
-    ///
-    /// Returns `AllocError` if the allocation fails or if `capacity` is more than can be allocated;
-    /// the hasher and the pair are then dropped.
-    ///
-    /// ```
-    /// let (room, hasher) = (NonZeroUsize::new(9).unwrap(), BuildHasherDefault::new());
-    /// let mut map: NEMap<u32, u32> =
-    ///     NEMap::with_capacity_and_hasher(alloc, room, hasher, 2, 1)?;
-    /// let has_room = map.capacity().get() >= 9; // true
-    /// let is_empty = map.is_empty(); // false
-    /// map.shrink_to_fit()?; // {2: 1}
-    /// let hasher = map.hasher();
-    /// ```
-    pub fn with_capacity_and_hasher(
-        alloc: Global,
-        capacity: NonZeroUsize,
-        hasher: S,
-        k: K,
-        v: V,
-    ) -> Result<Self, AllocError>
-    where
-        K: Drop,
-        V: Drop,
-        S: Drop,
-        ensures entries { IfOk result (λ m. m.entries ≡ (k, v) ∷ []) }
-        ensures value { IfOk result (λ m. get K.eq m k ≡ Some v) }
-        ensures hasher { IfOk result (λ m. hasher_of m ≡ hasher) }
-        ensures room { IfOk result (λ m. non_zero_usize_get capacity ≤ hash_map_len m + spare m) }
-    {
-        let inner = HashMap::with_capacity_and_hasher(alloc, capacity.get(), hasher)?;
-        of_one_key(inner, k, v)
-    }
-
-    /// Creates a map that holds the key `k` with the value `v`, with the hasher `hasher`.
-    ///
-    /// Returns `AllocError` if the allocation fails; the hasher and the pair are then dropped.
-    ///
-    /// ```
-    /// let hasher = BuildHasherDefault::new();
-    /// let map: NEMap<u32, u32> = NEMap::with_hasher(alloc, hasher, 5, 60)?; // {5: 60}
-    /// ```
-    pub fn with_hasher(alloc: Global, hasher: S, k: K, v: V) -> Result<Self, AllocError>
-    where
-        K: Drop,
-        V: Drop,
-        S: Drop,
-        ensures entries { IfOk result (λ m. m.entries ≡ (k, v) ∷ []) }
-        ensures value { IfOk result (λ m. get K.eq m k ≡ Some v) }
-        ensures hasher { IfOk result (λ m. hasher_of m ≡ hasher) }
-    {
-        of_one_key(HashMap::with_hasher(alloc, hasher), k, v)
     }
 
     /// Inserts the pairs, in order. Each key has the value of its last pair. A key that is already

@@ -2,32 +2,32 @@
 //!
 //! An [`NESet`] finds an item by its hash, and iterates in an unspecified order. Items are compared
 //! by `==`. Of several equal items the set holds one.
-ghost use Rattle.std.specs.Prelude.{◌≡◌, ◌+◌, ◌<◌, ◌≤◌, ◌^◌, ◌↔◌, ◌++◌, [], ◌∷◌, true, false, not};
-ghost use Rattle.std.specs.Prelude.{if◌then◌else◌, is_some, length, IfOk, IsOk, IsTrue};
+ghost use Rattle.std.specs.Prelude.{◌≡◌, ◌+◌, ◌<◌, ◌≤◌, ◌^◌, ◌↔◌, ◌++◌, [], ◌∷◌, if◌then◌else◌};
+ghost use Rattle.std.specs.Prelude.{true, false, not, is_some, length, IfOk, IsOk, IsTrue};
 ghost use Rattle.std.specs.Prelude.{MatchOption, OnErr, OnOk, Bool, Some, IfSome, IsErr};
 ghost use Rattle.std.specs.Bool.{OnFalse, OnTrue};
 ghost use Rattle.std.specs.HashSet.{contains, get, hash_set_len, hasher_of, spare, AreKeysOf};
 ghost use Rattle.std.specs.HashSet.{IsDifference, IsDisjoint, IsEmpty, IsIntersection, IsReordered};
-ghost use Rattle.std.specs.HashSet.{IsSubset, IsUnchanged, IsUnion, IsClone, PutsKey};
-ghost use Rattle.std.specs.HashSet.{ReplacesKey, Updates};
+ghost use Rattle.std.specs.HashSet.{IsSubset, IsUnchanged, IsUnion, IsClone, PutsKey, ReplacesKey};
+ghost use Rattle.std.specs.HashSet.{Updates};
 ghost use Rattle.std.specs.Int.NonZero.{non_zero_usize_get};
 ghost use Rattle.std.specs.Iterator.{ExtendsWithItems, IsFiniteIterable, ActsAsAt};
-ghost use Rattle.std.specs.List.{IsDistinct, filter};
-ghost use Rattle.std.specs.Map.Iter.{ShowsInOrder, deref};
+ghost use Rattle.std.specs.List.{filter, IsDistinct};
+ghost use Rattle.std.specs.Map.Iter.{deref, ShowsInOrder};
 ghost use Rattle.std.specs.Option.{option_copied};
+ghost use Rattle.std.specs.Fn.{CalledAt};
+ghost use Rattle.std.specs.List.Retain.{IsFiltered};
+ghost use Rattle.std.specs.List.Sorted.{IsPermutation};
+ghost use Rattle.std.specs.Set.{remove_key};
 ghost use Rattle.ne_vec.specs.Lists.{itself};
+ghost use Rattle.ne_vec.specs.Taken.{RemovesFoundUnlessLast, TakesFoundUnlessLast};
 ghost use Rattle.ne_iter.specs.Collected.{IsSetOf};
 ghost use Rattle.ne_iter.specs.ExtendLists.{ExtendsByList};
 ghost use Rattle.ne_iter.specs.KeyIterators.{ListsEntries, ListsUnion};
 ghost use Rattle.ne_iter.specs.SourceLists.{MeetsList};
 ghost use Rattle.ne_iter.specs.KeyClones.{KeepsItems};
-ghost use Rattle.ne_hash.specs.ValidHashSet.{IsValid};
-ghost use Rattle.std.specs.Fn.{CalledAt};
-ghost use Rattle.std.specs.List.Retain.{IsFiltered};
-ghost use Rattle.std.specs.List.Sorted.{IsPermutation};
-ghost use Rattle.std.specs.Set.{remove_key};
-ghost use Rattle.ne_vec.specs.Taken.{RemovesFoundUnlessLast, TakesFoundUnlessLast};
 ghost use Rattle.ne_iter.specs.KeptEntries.{either_way};
+ghost use Rattle.ne_hash.specs.ValidHashSet.{IsValid};
 
 mod iter;
 mod traits;
@@ -79,7 +79,123 @@ impl<T: Eq + Hash, S: BuildHasher> Model for NESet<T, S> {
     ghost invariant = { λ s. IsValid T.eq s.inner };
 }
 
+impl<T: Eq + Hash + Drop> NESet<T> {
+    /// Creates a set that holds the item `value`, with the default hasher.
+    ///
+    /// Returns `AllocError` if the allocation fails; the item is then dropped.
+    ///
+    /// ```
+    /// let set = NESet::new(alloc, 2)?; // {2}
+    /// ```
+    pub fn new(alloc: Global, value: T) -> Result<Self, AllocError>
+        ensures keys { IfOk result (λ s. s.keys ≡ value ∷ []) }
+        ensures found { IfOk result (λ s. contains T.eq s value ≡ true) }
+    {
+        NESet::with_hasher(alloc, BuildHasherDefault::new(), value)
+    }
+
+    /// Creates a set that holds the item `value`, with the default hasher and room for at least
+    /// `capacity` items, `value` included.
+    ///
+    /// Returns `AllocError` if the allocation fails or if `capacity` is more than can be allocated;
+    /// the item is then dropped.
+    ///
+    /// ```
+    /// let room = NonZeroUsize::new(9).unwrap();
+    /// let set = NESet::with_capacity(alloc, room, 2)?; // {2}, with room for 9 items
+    /// ```
+    pub fn with_capacity(
+        alloc: Global,
+        capacity: NonZeroUsize,
+        value: T,
+    ) -> Result<Self, AllocError>
+        ensures keys { IfOk result (λ s. s.keys ≡ value ∷ []) }
+        ensures found { IfOk result (λ s. contains T.eq s value ≡ true) }
+        ensures room { IfOk result (λ s. non_zero_usize_get capacity ≤ hash_set_len s + spare s) }
+    {
+        NESet::with_capacity_and_hasher(alloc, capacity, BuildHasherDefault::new(), value)
+    }
+}
+
 impl<T: Eq + Hash, S: BuildHasher> NESet<T, S> {
+    /// Creates a set that holds the item `value`, with the hasher `hasher` and room for at least
+    /// `capacity` items, `value` included.
+    ///
+    /// Returns `AllocError` if the allocation fails or if `capacity` is more than can be allocated;
+    /// the hasher and the item are then dropped.
+    ///
+    /// ```
+    /// let (room, hasher) = (NonZeroUsize::new(9).unwrap(), BuildHasherDefault::new());
+    /// let mut set: NESet<u32> =
+    ///     NESet::with_capacity_and_hasher(alloc, room, hasher, 8)?;
+    /// let has_room = set.capacity().get() >= 9; // true
+    /// let is_empty = set.is_empty(); // false
+    /// set.shrink_to_fit()?; // {8}
+    /// let hasher = set.hasher();
+    /// ```
+    pub fn with_capacity_and_hasher(
+        alloc: Global,
+        capacity: NonZeroUsize,
+        hasher: S,
+        value: T,
+    ) -> Result<Self, AllocError>
+    where
+        T: Drop,
+        S: Drop,
+        ensures keys { IfOk result (λ s. s.keys ≡ value ∷ []) }
+        ensures found { IfOk result (λ s. contains T.eq s value ≡ true) }
+        ensures hasher { IfOk result (λ s. hasher_of s ≡ hasher) }
+        ensures room { IfOk result (λ s. non_zero_usize_get capacity ≤ hash_set_len s + spare s) }
+    {
+        let inner = HashSet::with_capacity_and_hasher(alloc, capacity.get(), hasher)?;
+        of_one_item(inner, value)
+    }
+
+    /// Creates a set that holds the item `value`, with the hasher `hasher`.
+    ///
+    /// Returns `AllocError` if the allocation fails; the hasher and the item are then dropped.
+    ///
+    /// ```
+    /// let hasher = BuildHasherDefault::new();
+    /// let set: NESet<u32> = NESet::with_hasher(alloc, hasher, 8)?; // {8}
+    /// ```
+    pub fn with_hasher(alloc: Global, hasher: S, value: T) -> Result<Self, AllocError>
+    where
+        T: Drop,
+        S: Drop,
+        ensures keys { IfOk result (λ s. s.keys ≡ value ∷ []) }
+        ensures found { IfOk result (λ s. contains T.eq s value ≡ true) }
+        ensures hasher { IfOk result (λ s. hasher_of s ≡ hasher) }
+    {
+        of_one_item(HashSet::with_hasher(alloc, hasher), value)
+    }
+
+    /// Returns the set as a non-empty set, or `None` if and only if it is empty. The items and the
+    /// hasher stay as they are, and nothing is allocated.
+    ///
+    /// ```
+    /// let mut inner = HashSet::new(alloc);
+    /// inner.insert(2)?;
+    /// inner.insert(4)?;
+    /// let some = NESet::try_from_set(inner); // Some({2, 4})
+    /// let empty: HashSet<u32> = HashSet::new(alloc);
+    /// let none = NESet::try_from_set(empty); // None
+    /// ```
+    pub fn try_from_set(set: HashSet<T, S>) -> Option<Self>
+    where
+        S: Drop,
+        ensures { MatchOption result (IsEmpty set) (λ s. s ≡ set) }
+    {
+        if set.is_empty() {
+            set.destroy_empty();
+            None
+        } else {
+            // The contract of `len` says that no two items are equal.
+            let _len = set.len();
+            Some(NESet { inner: set })
+        }
+    }
+
     /// Returns how many items the set has room for, which is at least `len`.
     pub fn capacity(&self) -> NonZeroUsize
         ensures room { non_zero_usize_get result ≡ hash_set_len self.now + spare self.now }
@@ -149,72 +265,6 @@ impl<T: Eq + Hash, S: BuildHasher> NESet<T, S> {
     {
         let _ = &self.inner; // the invariant is known once a field is used
         false
-    }
-}
-
-impl<T: Eq + Hash + Drop> NESet<T> {
-    /// Creates a set that holds the item `value`, with the default hasher.
-    ///
-    /// Returns `AllocError` if the allocation fails; the item is then dropped.
-    ///
-    /// ```
-    /// let set = NESet::new(alloc, 2)?; // {2}
-    /// ```
-    pub fn new(alloc: Global, value: T) -> Result<Self, AllocError>
-        ensures keys { IfOk result (λ s. s.keys ≡ value ∷ []) }
-        ensures found { IfOk result (λ s. contains T.eq s value ≡ true) }
-    {
-        NESet::with_hasher(alloc, BuildHasherDefault::new(), value)
-    }
-
-    /// Creates a set that holds the item `value`, with the default hasher and room for at least
-    /// `capacity` items, `value` included.
-    ///
-    /// Returns `AllocError` if the allocation fails or if `capacity` is more than can be allocated;
-    /// the item is then dropped.
-    ///
-    /// ```
-    /// let room = NonZeroUsize::new(9).unwrap();
-    /// let set = NESet::with_capacity(alloc, room, 2)?; // {2}, with room for 9 items
-    /// ```
-    pub fn with_capacity(
-        alloc: Global,
-        capacity: NonZeroUsize,
-        value: T,
-    ) -> Result<Self, AllocError>
-        ensures keys { IfOk result (λ s. s.keys ≡ value ∷ []) }
-        ensures found { IfOk result (λ s. contains T.eq s value ≡ true) }
-        ensures room { IfOk result (λ s. non_zero_usize_get capacity ≤ hash_set_len s + spare s) }
-    {
-        NESet::with_capacity_and_hasher(alloc, capacity, BuildHasherDefault::new(), value)
-    }
-}
-
-impl<T: Eq + Hash, S: BuildHasher> NESet<T, S> {
-    /// Returns the set as a non-empty set, or `None` if and only if it is empty. The items and the
-    /// hasher stay as they are, and nothing is allocated.
-    ///
-    /// ```
-    /// let mut inner = HashSet::new(alloc);
-    /// inner.insert(2)?;
-    /// inner.insert(4)?;
-    /// let some = NESet::try_from_set(inner); // Some({2, 4})
-    /// let empty: HashSet<u32> = HashSet::new(alloc);
-    /// let none = NESet::try_from_set(empty); // None
-    /// ```
-    pub fn try_from_set(set: HashSet<T, S>) -> Option<Self>
-    where
-        S: Drop,
-        ensures { MatchOption result (IsEmpty set) (λ s. s ≡ set) }
-    {
-        if set.is_empty() {
-            set.destroy_empty();
-            None
-        } else {
-            // The contract of `len` says that no two items are equal.
-            let _len = set.len();
-            Some(NESet { inner: set })
-        }
     }
 
     /// Returns whether the set holds an item equal to `value`.
@@ -314,6 +364,64 @@ impl<T: Eq + Hash, S: BuildHasher> NESet<T, S> {
         }
     }
 
+    /// Removes the item equal to `value`, and returns it as it was in the set. Returns `None` if
+    /// there is no such item, or if it is the only one, which then stays. The order of iteration
+    /// may change.
+    ///
+    /// ```
+    /// let mut set = nes![alloc; 2, 4]?;
+    /// let taken = set.take(&4); // Some(4)
+    /// let none = set.take(&2); // None: the only item stays
+    /// let stays = set.contains(&2); // true
+    /// ```
+    pub fn take(&mut self, value: &T) -> Option<T>
+        ensures keys { TakesFoundUnlessLast (contains T.eq self.old value.now ≡ false)
+            self.old.keys self.new.keys result (λ x. (get T.eq self.old value.now ≡ Some x)
+            × IsPermutation (remove_key (T.eq value.now) self.old.keys) self.new.keys) }
+        ensures same { IfSome result (λ x. IsTrue (T.eq value.now x)) }
+        ensures updates { IfSome result (λ _. Updates T.eq self.old self.new value.now false) }
+        ensures len { hash_set_len self.new + (if is_some result then 1 else 0)
+            ≡ hash_set_len self.old }
+        ensures hasher { hasher_of self.new ≡ hasher_of self.old }
+        ensures valid { IsValid T.eq self.new }
+    {
+        if self.inner.len() > 1 {
+            self.inner.take(value)
+        } else {
+            None
+        }
+    }
+
+    /// Keeps the items for which `f` returns `true`, in order, or returns the empty set as an error
+    /// if there is no such item.
+    ///
+    /// `f` is called once for each item, in the order of iteration. It must be callable with any
+    /// value of the items' type. The clause `kept` covers an `f` whose result depends only on the
+    /// item; `called` covers any `f`.
+    ///
+    /// ```
+    /// let even = NESet::new(alloc, 4)?.retain(|x| *x % 2 == 0); // Ok({4})
+    /// let none = NESet::new(alloc, 3)?.retain(|x| *x % 2 == 0); // Err({})
+    /// ```
+    pub fn retain<F: FnMut(&T) -> bool>(self, f: F) -> Result<Self, HashSet<T, S>>
+    where
+        T: Drop,
+        requires { F.IsAlwaysCallable f }
+        ensures none { IsErr result ↔ IsEmpty (either_way result) }
+        ensures kept { (keeps : T → Bool) → ActsAsAt F.FnMut f keeps
+            → (either_way result).keys ≡ filter keeps self.keys }
+        ensures called { IsFiltered (CalledAt F.FnMut) f self.keys (either_way result).keys }
+        ensures hasher { hasher_of (either_way result) ≡ hasher_of self }
+    {
+        let mut inner = self.inner;
+        inner.retain(f);
+        if inner.is_empty() {
+            Err(inner)
+        } else {
+            Ok(NESet { inner })
+        }
+    }
+
     /// Returns an iterator over the items that are also in `other`, in an unspecified order. There
     /// may be none, so this is std's iterator. Which of two equal items it returns is unspecified.
     ///
@@ -394,64 +502,6 @@ impl<T: Eq + Hash, S: BuildHasher> NESet<T, S> {
         Ok(self.inner.replace(value)?)
     }
 
-    /// Removes the item equal to `value`, and returns it as it was in the set. Returns `None` if
-    /// there is no such item, or if it is the only one, which then stays. The order of iteration
-    /// may change.
-    ///
-    /// ```
-    /// let mut set = nes![alloc; 2, 4]?;
-    /// let taken = set.take(&4); // Some(4)
-    /// let none = set.take(&2); // None: the only item stays
-    /// let stays = set.contains(&2); // true
-    /// ```
-    pub fn take(&mut self, value: &T) -> Option<T>
-        ensures keys { TakesFoundUnlessLast (contains T.eq self.old value.now ≡ false)
-            self.old.keys self.new.keys result (λ x. (get T.eq self.old value.now ≡ Some x)
-            × IsPermutation (remove_key (T.eq value.now) self.old.keys) self.new.keys) }
-        ensures same { IfSome result (λ x. IsTrue (T.eq value.now x)) }
-        ensures updates { IfSome result (λ _. Updates T.eq self.old self.new value.now false) }
-        ensures len { hash_set_len self.new + (if is_some result then 1 else 0)
-            ≡ hash_set_len self.old }
-        ensures hasher { hasher_of self.new ≡ hasher_of self.old }
-        ensures valid { IsValid T.eq self.new }
-    {
-        if self.inner.len() > 1 {
-            self.inner.take(value)
-        } else {
-            None
-        }
-    }
-
-    /// Keeps the items for which `f` returns `true`, in order, or returns the empty set as an error
-    /// if there is no such item.
-    ///
-    /// `f` is called once for each item, in the order of iteration. It must be callable with any
-    /// value of the items' type. The clause `kept` covers an `f` whose result depends only on the
-    /// item; `called` covers any `f`.
-    ///
-    /// ```
-    /// let even = NESet::new(alloc, 4)?.retain(|x| *x % 2 == 0); // Ok({4})
-    /// let none = NESet::new(alloc, 3)?.retain(|x| *x % 2 == 0); // Err({})
-    /// ```
-    pub fn retain<F: FnMut(&T) -> bool>(self, f: F) -> Result<Self, HashSet<T, S>>
-    where
-        T: Drop,
-        requires { F.IsAlwaysCallable f }
-        ensures none { IsErr result ↔ IsEmpty (either_way result) }
-        ensures kept { (keeps : T → Bool) → ActsAsAt F.FnMut f keeps
-            → (either_way result).keys ≡ filter keeps self.keys }
-        ensures called { IsFiltered (CalledAt F.FnMut) f self.keys (either_way result).keys }
-        ensures hasher { hasher_of (either_way result) ≡ hasher_of self }
-    {
-        let mut inner = self.inner;
-        inner.retain(f);
-        if inner.is_empty() {
-            Err(inner)
-        } else {
-            Ok(NESet { inner })
-        }
-    }
-
     /// Makes room for at least `additional` more items. The items stay, but the order of iteration
     /// may change.
     ///
@@ -501,58 +551,6 @@ impl<T: Eq + Hash, S: BuildHasher> NESet<T, S> {
         ensures lists { ListsUnion result result }
     {
         NonEmptyIter::new(self.inner.union(&other.inner))
-    }
-
-    /// Creates a set that holds the item `value`, with the hasher `hasher` and room for at least
-    /// `capacity` items, `value` included.
-    ///
-    /// Returns `AllocError` if the allocation fails or if `capacity` is more than can be allocated;
-    /// the hasher and the item are then dropped.
-    ///
-    /// ```
-    /// let (room, hasher) = (NonZeroUsize::new(9).unwrap(), BuildHasherDefault::new());
-    /// let mut set: NESet<u32> =
-    ///     NESet::with_capacity_and_hasher(alloc, room, hasher, 8)?;
-    /// let has_room = set.capacity().get() >= 9; // true
-    /// let is_empty = set.is_empty(); // false
-    /// set.shrink_to_fit()?; // {8}
-    /// let hasher = set.hasher();
-    /// ```
-    pub fn with_capacity_and_hasher(
-        alloc: Global,
-        capacity: NonZeroUsize,
-        hasher: S,
-        value: T,
-    ) -> Result<Self, AllocError>
-    where
-        T: Drop,
-        S: Drop,
-        ensures keys { IfOk result (λ s. s.keys ≡ value ∷ []) }
-        ensures found { IfOk result (λ s. contains T.eq s value ≡ true) }
-        ensures hasher { IfOk result (λ s. hasher_of s ≡ hasher) }
-        ensures room { IfOk result (λ s. non_zero_usize_get capacity ≤ hash_set_len s + spare s) }
-    {
-        let inner = HashSet::with_capacity_and_hasher(alloc, capacity.get(), hasher)?;
-        of_one_item(inner, value)
-    }
-
-    /// Creates a set that holds the item `value`, with the hasher `hasher`.
-    ///
-    /// Returns `AllocError` if the allocation fails; the hasher and the item are then dropped.
-    ///
-    /// ```
-    /// let hasher = BuildHasherDefault::new();
-    /// let set: NESet<u32> = NESet::with_hasher(alloc, hasher, 8)?; // {8}
-    /// ```
-    pub fn with_hasher(alloc: Global, hasher: S, value: T) -> Result<Self, AllocError>
-    where
-        T: Drop,
-        S: Drop,
-        ensures keys { IfOk result (λ s. s.keys ≡ value ∷ []) }
-        ensures found { IfOk result (λ s. contains T.eq s value ≡ true) }
-        ensures hasher { IfOk result (λ s. hasher_of s ≡ hasher) }
-    {
-        of_one_item(HashSet::with_hasher(alloc, hasher), value)
     }
 
     /// Inserts the items, in order. An item that is already in the set stays as it is.

@@ -3,31 +3,31 @@
 //! An [`NEIndexMap`] iterates in the order in which its keys were inserted, and each key has an
 //! index. Keys are looked up by `Eq` and `Hash`. A key that is in the map stays as it is, at its
 //! index, if an equal one is inserted.
-ghost use Rattle.std.specs.Prelude.{◌≡◌, ◌+◌, ◌-◌, ◌<◌, ◌≤◌, ◌^◌, ◌++◌, [], ◌∷◌, None, Some, false};
-ghost use Rattle.std.specs.Prelude.{if◌then◌else◌, is_some, slice_get, IfOk, IfSome, IsSome};
-ghost use Rattle.std.specs.Prelude.{IfNone, IsOk, MatchOption, OnErr, OnOk};
+ghost use Rattle.std.specs.Prelude.{◌≡◌, ◌+◌, ◌-◌, ◌<◌, ◌≤◌, ◌^◌, ◌++◌, [], ◌∷◌, if◌then◌else◌};
+ghost use Rattle.std.specs.Prelude.{false, is_some, slice_get, unwrap_or, None, Some, IfOk, IfSome};
+ghost use Rattle.std.specs.Prelude.{IsSome, IfNone, IsOk, MatchOption, OnErr, OnOk};
 ghost use Rattle.std.specs.Borrow.{sem};
 ghost use Rattle.std.specs.Int.NonZero.{non_zero_usize_get};
 ghost use Rattle.std.specs.Iterator.{ExtendsWithItems, IsFiniteIterable};
 ghost use Rattle.std.specs.List.{swap, IsAmong};
-ghost use Rattle.std.specs.Map.Iter.{ShowsInOrder, ShowsValuesInOrder, deref, deref_pair};
+ghost use Rattle.std.specs.Map.Iter.{deref, deref_pair, ShowsInOrder, ShowsValuesInOrder};
 ghost use Rattle.std.specs.Option.{option_copied, option_copied_mut, option_map};
 ghost use Rattle.std.specs.Set.{is_member};
-ghost use Rattle.ne_vec.specs.Lists.{itself};
 ghost use Rattle.indexmap.specs.IndexMap.{get, get_key, hasher_of, index_map_len, index_of, keys};
-ghost use Rattle.indexmap.specs.IndexMap.{spare, values, IsEmpty, IsReordered, IsUnchanged};
-ghost use Rattle.indexmap.specs.IndexMap.{IsClone, Updates};
+ghost use Rattle.indexmap.specs.IndexMap.{spare, values, with_value_at, IsEmpty, IsReordered};
+ghost use Rattle.indexmap.specs.IndexMap.{IsUnchanged, IsClone, Updates};
+ghost use Rattle.ne_vec.specs.Lists.{itself};
 ghost use Rattle.ne_iter.specs.ExtendLists.{ExtendsByList};
 ghost use Rattle.ne_iter.specs.KeyClones.{KeepsEntries};
 ghost use Rattle.ne_iter.specs.KeyList.{IsKeyListMapOf};
 ghost use Rattle.ne_iter.specs.KeyIterators.{ListsEntries};
 ghost use Rattle.ne_iter.specs.SourceLists.{MeetsList};
-ghost use Rattle.ne_index.specs.IndexLends.{LendsValue};
+ghost use Rattle.ne_index.specs.IndexLends.{LendsValue, LendsInserted, LendsValueAt};
 ghost use Rattle.ne_index.specs.Puts.{put_entry, put_item};
 ghost use Rattle.ne_index.specs.ValidIndexMap.{IsValid};
 
-mod additions;
 mod iter;
+mod remove;
 mod traits;
 
 use indexmap::{IndexMap, map};
@@ -74,7 +74,137 @@ impl<K: Eq + Hash, V, S: BuildHasher> Model for NEIndexMap<K, V, S> {
     ghost invariant = { λ m. IsValid K.eq m.inner };
 }
 
+impl<K: Eq + Hash, V> NEIndexMap<K, V> {
+    /// Creates a map that holds the key `k` with the value `v`, with the default hasher.
+    ///
+    /// Returns `AllocError` if the allocation fails; the pair is then dropped.
+    ///
+    /// ```
+    /// let map = NEIndexMap::new(alloc, 4, 20)?; // {4: 20}
+    /// ```
+    pub fn new(alloc: Global, k: K, v: V) -> Result<Self, AllocError>
+    where
+        K: Drop,
+        V: Drop,
+        ensures entries { IfOk result (λ m. m.entries ≡ (k, v) ∷ []) }
+    {
+        NEIndexMap::with_hasher(alloc, BuildHasherDefault::new(), k, v)
+    }
+
+    /// Creates a map that holds the key `k` with the value `v`, with the default hasher and room
+    /// for at least `capacity` keys, `k` included.
+    ///
+    /// Returns `AllocError` if the allocation fails or if `capacity` is more than can be allocated;
+    /// the pair is then dropped.
+    ///
+    /// ```
+    /// let room = NonZeroUsize::new(9).unwrap();
+    /// let map = NEIndexMap::with_capacity(alloc, room, 2, 1)?; // {2: 1}, with room for 9 keys
+    /// ```
+    pub fn with_capacity(
+        alloc: Global,
+        capacity: NonZeroUsize,
+        k: K,
+        v: V,
+    ) -> Result<NEIndexMap<K, V>, AllocError>
+    where
+        K: Drop,
+        V: Drop,
+        ensures entries { IfOk result (λ m. m.entries ≡ (k, v) ∷ []) }
+        ensures room { IfOk result (λ m. non_zero_usize_get capacity
+            ≤ index_map_len m + spare m) }
+    {
+        NEIndexMap::with_capacity_and_hasher(alloc, capacity, BuildHasherDefault::new(), k, v)
+    }
+}
+
 impl<K: Eq + Hash, V, S: BuildHasher> NEIndexMap<K, V, S> {
+    /// Creates a map that holds the key `k` with the value `v`, with the hasher `hasher` and room
+    /// for at least `capacity` keys, `k` included.
+    ///
+    /// Returns `AllocError` if the allocation fails or if `capacity` is more than can be allocated;
+    /// the hasher and the pair are then dropped.
+    ///
+    /// ```
+    /// let (room, hasher) = (NonZeroUsize::new(9).unwrap(), BuildHasherDefault::new());
+    /// let mut map: NEIndexMap<u32, u32> =
+    ///     NEIndexMap::with_capacity_and_hasher(alloc, room, hasher, 2, 1)?;
+    /// let has_room = map.capacity().get() >= 9; // true
+    /// let is_empty = map.is_empty(); // false
+    /// map.shrink_to_fit()?; // {2: 1}
+    /// let hasher = map.hasher();
+    /// ```
+    pub fn with_capacity_and_hasher(
+        alloc: Global,
+        capacity: NonZeroUsize,
+        hasher: S,
+        k: K,
+        v: V,
+    ) -> Result<NEIndexMap<K, V, S>, AllocError>
+    where
+        K: Drop,
+        V: Drop,
+        S: Drop,
+        ensures entries { IfOk result (λ m. m.entries ≡ (k, v) ∷ []) }
+        ensures hasher { IfOk result (λ m. hasher_of m ≡ hasher) }
+        ensures room { IfOk result (λ m. non_zero_usize_get capacity
+            ≤ index_map_len m + spare m) }
+    {
+        let mut inner = IndexMap::with_capacity_and_hasher(alloc, capacity.get(), hasher)?;
+        inner.insert(k, v)?;
+        Ok(NEIndexMap { inner })
+    }
+
+    /// Creates a map that holds the key `k` with the value `v`, with the hasher `hasher`.
+    ///
+    /// Returns `AllocError` if the allocation fails; the hasher and the pair are then dropped.
+    ///
+    /// ```
+    /// let hasher = BuildHasherDefault::new();
+    /// let map: NEIndexMap<u32, u32> = NEIndexMap::with_hasher(alloc, hasher, 8, 50)?; // {8: 50}
+    /// ```
+    pub fn with_hasher(
+        alloc: Global,
+        hasher: S,
+        k: K,
+        v: V,
+    ) -> Result<NEIndexMap<K, V, S>, AllocError>
+    where
+        K: Drop,
+        V: Drop,
+        S: Drop,
+        ensures entries { IfOk result (λ m. m.entries ≡ (k, v) ∷ []) }
+        ensures hasher { IfOk result (λ m. hasher_of m ≡ hasher) }
+    {
+        let mut inner = IndexMap::with_hasher(alloc, hasher);
+        inner.insert(k, v)?;
+        Ok(NEIndexMap { inner })
+    }
+
+    /// Returns the map as a non-empty map, or `None` if and only if it is empty. The entries and
+    /// the hasher stay as they are, and nothing is allocated.
+    ///
+    /// ```
+    /// let inner: IndexMap<u32, u32> = [(4, 1), (2, 2)].into_iter().collect(alloc)?;
+    /// let some = NEIndexMap::try_from_map(inner); // Some({4: 1, 2: 2})
+    /// let inner: IndexMap<u32, u32> = Vec::new(alloc).into_iter().collect(alloc)?;
+    /// let none = NEIndexMap::try_from_map(inner); // None
+    /// ```
+    pub fn try_from_map(map: IndexMap<K, V, S>) -> Option<Self>
+    where
+        S: Drop,
+        ensures { MatchOption result (IsEmpty map) (λ m. m ≡ map) }
+    {
+        if map.is_empty() {
+            map.destroy_empty();
+            None
+        } else {
+            // The contract of `len` says that no two keys are equal.
+            let _len = map.len();
+            Some(NEIndexMap { inner: map })
+        }
+    }
+
     /// Returns how many keys the map has room for, which is at least `len`.
     pub fn capacity(&self) -> NonZeroUsize
         ensures room { non_zero_usize_get result ≡ index_map_len self.now + spare self.now }
@@ -184,6 +314,27 @@ impl<K: Eq + Hash, V, S: BuildHasher> NEIndexMap<K, V, S> {
         self.inner.first().unwrap()
     }
 
+    /// Returns a mutable reference to the value of the first entry. The keys, their indices and the
+    /// other values do not change.
+    ///
+    /// ```
+    /// let mut map = neim![alloc; 2 => 24, 4 => 26]?;
+    /// *map.first_mut() = 27; // {2: 27, 4: 26}
+    /// ```
+    pub fn first_mut(&mut self) -> &mut V
+        ensures* writes_back { sem 𝓛 (LendsValueAt K.row V.row S.row S.Hasher.row K.Hash
+            S.BuildHasher S.Hasher.Hasher self.entry 0 result) }
+        ensures value { slice_get (values self.old) 0 ≡ Some result.now }
+        ensures stays { (w : V) → (keys (with_value_at self.old 0 w) ≡ keys self.old)
+            × (index_map_len (with_value_at self.old 0 w) ≡ index_map_len self.old) }
+        ensures updates { (k : K) (v w : V) → slice_get self.old.entries 0 ≡ Some (k, v)
+            → Updates K.eq self.old (with_value_at self.old 0 w) k (Some w) }
+        ensures valid { IsValid K.eq self.old }
+    {
+        let _ = &self.inner; // the invariant is known once a field is used
+        self.value_at(0)
+    }
+
     /// Returns the last pair, which is also the first if there is no other.
     ///
     /// ```
@@ -196,75 +347,29 @@ impl<K: Eq + Hash, V, S: BuildHasher> NEIndexMap<K, V, S> {
     {
         self.inner.last().unwrap()
     }
-}
 
-impl<K: Eq + Hash, V> NEIndexMap<K, V> {
-    /// Creates a map that holds the key `k` with the value `v`, with the default hasher.
-    ///
-    /// Returns `AllocError` if the allocation fails; the pair is then dropped.
+    /// Returns a mutable reference to the value of the last entry. The keys, their indices and the
+    /// other values do not change.
     ///
     /// ```
-    /// let map = NEIndexMap::new(alloc, 4, 20)?; // {4: 20}
+    /// let mut map = neim![alloc; 2 => 24, 4 => 26]?;
+    /// *map.last_mut() = 27; // {2: 24, 4: 27}
     /// ```
-    pub fn new(alloc: Global, k: K, v: V) -> Result<Self, AllocError>
-    where
-        K: Drop,
-        V: Drop,
-        ensures entries { IfOk result (λ m. m.entries ≡ (k, v) ∷ []) }
+    pub fn last_mut(&mut self) -> &mut V
+        ensures* writes_back { sem 𝓛 (LendsValueAt K.row V.row S.row S.Hasher.row K.Hash
+            S.BuildHasher S.Hasher.Hasher self.entry (index_map_len self.old - 1) result) }
+        ensures value { slice_get (values self.old) (index_map_len self.old - 1)
+            ≡ Some result.now }
+        ensures stays { (w : V) → let last = index_map_len self.old - 1 in
+            (keys (with_value_at self.old last w) ≡ keys self.old)
+            × (index_map_len (with_value_at self.old last w) ≡ index_map_len self.old) }
+        ensures updates { (k : K) (v w : V) → let last = index_map_len self.old - 1 in
+            slice_get self.old.entries last ≡ Some (k, v)
+            → Updates K.eq self.old (with_value_at self.old last w) k (Some w) }
+        ensures valid { IsValid K.eq self.old }
     {
-        NEIndexMap::with_hasher(alloc, BuildHasherDefault::new(), k, v)
-    }
-
-    /// Creates a map that holds the key `k` with the value `v`, with the default hasher and room
-    /// for at least `capacity` keys, `k` included.
-    ///
-    /// Returns `AllocError` if the allocation fails or if `capacity` is more than can be allocated;
-    /// the pair is then dropped.
-    ///
-    /// ```
-    /// let room = NonZeroUsize::new(9).unwrap();
-    /// let map = NEIndexMap::with_capacity(alloc, room, 2, 1)?; // {2: 1}, with room for 9 keys
-    /// ```
-    pub fn with_capacity(
-        alloc: Global,
-        capacity: NonZeroUsize,
-        k: K,
-        v: V,
-    ) -> Result<NEIndexMap<K, V>, AllocError>
-    where
-        K: Drop,
-        V: Drop,
-        ensures entries { IfOk result (λ m. m.entries ≡ (k, v) ∷ []) }
-        ensures room { IfOk result (λ m. non_zero_usize_get capacity
-            ≤ index_map_len m + spare m) }
-    {
-        NEIndexMap::with_capacity_and_hasher(alloc, capacity, BuildHasherDefault::new(), k, v)
-    }
-}
-
-impl<K: Eq + Hash, V, S: BuildHasher> NEIndexMap<K, V, S> {
-    /// Returns the map as a non-empty map, or `None` if and only if it is empty. The entries and
-    /// the hasher stay as they are, and nothing is allocated.
-    ///
-    /// ```
-    /// let inner: IndexMap<u32, u32> = [(4, 1), (2, 2)].into_iter().collect(alloc)?;
-    /// let some = NEIndexMap::try_from_map(inner); // Some({4: 1, 2: 2})
-    /// let inner: IndexMap<u32, u32> = Vec::new(alloc).into_iter().collect(alloc)?;
-    /// let none = NEIndexMap::try_from_map(inner); // None
-    /// ```
-    pub fn try_from_map(map: IndexMap<K, V, S>) -> Option<Self>
-    where
-        S: Drop,
-        ensures { MatchOption result (IsEmpty map) (λ m. m ≡ map) }
-    {
-        if map.is_empty() {
-            map.destroy_empty();
-            None
-        } else {
-            // The contract of `len` says that no two keys are equal.
-            let _len = map.len();
-            Some(NEIndexMap { inner: map })
-        }
+        let last = self.inner.len() - 1;
+        self.value_at(last)
     }
 
     /// Returns whether the map holds a key equal to `k`.
@@ -375,6 +480,32 @@ impl<K: Eq + Hash, V, S: BuildHasher> NEIndexMap<K, V, S> {
         Ok(self.inner.insert(k, v)?)
     }
 
+    /// Returns a mutable reference to the value of the key equal to `k`. If there is no such key,
+    /// `k` is first added at the end, with the value `v`. A key that is in the map stays there, at
+    /// its index, and `k` and `v` are dropped.
+    ///
+    /// Returns `AllocError` if the map has to grow and the allocation fails. This can happen only
+    /// for a new key; the entries are then unchanged and the pair is dropped.
+    ///
+    /// ```
+    /// let mut map = neim![alloc; 2 => 24]?;
+    /// *map.or_insert(4, 0)? += 1;
+    /// *map.or_insert(2, 0)? += 1; // {2: 25, 4: 1}
+    /// ```
+    pub fn or_insert(&mut self, k: K, v: V) -> Result<&mut V, AllocError>
+    where
+        K: Drop,
+        V: Drop,
+        ensures* writes_back { sem 𝓛 (LendsInserted K.row V.row S.row S.Hasher.row K.Hash
+            S.BuildHasher S.Hasher.Hasher self.entry k result) }
+        ensures value { IfOk result (λ r. r.now ≡ unwrap_or (get K.eq self.old k) v) }
+        ensures refused { OnErr result (get K.eq self.old k ≡ None) }
+        ensures valid { IsValid K.eq self.old }
+    {
+        let index = self.index_or_insert(k, v)?;
+        Ok(self.value_at(index))
+    }
+
     /// Releases as much memory as it can. The entries, their order and the hasher do not change.
     ///
     /// It always returns `Ok`: if an allocation fails, the room stays as it was.
@@ -386,68 +517,6 @@ impl<K: Eq + Hash, V, S: BuildHasher> NEIndexMap<K, V, S> {
     {
         self.inner.shrink_to_fit();
         Ok(())
-    }
-
-    /// Creates a map that holds the key `k` with the value `v`, with the hasher `hasher` and room
-    /// for at least `capacity` keys, `k` included.
-    ///
-    /// Returns `AllocError` if the allocation fails or if `capacity` is more than can be allocated;
-    /// the hasher and the pair are then dropped.
-    ///
-    /// ```
-    /// let (room, hasher) = (NonZeroUsize::new(9).unwrap(), BuildHasherDefault::new());
-    /// let mut map: NEIndexMap<u32, u32> =
-    ///     NEIndexMap::with_capacity_and_hasher(alloc, room, hasher, 2, 1)?;
-    /// let has_room = map.capacity().get() >= 9; // true
-    /// let is_empty = map.is_empty(); // false
-    /// map.shrink_to_fit()?; // {2: 1}
-    /// let hasher = map.hasher();
-    /// ```
-    pub fn with_capacity_and_hasher(
-        alloc: Global,
-        capacity: NonZeroUsize,
-        hasher: S,
-        k: K,
-        v: V,
-    ) -> Result<NEIndexMap<K, V, S>, AllocError>
-    where
-        K: Drop,
-        V: Drop,
-        S: Drop,
-        ensures entries { IfOk result (λ m. m.entries ≡ (k, v) ∷ []) }
-        ensures hasher { IfOk result (λ m. hasher_of m ≡ hasher) }
-        ensures room { IfOk result (λ m. non_zero_usize_get capacity
-            ≤ index_map_len m + spare m) }
-    {
-        let mut inner = IndexMap::with_capacity_and_hasher(alloc, capacity.get(), hasher)?;
-        inner.insert(k, v)?;
-        Ok(NEIndexMap { inner })
-    }
-
-    /// Creates a map that holds the key `k` with the value `v`, with the hasher `hasher`.
-    ///
-    /// Returns `AllocError` if the allocation fails; the hasher and the pair are then dropped.
-    ///
-    /// ```
-    /// let hasher = BuildHasherDefault::new();
-    /// let map: NEIndexMap<u32, u32> = NEIndexMap::with_hasher(alloc, hasher, 8, 50)?; // {8: 50}
-    /// ```
-    pub fn with_hasher(
-        alloc: Global,
-        hasher: S,
-        k: K,
-        v: V,
-    ) -> Result<NEIndexMap<K, V, S>, AllocError>
-    where
-        K: Drop,
-        V: Drop,
-        S: Drop,
-        ensures entries { IfOk result (λ m. m.entries ≡ (k, v) ∷ []) }
-        ensures hasher { IfOk result (λ m. hasher_of m ≡ hasher) }
-    {
-        let mut inner = IndexMap::with_hasher(alloc, hasher);
-        inner.insert(k, v)?;
-        Ok(NEIndexMap { inner })
     }
 
     /// Swaps the pairs at the indices `a` and `b`. All other pairs stay where they are.
@@ -522,5 +591,43 @@ impl<K: Eq + Hash, V, S: BuildHasher> NEIndexMap<K, V, S> {
         // The contract of `len` says that no two keys are equal.
         let _len = inner.len();
         Ok(NEIndexMap { inner })
+    }
+
+    // Returns the index of the key equal to `k`, which is first inserted with the value `v` if
+    // there is no such key.
+    fn index_or_insert(&mut self, k: K, v: V) -> Result<usize, AllocError>
+    where
+        K: Drop,
+        V: Drop,
+        ensures written { IfOk result (λ i. (w : V) → (with_value_at self.new i w).entries
+            ≡ put_entry K.eq self.old.entries k w) }
+        ensures value { IfOk result (λ i. slice_get (values self.new) i
+            ≡ Some (unwrap_or (get K.eq self.old k) v)) }
+        ensures within { IfOk result (λ i. i < index_map_len self.new) }
+        ensures refused { OnErr result (get K.eq self.old k ≡ None) }
+        ensures unchanged { OnErr result (IsUnchanged self.old self.new) }
+        ensures hasher { hasher_of self.new ≡ hasher_of self.old }
+        ensures valid { IsValid K.eq self.old }
+    {
+        if let Some(index) = self.inner.get_index_of(&k) {
+            return Ok(index);
+        }
+        let (index, _old) = self.inner.insert_full(k, v)?;
+        Ok(index)
+    }
+
+    // Returns a mutable reference to the value at the index.
+    fn value_at(&mut self, index: usize) -> &mut V
+        requires { index < index_map_len self.old }
+        ensures* writes_back { sem 𝓛 (LendsValueAt K.row V.row S.row S.Hasher.row K.Hash
+            S.BuildHasher S.Hasher.Hasher self.entry index result) }
+        ensures value { slice_get (values self.old) index ≡ Some result.now }
+        ensures stays { (w : V) → (keys (with_value_at self.old index w) ≡ keys self.old)
+            × (index_map_len (with_value_at self.old index w) ≡ index_map_len self.old) }
+        ensures updates { (k : K) (v w : V) → slice_get self.old.entries index ≡ Some (k, v)
+            → Updates K.eq self.old (with_value_at self.old index w) k (Some w) }
+        ensures valid { IsValid K.eq self.old }
+    {
+        &mut self.inner[index]
     }
 }

@@ -2,29 +2,33 @@
 //!
 //! An [`NEIndexSet`] iterates in the order in which its items were inserted. Items are looked up by
 //! `Eq` and `Hash`. Of several equal items the set holds one.
-ghost use Rattle.std.specs.Prelude.{◌≡◌, ◌+◌, ◌<◌, ◌≤◌, ◌^◌, ◌↔◌, ◌++◌, [], ◌∷◌, true, false, not};
-ghost use Rattle.std.specs.Prelude.{if◌then◌else◌, is_some, length, IfNone, IfOk, IsOk, IsTrue};
-ghost use Rattle.std.specs.Prelude.{MatchOption, OnErr, OnOk};
+ghost use Rattle.std.specs.Prelude.{◌≡◌, ◌+◌, ◌<◌, ◌≤◌, ◌^◌, ◌↔◌, ◌++◌, [], ◌∷◌, if◌then◌else◌};
+ghost use Rattle.std.specs.Prelude.{◌-◌, true, false, not, is_some, length, filter, slice_get};
+ghost use Rattle.std.specs.Prelude.{take, IfNone, IfOk, IsOk, IsTrue, MatchOption, OnErr, OnOk};
+ghost use Rattle.std.specs.Prelude.{Some, Bool, IfSome, IsErr};
 ghost use Rattle.std.specs.Bool.{OnFalse, OnTrue};
 ghost use Rattle.std.specs.Int.NonZero.{non_zero_usize_get};
-ghost use Rattle.std.specs.Iterator.{ExtendsWithItems, IsFiniteIterable};
+ghost use Rattle.std.specs.Iterator.{ExtendsWithItems, IsFiniteIterable, ActsAsAt};
 ghost use Rattle.std.specs.List.{IsDistinct};
-ghost use Rattle.std.specs.Map.Iter.{ShowsInOrder, deref};
+ghost use Rattle.std.specs.Map.Iter.{deref, ShowsInOrder};
 ghost use Rattle.std.specs.Option.{option_copied};
-ghost use Rattle.ne_vec.specs.Lists.{itself};
+ghost use Rattle.std.specs.Fn.{CalledAt};
+ghost use Rattle.std.specs.List.Retain.{IsFiltered};
 ghost use Rattle.indexmap.specs.IndexSet.{contains, difference, get, hasher_of, index_set_len};
-ghost use Rattle.indexmap.specs.IndexSet.{intersection, spare, union, IsDifference, IsDisjoint};
-ghost use Rattle.indexmap.specs.IndexSet.{IsEmpty, IsIntersection, IsSubset, IsUnchanged, IsUnion};
-ghost use Rattle.indexmap.specs.IndexSet.{IsClone, Updates};
+ghost use Rattle.indexmap.specs.IndexSet.{intersection, spare, union, remove_key, swap_remove_by};
+ghost use Rattle.indexmap.specs.IndexSet.{IsDifference, IsDisjoint, IsEmpty, IsIntersection};
+ghost use Rattle.indexmap.specs.IndexSet.{IsSubset, IsUnchanged, IsUnion, IsClone, Updates};
+ghost use Rattle.ne_vec.specs.Lists.{itself};
+ghost use Rattle.ne_vec.specs.Taken.{RemovesFoundUnlessLast, TakesFoundUnlessLast, TakesUnlessLast};
 ghost use Rattle.ne_iter.specs.ExtendLists.{ExtendsByList};
 ghost use Rattle.ne_iter.specs.KeyIterators.{ListsEntries, ListsUnion};
 ghost use Rattle.ne_iter.specs.KeyClones.{KeepsItems};
 ghost use Rattle.ne_iter.specs.SourceLists.{MeetsList};
+ghost use Rattle.ne_iter.specs.KeptEntries.{either_way};
 ghost use Rattle.ne_index.specs.KeyListSets.{IsKeyListSetOf};
 ghost use Rattle.ne_index.specs.Puts.{put_in_place, put_item};
 ghost use Rattle.ne_index.specs.ValidIndexSet.{IsValid};
 
-mod additions;
 mod iter;
 mod traits;
 
@@ -69,7 +73,126 @@ impl<T: Eq + Hash, S: BuildHasher> Model for NEIndexSet<T, S> {
     ghost invariant = { λ s. IsValid T.eq s.inner };
 }
 
+impl<T: Eq + Hash> NEIndexSet<T> {
+    /// Creates a set that holds the item `value`, with the default hasher.
+    ///
+    /// Returns `AllocError` if the allocation fails; the item is then dropped.
+    ///
+    /// ```
+    /// let set = NEIndexSet::new(alloc, 2)?; // {2}
+    /// ```
+    pub fn new(alloc: Global, value: T) -> Result<Self, AllocError>
+    where
+        T: Drop,
+        ensures keys { IfOk result (λ s. s.keys ≡ value ∷ []) }
+    {
+        NEIndexSet::with_hasher(alloc, BuildHasherDefault::new(), value)
+    }
+
+    /// Creates a set that holds the item `value`, with the default hasher and room for at least
+    /// `capacity` items, `value` included.
+    ///
+    /// Returns `AllocError` if the allocation fails or if `capacity` is more than can be allocated;
+    /// the item is then dropped.
+    ///
+    /// ```
+    /// let room = NonZeroUsize::new(9).unwrap();
+    /// let set = NEIndexSet::with_capacity(alloc, room, 2)?; // {2}, with room for 9 items
+    /// ```
+    pub fn with_capacity(
+        alloc: Global,
+        capacity: NonZeroUsize,
+        value: T,
+    ) -> Result<NEIndexSet<T>, AllocError>
+    where
+        T: Drop,
+        ensures keys { IfOk result (λ s. s.keys ≡ value ∷ []) }
+        ensures room { IfOk result (λ s. non_zero_usize_get capacity
+            ≤ index_set_len s + spare s) }
+    {
+        NEIndexSet::with_capacity_and_hasher(alloc, capacity, BuildHasherDefault::new(), value)
+    }
+}
+
 impl<T: Eq + Hash, S: BuildHasher> NEIndexSet<T, S> {
+    /// Creates a set that holds the item `value`, with the hasher `hasher` and room for at least
+    /// `capacity` items, `value` included.
+    ///
+    /// Returns `AllocError` if the allocation fails or if `capacity` is more than can be allocated;
+    /// the hasher and the item are then dropped.
+    ///
+    /// ```
+    /// let (room, hasher) = (NonZeroUsize::new(9).unwrap(), BuildHasherDefault::new());
+    /// let mut set: NEIndexSet<u32> =
+    ///     NEIndexSet::with_capacity_and_hasher(alloc, room, hasher, 8)?;
+    /// let has_room = set.capacity().get() >= 9; // true
+    /// let is_empty = set.is_empty(); // false
+    /// set.shrink_to_fit()?; // {8}
+    /// let hasher = set.hasher();
+    /// ```
+    pub fn with_capacity_and_hasher(
+        alloc: Global,
+        capacity: NonZeroUsize,
+        hasher: S,
+        value: T,
+    ) -> Result<NEIndexSet<T, S>, AllocError>
+    where
+        T: Drop,
+        S: Drop,
+        ensures keys { IfOk result (λ s. s.keys ≡ value ∷ []) }
+        ensures hasher { IfOk result (λ s. hasher_of s ≡ hasher) }
+        ensures room { IfOk result (λ s. non_zero_usize_get capacity
+            ≤ index_set_len s + spare s) }
+    {
+        let mut inner = IndexSet::with_capacity_and_hasher(alloc, capacity.get(), hasher)?;
+        inner.insert(value)?;
+        Ok(NEIndexSet { inner })
+    }
+
+    /// Creates a set that holds the item `value`, with the hasher `hasher`.
+    ///
+    /// Returns `AllocError` if the allocation fails; the hasher and the item are then dropped.
+    ///
+    /// ```
+    /// let hasher = BuildHasherDefault::new();
+    /// let set: NEIndexSet<u32> = NEIndexSet::with_hasher(alloc, hasher, 5)?; // {5}
+    /// ```
+    pub fn with_hasher(alloc: Global, hasher: S, value: T) -> Result<NEIndexSet<T, S>, AllocError>
+    where
+        T: Drop,
+        S: Drop,
+        ensures keys { IfOk result (λ s. s.keys ≡ value ∷ []) }
+        ensures hasher { IfOk result (λ s. hasher_of s ≡ hasher) }
+    {
+        let mut inner = IndexSet::with_hasher(alloc, hasher);
+        inner.insert(value)?;
+        Ok(NEIndexSet { inner })
+    }
+
+    /// Returns the set as a non-empty set, or `None` if and only if it is empty. The items and the
+    /// hasher stay as they are, and nothing is allocated.
+    ///
+    /// ```
+    /// let inner: IndexSet<u32> = [2, 4].into_iter().collect(alloc)?;
+    /// let some = NEIndexSet::try_from_set(inner); // Some({2, 4})
+    /// let inner: IndexSet<u32> = Vec::new(alloc).into_iter().collect(alloc)?;
+    /// let none = NEIndexSet::try_from_set(inner); // None
+    /// ```
+    pub fn try_from_set(set: IndexSet<T, S>) -> Option<Self>
+    where
+        S: Drop,
+        ensures { MatchOption result (IsEmpty set) (λ s. s ≡ set) }
+    {
+        if set.is_empty() {
+            set.destroy_empty();
+            None
+        } else {
+            // The contract of `len` says that no two items are equal.
+            let _len = set.len();
+            Some(NEIndexSet { inner: set })
+        }
+    }
+
     /// Returns how many items the set has room for, which is at least `len`.
     pub fn capacity(&self) -> NonZeroUsize
         ensures room { non_zero_usize_get result ≡ index_set_len self.now + spare self.now }
@@ -135,73 +258,6 @@ impl<T: Eq + Hash, S: BuildHasher> NEIndexSet<T, S> {
     {
         let _ = &self.inner; // the invariant is known once a field is used
         false
-    }
-}
-
-impl<T: Eq + Hash> NEIndexSet<T> {
-    /// Creates a set that holds the item `value`, with the default hasher.
-    ///
-    /// Returns `AllocError` if the allocation fails; the item is then dropped.
-    ///
-    /// ```
-    /// let set = NEIndexSet::new(alloc, 2)?; // {2}
-    /// ```
-    pub fn new(alloc: Global, value: T) -> Result<Self, AllocError>
-    where
-        T: Drop,
-        ensures keys { IfOk result (λ s. s.keys ≡ value ∷ []) }
-    {
-        NEIndexSet::with_hasher(alloc, BuildHasherDefault::new(), value)
-    }
-
-    /// Creates a set that holds the item `value`, with the default hasher and room for at least
-    /// `capacity` items, `value` included.
-    ///
-    /// Returns `AllocError` if the allocation fails or if `capacity` is more than can be allocated;
-    /// the item is then dropped.
-    ///
-    /// ```
-    /// let room = NonZeroUsize::new(9).unwrap();
-    /// let set = NEIndexSet::with_capacity(alloc, room, 2)?; // {2}, with room for 9 items
-    /// ```
-    pub fn with_capacity(
-        alloc: Global,
-        capacity: NonZeroUsize,
-        value: T,
-    ) -> Result<NEIndexSet<T>, AllocError>
-    where
-        T: Drop,
-        ensures keys { IfOk result (λ s. s.keys ≡ value ∷ []) }
-        ensures room { IfOk result (λ s. non_zero_usize_get capacity
-            ≤ index_set_len s + spare s) }
-    {
-        NEIndexSet::with_capacity_and_hasher(alloc, capacity, BuildHasherDefault::new(), value)
-    }
-}
-
-impl<T: Eq + Hash, S: BuildHasher> NEIndexSet<T, S> {
-    /// Returns the set as a non-empty set, or `None` if and only if it is empty. The items and the
-    /// hasher stay as they are, and nothing is allocated.
-    ///
-    /// ```
-    /// let inner: IndexSet<u32> = [2, 4].into_iter().collect(alloc)?;
-    /// let some = NEIndexSet::try_from_set(inner); // Some({2, 4})
-    /// let inner: IndexSet<u32> = Vec::new(alloc).into_iter().collect(alloc)?;
-    /// let none = NEIndexSet::try_from_set(inner); // None
-    /// ```
-    pub fn try_from_set(set: IndexSet<T, S>) -> Option<Self>
-    where
-        S: Drop,
-        ensures { MatchOption result (IsEmpty set) (λ s. s ≡ set) }
-    {
-        if set.is_empty() {
-            set.destroy_empty();
-            None
-        } else {
-            // The contract of `len` says that no two items are equal.
-            let _len = set.len();
-            Some(NEIndexSet { inner: set })
-        }
     }
 
     /// Returns whether the set holds an item equal to `value`.
@@ -274,6 +330,174 @@ impl<T: Eq + Hash, S: BuildHasher> NEIndexSet<T, S> {
         ensures valid { IsValid T.eq self.new }
     {
         Ok(self.inner.insert(value)?)
+    }
+
+    /// Removes the item equal to `value`, and returns whether it was removed: `false` if there is
+    /// no such item, or if it is the only one, which then stays. The last item moves to the index
+    /// of the removed one.
+    ///
+    /// ```
+    /// let mut set = neis![alloc; 2, 4, 6]?;
+    /// let removed = set.swap_remove(&2); // true, and set is {6, 4}
+    /// let absent = set.swap_remove(&8); // false: there is no such item
+    /// ```
+    pub fn swap_remove(&mut self, value: &T) -> bool
+    where
+        T: Drop,
+        ensures keys { RemovesFoundUnlessLast (contains T.eq self.old value.now ≡ false)
+            self.old.keys self.new.keys result
+            (self.new.keys ≡ swap_remove_by (T.eq value.now) self.old.keys) }
+        ensures updates { OnTrue result (Updates T.eq self.old self.new value.now false) }
+        ensures len { index_set_len self.new + (if result then 1 else 0)
+            ≡ index_set_len self.old }
+        ensures hasher { hasher_of self.new ≡ hasher_of self.old }
+        ensures valid { IsValid T.eq self.new }
+    {
+        if self.inner.len() > 1 {
+            self.inner.swap_remove(value)
+        } else {
+            false
+        }
+    }
+
+    /// Removes the item equal to `value`, and returns whether it was removed: `false` if there is
+    /// no such item, or if it is the only one, which then stays. The items after the removed one
+    /// move one index down.
+    ///
+    /// ```
+    /// let mut set = neis![alloc; 2, 4]?;
+    /// let removed = set.shift_remove(&2); // true, and set is {4}
+    /// let stays = set.shift_remove(&4); // false: the only item stays
+    /// ```
+    pub fn shift_remove(&mut self, value: &T) -> bool
+    where
+        T: Drop,
+        ensures keys { RemovesFoundUnlessLast (contains T.eq self.old value.now ≡ false)
+            self.old.keys self.new.keys result
+            (self.new.keys ≡ remove_key (T.eq value.now) self.old.keys) }
+        ensures updates { OnTrue result (Updates T.eq self.old self.new value.now false) }
+        ensures len { index_set_len self.new + (if result then 1 else 0)
+            ≡ index_set_len self.old }
+        ensures hasher { hasher_of self.new ≡ hasher_of self.old }
+        ensures valid { IsValid T.eq self.new }
+    {
+        if self.inner.len() > 1 {
+            self.inner.shift_remove(value)
+        } else {
+            false
+        }
+    }
+
+    /// Removes the item equal to `value` and returns it, as it was in the set. Returns `None` if
+    /// there is no such item, or if it is the only one, which then stays. The last item moves to
+    /// the index of the removed one.
+    ///
+    /// ```
+    /// let mut set = neis![alloc; 2, 4, 6]?;
+    /// let taken = set.swap_take(&2); // Some(2), and set is {6, 4}
+    /// let none = set.swap_take(&8); // None: there is no such item
+    /// ```
+    pub fn swap_take(&mut self, value: &T) -> Option<T>
+        ensures keys { TakesFoundUnlessLast (contains T.eq self.old value.now ≡ false)
+            self.old.keys self.new.keys result (λ x. (get T.eq self.old value.now ≡ Some x)
+            × (self.new.keys ≡ swap_remove_by (T.eq value.now) self.old.keys)) }
+        ensures same { IfSome result (λ x. IsTrue (T.eq value.now x)) }
+        ensures updates { IfSome result (λ _. Updates T.eq self.old self.new value.now false) }
+        ensures len { index_set_len self.new + (if is_some result then 1 else 0)
+            ≡ index_set_len self.old }
+        ensures hasher { hasher_of self.new ≡ hasher_of self.old }
+        ensures valid { IsValid T.eq self.new }
+    {
+        if self.inner.len() > 1 {
+            self.inner.swap_take(value)
+        } else {
+            None
+        }
+    }
+
+    /// Removes the item equal to `value` and returns it, as it was in the set. Returns `None` if
+    /// there is no such item, or if it is the only one, which then stays. The items after the
+    /// removed one move one index down.
+    ///
+    /// ```
+    /// let mut set = neis![alloc; 2, 4]?;
+    /// let taken = set.shift_take(&2); // Some(2), and set is {4}
+    /// let none = set.shift_take(&4); // None: the only item stays
+    /// ```
+    pub fn shift_take(&mut self, value: &T) -> Option<T>
+        ensures keys { TakesFoundUnlessLast (contains T.eq self.old value.now ≡ false)
+            self.old.keys self.new.keys result (λ x. (get T.eq self.old value.now ≡ Some x)
+            × (self.new.keys ≡ remove_key (T.eq value.now) self.old.keys)) }
+        ensures same { IfSome result (λ x. IsTrue (T.eq value.now x)) }
+        ensures updates { IfSome result (λ _. Updates T.eq self.old self.new value.now false) }
+        ensures len { index_set_len self.new + (if is_some result then 1 else 0)
+            ≡ index_set_len self.old }
+        ensures hasher { hasher_of self.new ≡ hasher_of self.old }
+        ensures valid { IsValid T.eq self.new }
+    {
+        if self.inner.len() > 1 {
+            self.inner.shift_take(value)
+        } else {
+            None
+        }
+    }
+
+    /// Removes the last item and returns it, or returns `None` if it is the only one, which then
+    /// stays.
+    ///
+    /// ```
+    /// let mut set = neis![alloc; 2, 4]?;
+    /// let popped = set.pop(); // Some(4), and set is {2}
+    /// let none = set.pop(); // None: the only item stays
+    /// ```
+    pub fn pop(&mut self) -> Option<T>
+        ensures keys { TakesUnlessLast self.old.keys self.new.keys result
+            (λ x. self.old.keys ≡ self.new.keys ++ x ∷ []) }
+        ensures last { IfSome result (λ x.
+            slice_get self.old.keys (index_set_len self.old - 1) ≡ Some x) }
+        ensures rest { IfSome result (λ _.
+            self.new.keys ≡ take (index_set_len self.old - 1) self.old.keys) }
+        ensures updates { IfSome result (λ x. Updates T.eq self.old self.new x false) }
+        ensures len { index_set_len self.new + (if is_some result then 1 else 0)
+            ≡ index_set_len self.old }
+        ensures hasher { hasher_of self.new ≡ hasher_of self.old }
+        ensures valid { IsValid T.eq self.new }
+    {
+        if self.inner.len() > 1 {
+            self.inner.pop()
+        } else {
+            None
+        }
+    }
+
+    /// Keeps the items for which `f` returns `true`, in order, or returns the empty set as an error
+    /// if there is no such item. Both have the hasher of this set.
+    ///
+    /// `f` is called once for each item, in order. It must be callable with any value of the items'
+    /// type. The clause `kept` covers an `f` whose result depends only on the item; `called` covers
+    /// any `f`.
+    ///
+    /// ```
+    /// let even = neis![alloc; 6, 5]?.retain(|x| *x % 2 == 0); // Ok({6})
+    /// let none = neis![alloc; 1, 3]?.retain(|x| *x % 2 == 0); // Err({})
+    /// ```
+    pub fn retain<F: FnMut(&T) -> bool>(self, f: F) -> Result<Self, IndexSet<T, S>>
+    where
+        T: Drop,
+        requires { F.IsAlwaysCallable f }
+        ensures none { IsErr result ↔ ((either_way result).keys ≡ []) }
+        ensures kept { (keeps : T → Bool) → ActsAsAt F.FnMut f keeps
+            → (either_way result).keys ≡ filter keeps self.keys }
+        ensures called { IsFiltered (CalledAt F.FnMut) f self.keys (either_way result).keys }
+        ensures hasher { hasher_of (either_way result) ≡ hasher_of self }
+    {
+        let mut inner = self.inner;
+        inner.retain(f);
+        if inner.is_empty() {
+            Err(inner)
+        } else {
+            Ok(NEIndexSet { inner })
+        }
     }
 
     /// Returns an iterator over the items that are also in `other`, in this set's order. There may
@@ -407,60 +631,6 @@ impl<T: Eq + Hash, S: BuildHasher> NEIndexSet<T, S> {
         ensures unique { IsDistinct T.eq result }
     {
         NonEmptyIter::new(self.inner.union(&other.inner))
-    }
-
-    /// Creates a set that holds the item `value`, with the hasher `hasher` and room for at least
-    /// `capacity` items, `value` included.
-    ///
-    /// Returns `AllocError` if the allocation fails or if `capacity` is more than can be allocated;
-    /// the hasher and the item are then dropped.
-    ///
-    /// ```
-    /// let (room, hasher) = (NonZeroUsize::new(9).unwrap(), BuildHasherDefault::new());
-    /// let mut set: NEIndexSet<u32> =
-    ///     NEIndexSet::with_capacity_and_hasher(alloc, room, hasher, 8)?;
-    /// let has_room = set.capacity().get() >= 9; // true
-    /// let is_empty = set.is_empty(); // false
-    /// set.shrink_to_fit()?; // {8}
-    /// let hasher = set.hasher();
-    /// ```
-    pub fn with_capacity_and_hasher(
-        alloc: Global,
-        capacity: NonZeroUsize,
-        hasher: S,
-        value: T,
-    ) -> Result<NEIndexSet<T, S>, AllocError>
-    where
-        T: Drop,
-        S: Drop,
-        ensures keys { IfOk result (λ s. s.keys ≡ value ∷ []) }
-        ensures hasher { IfOk result (λ s. hasher_of s ≡ hasher) }
-        ensures room { IfOk result (λ s. non_zero_usize_get capacity
-            ≤ index_set_len s + spare s) }
-    {
-        let mut inner = IndexSet::with_capacity_and_hasher(alloc, capacity.get(), hasher)?;
-        inner.insert(value)?;
-        Ok(NEIndexSet { inner })
-    }
-
-    /// Creates a set that holds the item `value`, with the hasher `hasher`.
-    ///
-    /// Returns `AllocError` if the allocation fails; the hasher and the item are then dropped.
-    ///
-    /// ```
-    /// let hasher = BuildHasherDefault::new();
-    /// let set: NEIndexSet<u32> = NEIndexSet::with_hasher(alloc, hasher, 5)?; // {5}
-    /// ```
-    pub fn with_hasher(alloc: Global, hasher: S, value: T) -> Result<NEIndexSet<T, S>, AllocError>
-    where
-        T: Drop,
-        S: Drop,
-        ensures keys { IfOk result (λ s. s.keys ≡ value ∷ []) }
-        ensures hasher { IfOk result (λ s. hasher_of s ≡ hasher) }
-    {
-        let mut inner = IndexSet::with_hasher(alloc, hasher);
-        inner.insert(value)?;
-        Ok(NEIndexSet { inner })
     }
 
     /// Inserts the items, in order. An item that is already in the set stays as it is, at its

@@ -67,8 +67,8 @@ use Rattle.ne_tree.proofs.btree_map.NEBTreeMap.TheLaws as outer_laws
 use Rattle.ne_tree.specs.contracts.btree_map.NEBTreeMap.lend_values as f
 use Rattle.ne_tree.proofs.btree_map.NEBTreeMap.lend_values.Statement.{statement}
 use Rattle.ne_tree.proofs.btree_map.NEBTreeMap.lend_values.Code as code
-use Rattle.ne_tree.specs.contracts.btree_map.additions.lend_values as g
-use Rattle.ne_tree.proofs.btree_map.additions.lend_values.Met.{met}
+use Rattle.ne_tree.specs.contracts.btree_map.inner_values_mut as g
+use Rattle.ne_tree.proofs.btree_map.inner_values_mut.Met.{met}
 
 pub lend_values_spec : {M : Type 1} → statement M
 unfolding part_of
@@ -149,7 +149,7 @@ lend_values_spec 𝓤 𝓛 𝓜 𝓡 wired K V LK LV o₀ d₀ o₁ d₁ o₂ d�
     use2 𝓛 (raw (G.pre z)) (id⊢ 𝓤 _) $
     calls_at ! (framed 𝓤 𝓛.H 𝓜 𝓣) G
     (met 𝓤 𝓛 𝓜 𝓡
-    (code.calls-ne_tree::btree_map::additions::lend_values 𝓡.env wired) K V LK LV o₀ d₀ o₁ d₁ o₂
+    (code.calls-ne_tree::btree_map::inner_values_mut 𝓡.env wired) K V LK LV o₀ d₀ o₁ d₁ o₂
     d₂ o₃ d₃ m₀ m₁ m₂ m₃) z (and_then ! (get ! refl) (no_more !)) (λ v.
     use1 𝓛 (later (some (λ (it : It.Denot). ((‵ (flft κ (Share.left q)) ⊛ toks)
     ⊛ ‵ (It.own_val it (v ∷ []))) ⊛
