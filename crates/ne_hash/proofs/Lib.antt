@@ -1,4 +1,3 @@
-pub mod FoundValues
 pub mod HashInserts
 pub mod Same
 pub mod Single

@@ -212,10 +212,7 @@ impl<K: Eq + Hash, V, S: BuildHasher> NEMap<K, V, S> {
         ensures room { non_zero_usize_get result ≡ hash_map_len self.now + spare self.now }
         ensures at_least_len { hash_map_len self.now ≤ non_zero_usize_get result }
     {
-        match NonZeroUsize::new(self.inner.capacity()) {
-            Some(capacity) => capacity,
-            None => unreachable!(),
-        }
+        NonZeroUsize::new(self.inner.capacity()).unwrap()
     }
 
     /// Returns the hasher that the map was created with.
@@ -318,8 +315,8 @@ impl<K: Eq + Hash, V, S: BuildHasher> NEMap<K, V, S> {
         NonEmptyIter::new(self.inner.keys())
     }
 
-    /// Returns a non-empty iterator over the keys by value, and drops the values. The order is
-    /// unspecified, but it is that of the pairs.
+    /// Returns a non-empty iterator over the keys by value. The order is unspecified, but it is
+    /// that of the pairs. The values are dropped.
     ///
     /// ```
     /// let keys = nem![alloc; 0 => 3, 2 => 1]?.into_keys(); // 0 and 2, in some order
@@ -346,13 +343,12 @@ impl<K: Eq + Hash, V, S: BuildHasher> NEMap<K, V, S> {
         ensures len { non_zero_usize_get result ≡ hash_map_len self.now }
         ensures valid { IsValid K.eq self.now }
     {
-        match NonZeroUsize::new(self.inner.len()) {
-            Some(len) => len,
-            None => unreachable!(),
-        }
+        NonZeroUsize::new(self.inner.len()).unwrap()
     }
 
     /// Returns `false`: the map always holds a key.
+    ///
+    /// It exists for code that is written for `HashMap` too. It is deprecated in the Rust crate.
     pub fn is_empty(&self) -> bool
         ensures never { result ≡ false }
         ensures valid { IsValid K.eq self.now }
@@ -400,8 +396,8 @@ impl<K: Eq + Hash, V, S: BuildHasher> NEMap<K, V, S> {
         }
     }
 
-    /// Returns a non-empty iterator over the values by value, and drops the keys. The order is
-    /// unspecified, but it is that of the pairs.
+    /// Returns a non-empty iterator over the values by value. The order is unspecified, but it is
+    /// that of the pairs. The keys are dropped.
     ///
     /// ```
     /// let values = nem![alloc; 0 => 3, 2 => 1]?.into_values(); // 3 and 1, in some order
@@ -506,8 +502,8 @@ impl<K: Eq + Hash, V, S: BuildHasher> NEMap<K, V, S> {
         Ok(self.inner.insert(k, v)?)
     }
 
-    /// Removes the key equal to `k` and returns its value, or returns `None` if there is no such
-    /// key, or if it is the only one, which then stays. The order of iteration may change.
+    /// Removes the key equal to `k` and returns its value. Returns `None` if there is no such key,
+    /// or if it is the only one, which then stays. The order of iteration may change.
     ///
     /// ```
     /// let mut map = nem![alloc; 2 => 24, 4 => 26]?;
@@ -534,7 +530,7 @@ impl<K: Eq + Hash, V, S: BuildHasher> NEMap<K, V, S> {
         }
     }
 
-    /// Removes the key equal to `k`, and returns it as it was in the map, and its value. Returns
+    /// Removes the key equal to `k` and returns it, as it was in the map, and its value. Returns
     /// `None` if there is no such key, or if it is the only one, which then stays. The order of
     /// iteration may change.
     ///
@@ -564,7 +560,8 @@ impl<K: Eq + Hash, V, S: BuildHasher> NEMap<K, V, S> {
     }
 
     /// Keeps the entries for which `f` returns `true`, in order and with the values that `f` left,
-    /// or returns the empty map as an error if there is no such entry.
+    /// or returns the empty map as an error if there is no such entry. Both have the hasher of this
+    /// map.
     ///
     /// `f` is called once for each entry, in the order of iteration. It must be callable with each
     /// of them. The clause `kept` covers an `f` whose result and changes depend only on the entry;

@@ -201,10 +201,7 @@ impl<T: Eq + Hash, S: BuildHasher> NESet<T, S> {
         ensures room { non_zero_usize_get result ≡ hash_set_len self.now + spare self.now }
         ensures at_least_len { hash_set_len self.now ≤ non_zero_usize_get result }
     {
-        match NonZeroUsize::new(self.inner.capacity()) {
-            Some(capacity) => capacity,
-            None => unreachable!(),
-        }
+        NonZeroUsize::new(self.inner.capacity()).unwrap()
     }
 
     /// Returns the hasher that the set was created with.
@@ -252,13 +249,12 @@ impl<T: Eq + Hash, S: BuildHasher> NESet<T, S> {
         ensures len { non_zero_usize_get result ≡ hash_set_len self.now }
         ensures valid { IsValid T.eq self.now }
     {
-        match NonZeroUsize::new(self.inner.len()) {
-            Some(len) => len,
-            None => unreachable!(),
-        }
+        NonZeroUsize::new(self.inner.len()).unwrap()
     }
 
     /// Returns `false`: the set always holds an item.
+    ///
+    /// It exists for code that is written for `HashSet` too. It is deprecated in the Rust crate.
     pub fn is_empty(&self) -> bool
         ensures never { result ≡ false }
         ensures valid { IsValid T.eq self.now }
@@ -337,7 +333,7 @@ impl<T: Eq + Hash, S: BuildHasher> NESet<T, S> {
         Ok(self.inner.insert(value)?)
     }
 
-    /// Removes the item equal to `value` and returns `true`, or returns `false` if there is no such
+    /// Removes the item equal to `value` and returns `true`. Returns `false` if there is no such
     /// item, or if it is the only one, which then stays. The order of iteration may change.
     ///
     /// ```
@@ -364,7 +360,7 @@ impl<T: Eq + Hash, S: BuildHasher> NESet<T, S> {
         }
     }
 
-    /// Removes the item equal to `value`, and returns it as it was in the set. Returns `None` if
+    /// Removes the item equal to `value` and returns it, as it was in the set. Returns `None` if
     /// there is no such item, or if it is the only one, which then stays. The order of iteration
     /// may change.
     ///
@@ -393,7 +389,7 @@ impl<T: Eq + Hash, S: BuildHasher> NESet<T, S> {
     }
 
     /// Keeps the items for which `f` returns `true`, in order, or returns the empty set as an error
-    /// if there is no such item.
+    /// if there is no such item. Both have the hasher of this set.
     ///
     /// `f` is called once for each item, in the order of iteration. It must be callable with any
     /// value of the items' type. The clause `kept` covers an `f` whose result depends only on the

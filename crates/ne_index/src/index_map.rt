@@ -4,8 +4,8 @@
 //! index. Keys are looked up by `Eq` and `Hash`. A key that is in the map stays as it is, at its
 //! index, if an equal one is inserted.
 ghost use Rattle.std.specs.Prelude.{◌≡◌, ◌+◌, ◌-◌, ◌<◌, ◌≤◌, ◌^◌, ◌++◌, [], ◌∷◌, if◌then◌else◌};
-ghost use Rattle.std.specs.Prelude.{false, is_some, slice_get, unwrap_or, None, Some, IfOk, IfSome};
-ghost use Rattle.std.specs.Prelude.{IsSome, IfNone, IsOk, MatchOption, OnErr, OnOk};
+ghost use Rattle.std.specs.Prelude.{false, is_some, slice_get, unwrap_or, length, None, Some, IfOk};
+ghost use Rattle.std.specs.Prelude.{IfSome, IsSome, IfNone, IsOk, MatchOption, OnErr, OnOk};
 ghost use Rattle.std.specs.Borrow.{sem};
 ghost use Rattle.std.specs.Int.NonZero.{non_zero_usize_get};
 ghost use Rattle.std.specs.Iterator.{ExtendsWithItems, IsFiniteIterable};
@@ -74,7 +74,7 @@ impl<K: Eq + Hash, V, S: BuildHasher> Model for NEIndexMap<K, V, S> {
     ghost invariant = { λ m. IsValid K.eq m.inner };
 }
 
-impl<K: Eq + Hash, V> NEIndexMap<K, V> {
+impl<K: Eq + Hash + Drop, V: Drop> NEIndexMap<K, V> {
     /// Creates a map that holds the key `k` with the value `v`, with the default hasher.
     ///
     /// Returns `AllocError` if the allocation fails; the pair is then dropped.
@@ -83,10 +83,8 @@ impl<K: Eq + Hash, V> NEIndexMap<K, V> {
     /// let map = NEIndexMap::new(alloc, 4, 20)?; // {4: 20}
     /// ```
     pub fn new(alloc: Global, k: K, v: V) -> Result<Self, AllocError>
-    where
-        K: Drop,
-        V: Drop,
         ensures entries { IfOk result (λ m. m.entries ≡ (k, v) ∷ []) }
+        ensures value { IfOk result (λ m. get K.eq m k ≡ Some v) }
     {
         NEIndexMap::with_hasher(alloc, BuildHasherDefault::new(), k, v)
     }
@@ -106,13 +104,10 @@ impl<K: Eq + Hash, V> NEIndexMap<K, V> {
         capacity: NonZeroUsize,
         k: K,
         v: V,
-    ) -> Result<NEIndexMap<K, V>, AllocError>
-    where
-        K: Drop,
-        V: Drop,
+    ) -> Result<Self, AllocError>
         ensures entries { IfOk result (λ m. m.entries ≡ (k, v) ∷ []) }
-        ensures room { IfOk result (λ m. non_zero_usize_get capacity
-            ≤ index_map_len m + spare m) }
+        ensures value { IfOk result (λ m. get K.eq m k ≡ Some v) }
+        ensures room { IfOk result (λ m. non_zero_usize_get capacity ≤ index_map_len m + spare m) }
     {
         NEIndexMap::with_capacity_and_hasher(alloc, capacity, BuildHasherDefault::new(), k, v)
     }
@@ -140,15 +135,15 @@ impl<K: Eq + Hash, V, S: BuildHasher> NEIndexMap<K, V, S> {
         hasher: S,
         k: K,
         v: V,
-    ) -> Result<NEIndexMap<K, V, S>, AllocError>
+    ) -> Result<Self, AllocError>
     where
         K: Drop,
         V: Drop,
         S: Drop,
         ensures entries { IfOk result (λ m. m.entries ≡ (k, v) ∷ []) }
+        ensures value { IfOk result (λ m. get K.eq m k ≡ Some v) }
         ensures hasher { IfOk result (λ m. hasher_of m ≡ hasher) }
-        ensures room { IfOk result (λ m. non_zero_usize_get capacity
-            ≤ index_map_len m + spare m) }
+        ensures room { IfOk result (λ m. non_zero_usize_get capacity ≤ index_map_len m + spare m) }
     {
         let mut inner = IndexMap::with_capacity_and_hasher(alloc, capacity.get(), hasher)?;
         inner.insert(k, v)?;
@@ -163,17 +158,13 @@ impl<K: Eq + Hash, V, S: BuildHasher> NEIndexMap<K, V, S> {
     /// let hasher = BuildHasherDefault::new();
     /// let map: NEIndexMap<u32, u32> = NEIndexMap::with_hasher(alloc, hasher, 8, 50)?; // {8: 50}
     /// ```
-    pub fn with_hasher(
-        alloc: Global,
-        hasher: S,
-        k: K,
-        v: V,
-    ) -> Result<NEIndexMap<K, V, S>, AllocError>
+    pub fn with_hasher(alloc: Global, hasher: S, k: K, v: V) -> Result<Self, AllocError>
     where
         K: Drop,
         V: Drop,
         S: Drop,
         ensures entries { IfOk result (λ m. m.entries ≡ (k, v) ∷ []) }
+        ensures value { IfOk result (λ m. get K.eq m k ≡ Some v) }
         ensures hasher { IfOk result (λ m. hasher_of m ≡ hasher) }
     {
         let mut inner = IndexMap::with_hasher(alloc, hasher);
@@ -260,6 +251,7 @@ impl<K: Eq + Hash, V, S: BuildHasher> NEIndexMap<K, V, S> {
         ensures keys { result ≡ keys self.now }
         ensures lists { ListsEntries (deref {X = K}) result (keys self.now) }
         ensures found { (q : K) → is_some (get K.eq self.now q) ≡ is_member K.eq result q }
+        ensures len { length result ≡ index_map_len self.now }
         ensures valid { IsValid K.eq self.now }
     {
         NonEmptyIter::new(self.inner.keys())
@@ -279,7 +271,7 @@ impl<K: Eq + Hash, V, S: BuildHasher> NEIndexMap<K, V, S> {
 
     /// Returns `false`: the map always holds a key.
     ///
-    /// It exists for code that also works with `IndexMap`. It is deprecated in the Rust crate.
+    /// It exists for code that is written for `IndexMap` too. It is deprecated in the Rust crate.
     pub fn is_empty(&self) -> bool
         ensures never { result ≡ false }
         ensures valid { IsValid K.eq self.now }
@@ -297,19 +289,21 @@ impl<K: Eq + Hash, V, S: BuildHasher> NEIndexMap<K, V, S> {
     pub fn values(&self) -> Values<'_, K, V>
         ensures values { result ≡ values self.now }
         ensures lists { ListsEntries (deref {X = V}) result (values self.now) }
+        ensures len { length result ≡ index_map_len self.now }
         ensures valid { IsValid K.eq self.now }
     {
         NonEmptyIter::new(self.inner.values())
     }
 
-    /// Returns the first pair.
+    /// Returns the first key and its value, which are always there.
     ///
     /// ```
     /// let map = neim![alloc; 4 => 26, 2 => 24]?;
     /// let first = map.first(); // (&4, &26)
     /// ```
     pub fn first(&self) -> (&K, &V)
-        ensures { slice_get self.now.entries 0 ≡ Some (deref_pair result) }
+        ensures first { slice_get self.now.entries 0 ≡ Some (deref_pair result) }
+        ensures value { get K.eq self.now result.0.now ≡ Some result.1.now }
     {
         self.inner.first().unwrap()
     }
@@ -335,15 +329,16 @@ impl<K: Eq + Hash, V, S: BuildHasher> NEIndexMap<K, V, S> {
         self.value_at(0)
     }
 
-    /// Returns the last pair, which is also the first if there is no other.
+    /// Returns the last key and its value, which are always there.
     ///
     /// ```
     /// let map = neim![alloc; 4 => 26, 2 => 24]?;
     /// let last = map.last(); // (&2, &24)
     /// ```
     pub fn last(&self) -> (&K, &V)
-        ensures { slice_get self.now.entries (index_map_len self.now - 1)
+        ensures last { slice_get self.now.entries (index_map_len self.now - 1)
             ≡ Some (deref_pair result) }
+        ensures value { get K.eq self.now result.0.now ≡ Some result.1.now }
     {
         self.inner.last().unwrap()
     }
@@ -506,14 +501,15 @@ impl<K: Eq + Hash, V, S: BuildHasher> NEIndexMap<K, V, S> {
         Ok(self.value_at(index))
     }
 
-    /// Releases as much memory as it can. The entries, their order and the hasher do not change.
+    /// Releases room that the map does not need. The entries and their order do not change.
     ///
-    /// It always returns `Ok`: if an allocation fails, the room stays as it was.
+    /// If the allocation of the smaller room fails, the map keeps the room that it has, so this
+    /// never returns `AllocError`.
     pub fn shrink_to_fit(&mut self) -> Result<(), AllocError>
+        ensures done { IsOk result }
         ensures unchanged { IsUnchanged self.old self.new }
         ensures hasher { hasher_of self.new ≡ hasher_of self.old }
         ensures valid { IsValid K.eq self.new }
-        ensures succeeds { IsOk result }
     {
         self.inner.shrink_to_fit();
         Ok(())

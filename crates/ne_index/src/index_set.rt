@@ -73,7 +73,7 @@ impl<T: Eq + Hash, S: BuildHasher> Model for NEIndexSet<T, S> {
     ghost invariant = { λ s. IsValid T.eq s.inner };
 }
 
-impl<T: Eq + Hash> NEIndexSet<T> {
+impl<T: Eq + Hash + Drop> NEIndexSet<T> {
     /// Creates a set that holds the item `value`, with the default hasher.
     ///
     /// Returns `AllocError` if the allocation fails; the item is then dropped.
@@ -82,9 +82,8 @@ impl<T: Eq + Hash> NEIndexSet<T> {
     /// let set = NEIndexSet::new(alloc, 2)?; // {2}
     /// ```
     pub fn new(alloc: Global, value: T) -> Result<Self, AllocError>
-    where
-        T: Drop,
         ensures keys { IfOk result (λ s. s.keys ≡ value ∷ []) }
+        ensures found { IfOk result (λ s. contains T.eq s value ≡ true) }
     {
         NEIndexSet::with_hasher(alloc, BuildHasherDefault::new(), value)
     }
@@ -103,12 +102,10 @@ impl<T: Eq + Hash> NEIndexSet<T> {
         alloc: Global,
         capacity: NonZeroUsize,
         value: T,
-    ) -> Result<NEIndexSet<T>, AllocError>
-    where
-        T: Drop,
+    ) -> Result<Self, AllocError>
         ensures keys { IfOk result (λ s. s.keys ≡ value ∷ []) }
-        ensures room { IfOk result (λ s. non_zero_usize_get capacity
-            ≤ index_set_len s + spare s) }
+        ensures found { IfOk result (λ s. contains T.eq s value ≡ true) }
+        ensures room { IfOk result (λ s. non_zero_usize_get capacity ≤ index_set_len s + spare s) }
     {
         NEIndexSet::with_capacity_and_hasher(alloc, capacity, BuildHasherDefault::new(), value)
     }
@@ -135,14 +132,14 @@ impl<T: Eq + Hash, S: BuildHasher> NEIndexSet<T, S> {
         capacity: NonZeroUsize,
         hasher: S,
         value: T,
-    ) -> Result<NEIndexSet<T, S>, AllocError>
+    ) -> Result<Self, AllocError>
     where
         T: Drop,
         S: Drop,
         ensures keys { IfOk result (λ s. s.keys ≡ value ∷ []) }
+        ensures found { IfOk result (λ s. contains T.eq s value ≡ true) }
         ensures hasher { IfOk result (λ s. hasher_of s ≡ hasher) }
-        ensures room { IfOk result (λ s. non_zero_usize_get capacity
-            ≤ index_set_len s + spare s) }
+        ensures room { IfOk result (λ s. non_zero_usize_get capacity ≤ index_set_len s + spare s) }
     {
         let mut inner = IndexSet::with_capacity_and_hasher(alloc, capacity.get(), hasher)?;
         inner.insert(value)?;
@@ -157,11 +154,12 @@ impl<T: Eq + Hash, S: BuildHasher> NEIndexSet<T, S> {
     /// let hasher = BuildHasherDefault::new();
     /// let set: NEIndexSet<u32> = NEIndexSet::with_hasher(alloc, hasher, 5)?; // {5}
     /// ```
-    pub fn with_hasher(alloc: Global, hasher: S, value: T) -> Result<NEIndexSet<T, S>, AllocError>
+    pub fn with_hasher(alloc: Global, hasher: S, value: T) -> Result<Self, AllocError>
     where
         T: Drop,
         S: Drop,
         ensures keys { IfOk result (λ s. s.keys ≡ value ∷ []) }
+        ensures found { IfOk result (λ s. contains T.eq s value ≡ true) }
         ensures hasher { IfOk result (λ s. hasher_of s ≡ hasher) }
     {
         let mut inner = IndexSet::with_hasher(alloc, hasher);
@@ -251,7 +249,7 @@ impl<T: Eq + Hash, S: BuildHasher> NEIndexSet<T, S> {
 
     /// Returns `false`: the set always holds an item.
     ///
-    /// It exists for code that also works with `IndexSet`. It is deprecated in the Rust crate.
+    /// It exists for code that is written for `IndexSet` too. It is deprecated in the Rust crate.
     pub fn is_empty(&self) -> bool
         ensures never { result ≡ false }
         ensures valid { IsValid T.eq self.now }
@@ -332,9 +330,9 @@ impl<T: Eq + Hash, S: BuildHasher> NEIndexSet<T, S> {
         Ok(self.inner.insert(value)?)
     }
 
-    /// Removes the item equal to `value`, and returns whether it was removed: `false` if there is
-    /// no such item, or if it is the only one, which then stays. The last item moves to the index
-    /// of the removed one.
+    /// Removes the item equal to `value` and returns `true`. Returns `false` if there is no such
+    /// item, or if it is the only one, which then stays. The last item moves to the index of the
+    /// removed one.
     ///
     /// ```
     /// let mut set = neis![alloc; 2, 4, 6]?;
@@ -360,9 +358,9 @@ impl<T: Eq + Hash, S: BuildHasher> NEIndexSet<T, S> {
         }
     }
 
-    /// Removes the item equal to `value`, and returns whether it was removed: `false` if there is
-    /// no such item, or if it is the only one, which then stays. The items after the removed one
-    /// move one index down.
+    /// Removes the item equal to `value` and returns `true`. Returns `false` if there is no such
+    /// item, or if it is the only one, which then stays. The items after the removed one move one
+    /// index down.
     ///
     /// ```
     /// let mut set = neis![alloc; 2, 4]?;
@@ -473,9 +471,9 @@ impl<T: Eq + Hash, S: BuildHasher> NEIndexSet<T, S> {
     /// Keeps the items for which `f` returns `true`, in order, or returns the empty set as an error
     /// if there is no such item. Both have the hasher of this set.
     ///
-    /// `f` is called once for each item, in order. It must be callable with any value of the items'
-    /// type. The clause `kept` covers an `f` whose result depends only on the item; `called` covers
-    /// any `f`.
+    /// `f` is called once for each item, in the set's order. It must be callable with any value of
+    /// the items' type. The clause `kept` covers an `f` whose result depends only on the item;
+    /// `called` covers any `f`.
     ///
     /// ```
     /// let even = neis![alloc; 6, 5]?.retain(|x| *x % 2 == 0); // Ok({6})
@@ -485,7 +483,7 @@ impl<T: Eq + Hash, S: BuildHasher> NEIndexSet<T, S> {
     where
         T: Drop,
         requires { F.IsAlwaysCallable f }
-        ensures none { IsErr result ↔ ((either_way result).keys ≡ []) }
+        ensures none { IsErr result ↔ IsEmpty (either_way result) }
         ensures kept { (keeps : T → Bool) → ActsAsAt F.FnMut f keeps
             → (either_way result).keys ≡ filter keeps self.keys }
         ensures called { IsFiltered (CalledAt F.FnMut) f self.keys (either_way result).keys }
@@ -604,14 +602,15 @@ impl<T: Eq + Hash, S: BuildHasher> NEIndexSet<T, S> {
         self.inner.reserve(additional)
     }
 
-    /// Releases as much memory as it can. The items, their order and the hasher do not change.
+    /// Releases room that the set does not need. The items and their order do not change.
     ///
-    /// It always returns `Ok`: if an allocation fails, the room stays as it was.
+    /// If the allocation of the smaller room fails, the set keeps the room that it has, so this
+    /// never returns `AllocError`.
     pub fn shrink_to_fit(&mut self) -> Result<(), AllocError>
+        ensures done { IsOk result }
         ensures unchanged { IsUnchanged self.old self.new }
         ensures hasher { hasher_of self.new ≡ hasher_of self.old }
         ensures valid { IsValid T.eq self.new }
-        ensures succeeds { IsOk result }
     {
         self.inner.shrink_to_fit();
         Ok(())

@@ -5,6 +5,7 @@
 ghost use Rattle.std.specs.Prelude.{◌≡◌, ◌+◌, ◌<◌, ◌^◌, ◌++◌, [], ◌∷◌, if◌then◌else◌, ◌-◌, ◌↔◌};
 ghost use Rattle.std.specs.Prelude.{is_some, false, length, take, slice_get, None, Some, IfOk};
 ghost use Rattle.std.specs.Prelude.{IfSome, IsSome, MatchOption, OnErr, OnOk, Bool, IsErr};
+ghost use Rattle.std.specs.Prelude.{Contains};
 ghost use Rattle.std.specs.BTreeMap.{btree_map_len, get, get_key, insert_entry, keys, values};
 ghost use Rattle.std.specs.BTreeMap.{is_at, IsClone, IsEmpty, IsUnchanged, Updates, IsLowerBound};
 ghost use Rattle.std.specs.BTreeMap.{IsRun, IsUpperBound};
@@ -213,6 +214,7 @@ impl<K: Ord, V> NEBTreeMap<K, V> {
         ensures lists { ListsEntries (deref {X = K}) result (keys self.now) }
         ensures found { (q : K)
             → is_some (get K.cmp self.now q) ≡ is_member (eq_by_cmp K.cmp) result q }
+        ensures len { length result ≡ btree_map_len self.now }
         ensures valid { IsValid K.cmp self.now }
     {
         NonEmptyIter::new(self.inner.keys())
@@ -230,6 +232,9 @@ impl<K: Ord, V> NEBTreeMap<K, V> {
         V: Drop,
         ensures keys { result ≡ keys self }
         ensures lists { ListsEntriesByValue KnownByValue result (keys self) }
+        ensures found { (q : K)
+            → is_some (get K.cmp self q) ≡ is_member (eq_by_cmp K.cmp) result q }
+        ensures len { length result ≡ btree_map_len self }
     {
         NonEmptyIter::new(self.inner.into_keys())
     }
@@ -243,13 +248,10 @@ impl<K: Ord, V> NEBTreeMap<K, V> {
         ensures len { non_zero_usize_get result ≡ btree_map_len self.now }
         ensures valid { IsValid K.cmp self.now }
     {
-        match NonZeroUsize::new(self.inner.len()) {
-            Some(len) => len,
-            None => unreachable!(),
-        }
+        NonZeroUsize::new(self.inner.len()).unwrap()
     }
 
-    /// Returns `false`, as there is always a key.
+    /// Returns `false`: the map always holds a key.
     ///
     /// It exists for code that is written for `BTreeMap` too.
     ///
@@ -273,6 +275,7 @@ impl<K: Ord, V> NEBTreeMap<K, V> {
     pub fn values(&self) -> Values<'_, K, V>
         ensures values { result ≡ values self.now }
         ensures lists { ListsEntries (deref {X = V}) result (values self.now) }
+        ensures len { length result ≡ btree_map_len self.now }
         ensures valid { IsValid K.cmp self.now }
     {
         NonEmptyIter::new(self.inner.values())
@@ -314,6 +317,8 @@ impl<K: Ord, V> NEBTreeMap<K, V> {
         V: Drop,
         ensures values { result ≡ values self }
         ensures lists { ListsEntriesByValue KnownByValue result (values self) }
+        ensures found { (k : K) (v : V) → get K.cmp self k ≡ Some v → Contains result v }
+        ensures len { length result ≡ btree_map_len self }
     {
         NonEmptyIter::new(self.inner.into_values())
     }
@@ -325,7 +330,7 @@ impl<K: Ord, V> NEBTreeMap<K, V> {
     /// let pair = map.first_key_value(); // (&2, &3)
     /// ```
     pub fn first_key_value(&self) -> (&K, &V)
-        ensures first { slice_get self.now.entries 0 ≡ Some (result.0.now, result.1.now) }
+        ensures first { slice_get self.now.entries 0 ≡ Some (deref_pair result) }
         ensures value { get K.cmp self.now result.0.now ≡ Some result.1.now }
         ensures least { IsLowerBound K.cmp self.now result.0.now }
     {
@@ -340,7 +345,7 @@ impl<K: Ord, V> NEBTreeMap<K, V> {
     /// ```
     pub fn last_key_value(&self) -> (&K, &V)
         ensures last { slice_get self.now.entries (btree_map_len self.now - 1)
-            ≡ Some (result.0.now, result.1.now) }
+            ≡ Some (deref_pair result) }
         ensures value { get K.cmp self.now result.0.now ≡ Some result.1.now }
         ensures greatest { IsUpperBound K.cmp self.now result.0.now }
     {
@@ -501,8 +506,8 @@ impl<K: Ord, V> NEBTreeMap<K, V> {
             self.new.entries result (λ p. (get_key K.cmp self.old k.now ≡ Some p.0)
             × (get K.cmp self.old k.now ≡ Some p.1)
             × (self.new.entries ≡ remove_entry (is_at (K.cmp k.now)) self.old.entries)) }
-        ensures updates { IfSome result (λ _. Updates K.cmp self.old self.new k.now None) }
         ensures same { IfSome result (λ p. K.cmp k.now p.0 ≡ Equal) }
+        ensures updates { IfSome result (λ _. Updates K.cmp self.old self.new k.now None) }
         ensures len { btree_map_len self.new + (if is_some result then 1 else 0)
             ≡ btree_map_len self.old }
         ensures valid { IsValid K.cmp self.new }
@@ -528,6 +533,8 @@ impl<K: Ord, V> NEBTreeMap<K, V> {
         ensures value { IfSome result (λ p. get K.cmp self.old p.0 ≡ Some p.1) }
         ensures least { IfSome result (λ p. IsLowerBound K.cmp self.old p.0) }
         ensures updates { IfSome result (λ p. Updates K.cmp self.old self.new p.0 None) }
+        ensures len { btree_map_len self.new + (if is_some result then 1 else 0)
+            ≡ btree_map_len self.old }
         ensures valid { IsValid K.cmp self.new }
     {
         if self.inner.len() > 1 {
@@ -553,6 +560,8 @@ impl<K: Ord, V> NEBTreeMap<K, V> {
         ensures value { IfSome result (λ p. get K.cmp self.old p.0 ≡ Some p.1) }
         ensures greatest { IfSome result (λ p. IsUpperBound K.cmp self.old p.0) }
         ensures updates { IfSome result (λ p. Updates K.cmp self.old self.new p.0 None) }
+        ensures len { btree_map_len self.new + (if is_some result then 1 else 0)
+            ≡ btree_map_len self.old }
         ensures valid { IsValid K.cmp self.new }
     {
         if self.inner.len() > 1 {
@@ -565,8 +574,9 @@ impl<K: Ord, V> NEBTreeMap<K, V> {
     /// Keeps the entries for which `f` returns `true`, in order and with the values that `f` left,
     /// or returns the empty map as an error if there is no such entry.
     ///
-    /// `f` is called once for each entry, in ascending order of the keys. The clause `kept` covers
-    /// an `f` whose result and changes depend only on the entry; `called` covers any `f`.
+    /// `f` is called once for each entry, in ascending order of the keys. It must be callable with
+    /// each of them. The clause `kept` covers an `f` whose result and changes depend only on the
+    /// entry; `called` covers any `f`.
     ///
     /// ```
     /// let even = nebtm![alloc; 2 => 24, 4 => 27]?.retain(|_k, v| *v % 2 == 0); // Ok({2: 24})

@@ -155,13 +155,10 @@ impl<T: Ord> NEBTreeSet<T> {
         ensures len { non_zero_usize_get result ≡ btree_set_len self.now }
         ensures valid { IsValid T.cmp self.now }
     {
-        match NonZeroUsize::new(self.inner.len()) {
-            Some(len) => len,
-            None => unreachable!(),
-        }
+        NonZeroUsize::new(self.inner.len()).unwrap()
     }
 
-    /// Returns `false`, as there is always an item.
+    /// Returns `false`: the set always holds an item.
     ///
     /// It exists for code that is written for `BTreeSet` too.
     ///
@@ -336,8 +333,8 @@ impl<T: Ord> NEBTreeSet<T> {
         ensures keys { TakesFoundUnlessLast (contains T.cmp self.old value.now ≡ false)
             self.old.keys self.new.keys result (λ x. (get T.cmp self.old value.now ≡ Some x)
             × (self.new.keys ≡ remove_key (is_at (T.cmp value.now)) self.old.keys)) }
-        ensures updates { IfSome result (λ _. Updates T.cmp self.old self.new value.now false) }
         ensures same { IfSome result (λ x. T.cmp value.now x ≡ Equal) }
+        ensures updates { IfSome result (λ _. Updates T.cmp self.old self.new value.now false) }
         ensures len { btree_set_len self.new + (if is_some result then 1 else 0)
             ≡ btree_set_len self.old }
         ensures valid { IsValid T.cmp self.new }
@@ -363,6 +360,8 @@ impl<T: Ord> NEBTreeSet<T> {
         ensures found { IfSome result (λ x. IsTrue (contains T.cmp self.old x)) }
         ensures least { IfSome result (IsLowerBound T.cmp self.old) }
         ensures updates { IfSome result (λ x. Updates T.cmp self.old self.new x false) }
+        ensures len { btree_set_len self.new + (if is_some result then 1 else 0)
+            ≡ btree_set_len self.old }
         ensures valid { IsValid T.cmp self.new }
     {
         if self.inner.len() > 1 {
@@ -388,6 +387,8 @@ impl<T: Ord> NEBTreeSet<T> {
         ensures found { IfSome result (λ x. IsTrue (contains T.cmp self.old x)) }
         ensures greatest { IfSome result (IsUpperBound T.cmp self.old) }
         ensures updates { IfSome result (λ x. Updates T.cmp self.old self.new x false) }
+        ensures len { btree_set_len self.new + (if is_some result then 1 else 0)
+            ≡ btree_set_len self.old }
         ensures valid { IsValid T.cmp self.new }
     {
         if self.inner.len() > 1 {

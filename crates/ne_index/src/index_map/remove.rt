@@ -3,7 +3,7 @@ ghost use Rattle.std.specs.Prelude.{◌≡◌, ◌+◌, ◌-◌, ◌++◌, [], �
 ghost use Rattle.std.specs.Prelude.{slice_get, take, None, Some, IfSome, Bool, IsErr, IsTrue};
 ghost use Rattle.std.specs.Map.Calls.{CallableOnEachPair, CalledAtPair, RetainsPairs, TakesPair};
 ghost use Rattle.indexmap.specs.IndexMap.{get, get_key, hasher_of, index_map_len};
-ghost use Rattle.indexmap.specs.IndexMap.{shift_remove_entry, swap_remove_entry, Updates};
+ghost use Rattle.indexmap.specs.IndexMap.{shift_remove_entry, swap_remove_entry, Updates, IsEmpty};
 ghost use Rattle.ne_vec.specs.Taken.{TakesFoundUnlessLast, TakesUnlessLast};
 ghost use Rattle.ne_iter.specs.KeptEntries.{either_way, kept_entries, ActsAsAtEntry};
 ghost use Rattle.ne_index.specs.ValidIndexMap.{IsValid};
@@ -13,9 +13,9 @@ use indexmap::IndexMap;
 use std::hash::{BuildHasher, Hash};
 
 impl<K: Eq + Hash, V, S: BuildHasher> NEIndexMap<K, V, S> {
-    /// Removes the key equal to `k` and returns its value, or returns `None` if there is no such
-    /// key, or if it is the only one, which then stays. The last entry moves to the index of the
-    /// removed one.
+    /// Removes the key equal to `k` and returns its value. Returns `None` if there is no such key,
+    /// or if it is the only one, which then stays. The last entry moves to the index of the removed
+    /// one.
     ///
     /// ```
     /// let mut map = neim![alloc; 2 => 24, 4 => 26, 6 => 23]?;
@@ -41,9 +41,9 @@ impl<K: Eq + Hash, V, S: BuildHasher> NEIndexMap<K, V, S> {
         }
     }
 
-    /// Removes the key equal to `k` and returns its value, or returns `None` if there is no such
-    /// key, or if it is the only one, which then stays. The entries after the removed one move one
-    /// index down.
+    /// Removes the key equal to `k` and returns its value. Returns `None` if there is no such key,
+    /// or if it is the only one, which then stays. The entries after the removed one move one index
+    /// down.
     ///
     /// ```
     /// let mut map = neim![alloc; 2 => 24, 4 => 26]?;
@@ -69,7 +69,7 @@ impl<K: Eq + Hash, V, S: BuildHasher> NEIndexMap<K, V, S> {
         }
     }
 
-    /// Removes the key equal to `k` and returns it, as it was in the map, with its value. Returns
+    /// Removes the key equal to `k` and returns it, as it was in the map, and its value. Returns
     /// `None` if there is no such key, or if it is the only one, which then stays. The last entry
     /// moves to the index of the removed one.
     ///
@@ -97,7 +97,7 @@ impl<K: Eq + Hash, V, S: BuildHasher> NEIndexMap<K, V, S> {
         }
     }
 
-    /// Removes the key equal to `k` and returns it, as it was in the map, with its value. Returns
+    /// Removes the key equal to `k` and returns it, as it was in the map, and its value. Returns
     /// `None` if there is no such key, or if it is the only one, which then stays. The entries
     /// after the removed one move one index down.
     ///
@@ -153,13 +153,13 @@ impl<K: Eq + Hash, V, S: BuildHasher> NEIndexMap<K, V, S> {
         }
     }
 
-    /// Keeps the entries for which `f` returns `true`, in order and with the changes that `f` made
-    /// to their values, or returns the empty map as an error if there is no such entry. Both have
-    /// the hasher of this map.
+    /// Keeps the entries for which `f` returns `true`, in order and with the values that `f` left,
+    /// or returns the empty map as an error if there is no such entry. Both have the hasher of this
+    /// map.
     ///
-    /// `f` is called once for each entry, in order. It must be callable with the key of each entry
-    /// and any value that it may have by then. The clause `kept` covers an `f` whose result and
-    /// changes depend only on the entry; `called` covers any `f`.
+    /// `f` is called once for each entry, in the map's order. It must be callable with each of
+    /// them. The clause `kept` covers an `f` whose result and changes depend only on the entry;
+    /// `called` covers any `f`.
     ///
     /// ```
     /// let map = neim![alloc; 6 => 24, 4 => 25]?;
@@ -171,7 +171,7 @@ impl<K: Eq + Hash, V, S: BuildHasher> NEIndexMap<K, V, S> {
         K: Drop,
         V: Drop,
         requires { CallableOnEachPair (CalledAtPair F.FnMut) (TakesPair F.FnMut) f self.entries }
-        ensures none { IsErr result ↔ ((either_way result).entries ≡ []) }
+        ensures none { IsErr result ↔ IsEmpty (either_way result) }
         ensures kept { (keeps : K → V → Bool) (writes : K → V → V)
             → ActsAsAtEntry F.FnMut f keeps writes
             → (either_way result).entries ≡ kept_entries keeps writes self.entries }
