@@ -201,9 +201,7 @@ impl<K: Eq + Hash, V, S: BuildHasher> NEMap<K, V, S> {
             map.destroy_empty();
             None
         } else {
-            // The contract of `len` says that no two keys are equal.
-            let _len = map.len();
-            Some(NEMap { inner: map })
+            Some(NEMap::wrap(map))
         }
     }
 
@@ -353,8 +351,7 @@ impl<K: Eq + Hash, V, S: BuildHasher> NEMap<K, V, S> {
         ensures never { result ≡ false }
         ensures valid { IsValid K.eq self.now }
     {
-        let _ = &self.inner; // the invariant is known once a field is used
-        false
+        self.inner.is_empty()
     }
 
     /// Returns a non-empty iterator over the values. The order is unspecified, but it is that of
@@ -655,9 +652,16 @@ impl<K: Eq + Hash, V, S: BuildHasher> NEMap<K, V, S> {
             × KeepsEntries K.is_clone V.is_clone self.now.entries m.entries) }
     {
         let inner = self.inner.clone()?;
-        // The contract of `len` says that no two keys are equal.
-        let _len = inner.len();
-        Ok(NEMap { inner })
+        Ok(NEMap::wrap(inner))
+    }
+
+    // Wraps a map that is not empty. The contract of `len` says that no two keys are equal.
+    fn wrap(inner: HashMap<K, V, S>) -> Self
+        requires { 0 < hash_map_len inner }
+        ensures { result ≡ inner }
+    {
+        prove!(inner.len() > 0);
+        NEMap { inner }
     }
 }
 

@@ -190,9 +190,7 @@ impl<T: Eq + Hash, S: BuildHasher> NESet<T, S> {
             set.destroy_empty();
             None
         } else {
-            // The contract of `len` says that no two items are equal.
-            let _len = set.len();
-            Some(NESet { inner: set })
+            Some(NESet::wrap(set))
         }
     }
 
@@ -259,8 +257,7 @@ impl<T: Eq + Hash, S: BuildHasher> NESet<T, S> {
         ensures never { result ≡ false }
         ensures valid { IsValid T.eq self.now }
     {
-        let _ = &self.inner; // the invariant is known once a field is used
-        false
+        self.inner.is_empty()
     }
 
     /// Returns whether the set holds an item equal to `value`.
@@ -593,9 +590,16 @@ impl<T: Eq + Hash, S: BuildHasher> NESet<T, S> {
             × KeepsItems T.is_clone self.now.keys s.keys) }
     {
         let inner = self.inner.clone()?;
-        // The contract of `len` says that no two items are equal.
-        let _len = inner.len();
-        Ok(NESet { inner })
+        Ok(NESet::wrap(inner))
+    }
+
+    // Wraps a set that is not empty. The contract of `len` says that no two items are equal.
+    fn wrap(inner: HashSet<T, S>) -> Self
+        requires { 0 < hash_set_len inner }
+        ensures { result ≡ inner }
+    {
+        prove!(inner.len() > 0);
+        NESet { inner }
     }
 }
 

@@ -190,9 +190,7 @@ impl<K: Eq + Hash, V, S: BuildHasher> NEIndexMap<K, V, S> {
             map.destroy_empty();
             None
         } else {
-            // The contract of `len` says that no two keys are equal.
-            let _len = map.len();
-            Some(NEIndexMap { inner: map })
+            Some(NEIndexMap::wrap(map))
         }
     }
 
@@ -276,8 +274,7 @@ impl<K: Eq + Hash, V, S: BuildHasher> NEIndexMap<K, V, S> {
         ensures never { result ≡ false }
         ensures valid { IsValid K.eq self.now }
     {
-        let _ = &self.inner; // the invariant is known once a field is used
-        false
+        self.inner.is_empty()
     }
 
     /// Returns a non-empty iterator over the values, in the order of their keys.
@@ -325,7 +322,7 @@ impl<K: Eq + Hash, V, S: BuildHasher> NEIndexMap<K, V, S> {
             → Updates K.eq self.old (with_value_at self.old 0 w) k (Some w) }
         ensures valid { IsValid K.eq self.old }
     {
-        let _ = &self.inner; // the invariant is known once a field is used
+        prove!(self.inner.len() > 0);
         self.value_at(0)
     }
 
@@ -584,9 +581,16 @@ impl<K: Eq + Hash, V, S: BuildHasher> NEIndexMap<K, V, S> {
             × KeepsEntries K.is_clone V.is_clone self.now.entries m.entries) }
     {
         let inner = self.inner.clone()?;
-        // The contract of `len` says that no two keys are equal.
-        let _len = inner.len();
-        Ok(NEIndexMap { inner })
+        Ok(NEIndexMap::wrap(inner))
+    }
+
+    // Wraps a map that is not empty. The contract of `len` says that no two keys are equal.
+    fn wrap(inner: IndexMap<K, V, S>) -> Self
+        requires { 0 < index_map_len inner }
+        ensures { result ≡ inner }
+    {
+        prove!(inner.len() > 0);
+        NEIndexMap { inner }
     }
 
     // Returns the index of the key equal to `k`, which is first inserted with the value `v` if

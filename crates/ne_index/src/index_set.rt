@@ -185,9 +185,7 @@ impl<T: Eq + Hash, S: BuildHasher> NEIndexSet<T, S> {
             set.destroy_empty();
             None
         } else {
-            // The contract of `len` says that no two items are equal.
-            let _len = set.len();
-            Some(NEIndexSet { inner: set })
+            Some(NEIndexSet::wrap(set))
         }
     }
 
@@ -254,8 +252,7 @@ impl<T: Eq + Hash, S: BuildHasher> NEIndexSet<T, S> {
         ensures never { result ≡ false }
         ensures valid { IsValid T.eq self.now }
     {
-        let _ = &self.inner; // the invariant is known once a field is used
-        false
+        self.inner.is_empty()
     }
 
     /// Returns whether the set holds an item equal to `value`.
@@ -679,8 +676,15 @@ impl<T: Eq + Hash, S: BuildHasher> NEIndexSet<T, S> {
             × KeepsItems T.is_clone self.now.keys s.keys) }
     {
         let inner = self.inner.clone()?;
-        // The contract of `len` says that no two items are equal.
-        let _len = inner.len();
-        Ok(NEIndexSet { inner })
+        Ok(NEIndexSet::wrap(inner))
+    }
+
+    // Wraps a set that is not empty. The contract of `len` says that no two items are equal.
+    fn wrap(inner: IndexSet<T, S>) -> Self
+        requires { 0 < index_set_len inner }
+        ensures { result ≡ inner }
+    {
+        prove!(inner.len() > 0);
+        NEIndexSet { inner }
     }
 }

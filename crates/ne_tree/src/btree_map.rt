@@ -122,9 +122,7 @@ impl<K: Ord, V> NEBTreeMap<K, V> {
             map.destroy_empty();
             None
         } else {
-            // The contract of `len` says that the keys ascend.
-            let _len = map.len();
-            Some(NEBTreeMap { inner: map })
+            Some(NEBTreeMap::wrap(map))
         }
     }
 
@@ -262,8 +260,7 @@ impl<K: Ord, V> NEBTreeMap<K, V> {
         ensures never { result ≡ false }
         ensures valid { IsValid K.cmp self.now }
     {
-        let _ = &self.inner; // the invariant is known once a field is used
-        false
+        self.inner.is_empty()
     }
 
     /// Returns a non-empty iterator over the values, in ascending order of their keys.
@@ -649,9 +646,16 @@ impl<K: Ord, V> NEBTreeMap<K, V> {
             × KeepsEntries K.is_clone V.is_clone self.now.entries m.entries) }
     {
         let inner = self.inner.clone()?;
-        // The contract of `len` says that the keys ascend.
-        let _len = inner.len();
-        Ok(NEBTreeMap { inner })
+        Ok(NEBTreeMap::wrap(inner))
+    }
+
+    // Wraps a map that is not empty. The contract of `len` says that its keys ascend.
+    fn wrap(inner: BTreeMap<K, V>) -> Self
+        requires { 0 < btree_map_len inner }
+        ensures { result ≡ inner }
+    {
+        prove!(inner.len() > 0);
+        NEBTreeMap { inner }
     }
 
     // Lends the values by std's iterator, for `values_mut`.

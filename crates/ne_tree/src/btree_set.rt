@@ -111,9 +111,7 @@ impl<T: Ord> NEBTreeSet<T> {
             set.destroy_empty();
             None
         } else {
-            // The contract of `len` says that the items ascend.
-            let _len = set.len();
-            Some(NEBTreeSet { inner: set })
+            Some(NEBTreeSet::wrap(set))
         }
     }
 
@@ -169,8 +167,7 @@ impl<T: Ord> NEBTreeSet<T> {
         ensures never { result ≡ false }
         ensures valid { IsValid T.cmp self.now }
     {
-        let _ = &self.inner; // the invariant is known once a field is used
-        false
+        self.inner.is_empty()
     }
 
     /// Returns the least item, which is always there.
@@ -563,8 +560,15 @@ impl<T: Ord> NEBTreeSet<T> {
             × KeepsItems T.is_clone self.now.keys s.keys) }
     {
         let inner = self.inner.clone()?;
-        // The contract of `len` says that the items ascend.
-        let _len = inner.len();
-        Ok(NEBTreeSet { inner })
+        Ok(NEBTreeSet::wrap(inner))
+    }
+
+    // Wraps a set that is not empty. The contract of `len` says that its items ascend.
+    fn wrap(inner: BTreeSet<T>) -> Self
+        requires { 0 < btree_set_len inner }
+        ensures { result ≡ inner }
+    {
+        prove!(inner.len() > 0);
+        NEBTreeSet { inner }
     }
 }

@@ -3,5 +3,5 @@ use Rattle.ne_iter.specs.KeyCloneLaws.{keeps_items}
 
 pub returns : goal.returns
 returns g c = let made = c.in_ok-inner.ensures.cases in record {
-  clones = rw (← c.self.view_is) (made, keeps_items _ _ _ made);
+  clones = rw (c.wrap.ensures, ← c.self.view_is) (made, keeps_items _ _ _ made);
 }

@@ -3,5 +3,5 @@ use Rattle.ne_iter.specs.KeyCloneLaws.{keeps_entries}
 
 pub returns : goal.returns
 returns g c = let made = c.in_ok-inner.ensures.cases in record {
-  clones = rw (← c.self.view_is) (made, keeps_entries _ _ _ _ made);
+  clones = rw (c.wrap.ensures, ← c.self.view_is) (made, keeps_entries _ _ _ _ made);
 }
