@@ -3,9 +3,9 @@
 //! An [`NEIndexSet`] iterates in the order in which its items were inserted. Items are looked up by
 //! `Eq` and `Hash`. Of several equal items the set holds one.
 ghost use Rattle.std.specs.Prelude.{◌≡◌, ◌+◌, ◌<◌, ◌≤◌, ◌^◌, ◌↔◌, ◌++◌, [], ◌∷◌, if◌then◌else◌};
-ghost use Rattle.std.specs.Prelude.{◌-◌, true, false, not, is_some, length, filter, slice_get};
-ghost use Rattle.std.specs.Prelude.{take, IfNone, IfOk, IsOk, IsTrue, MatchOption, OnErr, OnOk};
-ghost use Rattle.std.specs.Prelude.{Some, Bool, IfSome, IsErr};
+ghost use Rattle.std.specs.Prelude.{◌-◌, true, false, not, is_some, length, filter, take, IfNone};
+ghost use Rattle.std.specs.Prelude.{IfOk, IsOk, IsTrue, MatchOption, OnErr, OnOk, Some, Bool};
+ghost use Rattle.std.specs.Prelude.{IfSome, IsErr};
 ghost use Rattle.std.specs.Bool.{OnFalse, OnTrue};
 ghost use Rattle.std.specs.Int.NonZero.{non_zero_usize_get};
 ghost use Rattle.std.specs.Iterator.{ExtendsWithItems, IsFiniteIterable, ActsAsAt};
@@ -448,8 +448,6 @@ impl<T: Eq + Hash, S: BuildHasher> NEIndexSet<T, S> {
     pub fn pop(&mut self) -> Option<T>
         ensures keys { TakesUnlessLast self.old.keys self.new.keys result
             (λ x. self.old.keys ≡ self.new.keys ++ x ∷ []) }
-        ensures last { IfSome result (λ x.
-            slice_get self.old.keys (index_set_len self.old - 1) ≡ Some x) }
         ensures rest { IfSome result (λ _.
             self.new.keys ≡ take (index_set_len self.old - 1) self.old.keys) }
         ensures updates { IfSome result (λ x. Updates T.eq self.old self.new x false) }

@@ -1,6 +1,6 @@
 //! The methods of an [`NEIndexMap`] that remove entries. They never remove the only one.
 ghost use Rattle.std.specs.Prelude.{◌≡◌, ◌+◌, ◌-◌, ◌++◌, [], ◌∷◌, if◌then◌else◌, ◌↔◌, is_some};
-ghost use Rattle.std.specs.Prelude.{slice_get, take, None, Some, IfSome, Bool, IsErr, IsTrue};
+ghost use Rattle.std.specs.Prelude.{take, None, Some, IfSome, Bool, IsErr, IsTrue};
 ghost use Rattle.std.specs.Map.Calls.{CallableOnEachPair, CalledAtPair, RetainsPairs, TakesPair};
 ghost use Rattle.indexmap.specs.IndexMap.{get, get_key, hasher_of, index_map_len};
 ghost use Rattle.indexmap.specs.IndexMap.{shift_remove_entry, swap_remove_entry, Updates, IsEmpty};
@@ -136,8 +136,6 @@ impl<K: Eq + Hash, V, S: BuildHasher> NEIndexMap<K, V, S> {
     pub fn pop(&mut self) -> Option<(K, V)>
         ensures entries { TakesUnlessLast self.old.entries self.new.entries result
             (λ p. self.old.entries ≡ self.new.entries ++ p ∷ []) }
-        ensures last { IfSome result (λ p.
-            slice_get self.old.entries (index_map_len self.old - 1) ≡ Some p) }
         ensures rest { IfSome result (λ _.
             self.new.entries ≡ take (index_map_len self.old - 1) self.old.entries) }
         ensures updates { IfSome result (λ p. Updates K.eq self.old self.new p.0 None) }
