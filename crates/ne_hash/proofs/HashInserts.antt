@@ -1,14 +1,12 @@
 -- What a hashed map or set holds after pairs or items are inserted one after the other.
 use Rattle.std.specs.HashSet as set
-use Rattle.std.proofs.Common.{◌≡◌, Bool, List, [], ◌∷◌, ◌++◌, Some, true}
-use Rattle.std.specs.Prelude.{Result, Ok, Err, IfOk}
+use Rattle.std.proofs.Common.{Bool, List, [], ◌∷◌, ◌++◌, Some, true}
 use Rattle.std.specs.Cmp.{IsEquivalence}
 use Rattle.std.specs.HashMap.{HashMap, InsertsAll, IsUnique, Updates}
 use Rattle.std.specs.HashSet.{HashSet, IsUnique as AreUnique}
 use Rattle.ne_iter.specs.Collected.{IsMapOf, IsSetOf}
-use Rattle.ne_iter.specs.CollectedLaws.{map_of-inserts, map_of-more, map_of-one, nonempty-inserts}
-use Rattle.ne_iter.specs.CollectedLaws.{set_of-inserts, set_of-more, set_of-one}
-use Rattle.ne_iter.specs.CollectedLaws.{nonempty_set-inserts}
+use Rattle.ne_iter.specs.CollectedLaws.{map_of-inserts, map_of-more, nonempty-inserts}
+use Rattle.ne_iter.specs.CollectedLaws.{set_of-inserts, set_of-more, nonempty_set-inserts}
 use Rattle.ne_hash.specs.ValidHashMap.{IsValid}
 use Rattle.ne_hash.specs.ValidHashSet.{IsValid as AreValid}
 
@@ -25,13 +23,6 @@ module _ {K V S : Type 0} {eq : K → K → Bool} (laws : IsEquivalence eq) (m n
   )
 
 module _ {K V S : Type 0} (eq : K → K → Bool) where
-  -- A map of one pair.
-  pub one_made : {E : Type 0} (r : Result (HashMap K V S) E) (p : K × V)
-      → IfOk r (λ m. m.entries ≡ p ∷ [])
-      → IfOk r (λ m. IsMapOf eq (p ∷ []) m.entries)
-  one_made (Ok m) p is = (map_of-one eq p m.entries is).0
-  one_made (Err e) p is = tt
-
   -- The map after one more pair.
   pub map_of-put : IsEquivalence eq → (xs : List (K × V)) (m n : HashMap K V S) (p : K × V)
       → IsUnique eq n → Updates eq m n p.0 (Some p.1) → IsMapOf eq xs m.entries
@@ -51,13 +42,6 @@ module _ {T S : Type 0} {eq : T → T → Bool} (laws : IsEquivalence eq) (s t :
   )
 
 module _ {T S : Type 0} (eq : T → T → Bool) where
-  -- A set of one item.
-  pub one_item_made : {E : Type 0} (r : Result (HashSet T S) E) (x : T)
-      → IfOk r (λ s. s.keys ≡ x ∷ [])
-      → IfOk r (λ s. IsSetOf eq (x ∷ []) s.keys)
-  one_item_made (Ok s) x is = (set_of-one eq x s.keys is).0
-  one_item_made (Err e) x is = tt
-
   -- The set after one more item.
   pub set_of-put : IsEquivalence eq → (xs : List T) (s t : HashSet T S) (x : T) → AreUnique eq t
       → set.Updates eq s t x true → IsSetOf eq xs s.keys → IsSetOf eq (xs ++ x ∷ []) t.keys

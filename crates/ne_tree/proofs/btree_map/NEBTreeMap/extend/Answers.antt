@@ -18,8 +18,8 @@ returns-clause-ran g c = let r = c.extend.ensures.ran in
       r.0,
       r.1,
       r.2,
-      map_of-inserts_all g.met.K.Ord.total c.self.inside.inner c.extend.new.self r.1 r.3
-          g.met.K.Ord.matches_eq c.self.invariant.1,
+      map_of-inserts_all g.met.K.Ord.total g.met.K.Ord.matches_eq c.self.inside.inner
+          c.extend.new.self r.1 r.3 c.self.invariant.1,
       r.4,
     )
 
@@ -29,5 +29,5 @@ returns-clause-lists g c =
     let n = c.extend.new.self in
     rw (← c.self.view_is) (extends_by_list _ _ c.args.iter (InsertsAll g.K.Ord.cmp) m n
     c.extend.result m.entries (λ all. IsMapOf g.K.PartialEq.eq all n.entries)
-    (λ ys made. map_of-inserts_all g.met.K.Ord.total m n ys made g.met.K.Ord.matches_eq
+    (λ ys made. map_of-inserts_all g.met.K.Ord.total g.met.K.Ord.matches_eq m n ys made
     c.self.invariant.1) c.extend.ensures.ran)

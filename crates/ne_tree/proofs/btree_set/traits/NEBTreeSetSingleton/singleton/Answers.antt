@@ -1,6 +1,7 @@
 use Rattle.ne_tree.proofs.btree_set.traits.NEBTreeSetSingleton.singleton.Goals as goal
-use Rattle.ne_tree.proofs.TreeInserts.{one_item_made}
+use Rattle.std.proofs.lemmas.Result.{IfOk-weaker}
+use Rattle.ne_iter.specs.CollectedLaws.{set_of-one}
 
 pub returns : goal.returns
-returns g c =
-    one_item_made g.T.PartialEq.eq c.new.result c.args.item c.new.ensures.keys
+returns g c = IfOk-weaker c.new.result _ _
+    (λ s is. (set_of-one g.T.PartialEq.eq c.args.item s.keys is).0) c.new.ensures.keys
