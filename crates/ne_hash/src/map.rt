@@ -2,6 +2,9 @@
 //!
 //! An [`NEMap`] finds a key by its hash, and iterates in an unspecified order. Keys are compared by
 //! `==`. A key that is in the map stays as it is if an equal one is inserted.
+//!
+//! A method that removes an entry never removes the only one. The Rust crate lacks these methods,
+//! and `values_mut`, `into_keys` and `into_values`.
 ghost use Rattle.std.specs.Prelude.{◌≡◌, ◌+◌, ◌<◌, ◌≤◌, ◌^◌, ◌++◌, [], ◌∷◌, if◌then◌else◌, ◌↔◌};
 ghost use Rattle.std.specs.Prelude.{false, is_some, length, None, IfOk, IfSome, IsOk, IsSome};
 ghost use Rattle.std.specs.Prelude.{MatchOption, OnErr, OnOk, Some, Bool, Contains, IsErr, IsTrue};
@@ -228,6 +231,7 @@ impl<K: Eq + Hash, V, S: BuildHasher> NEMap<K, V, S> {
     /// ```
     pub fn iter(&self) -> hash_map::Iter<'_, K, V>
         ensures rest { result ≡ self.now.entries }
+        // Each run of `next` yields what is left, in order, and so its values.
         ensures runs { ShowsInOrder (deref_pair {K = K} {X = V}) }
         ensures values_run { ShowsValuesInOrder (deref_pair {K = K} {X = V}) }
         ensures fits { hash_map_len self.now < 2 ^ 63 }
@@ -246,12 +250,16 @@ impl<K: Eq + Hash, V, S: BuildHasher> NEMap<K, V, S> {
     /// } // {2: 1, 4: 32}
     /// ```
     pub fn iter_mut(&mut self) -> hash_map::IterMut<'_, K, V>
+        // Once it is gone, the map has its old keys, with the values that were last written.
         ensures* writes_back { sem 𝓛 (LendsValues K.row V.row S.row S.Hasher.row K.Hash
             S.BuildHasher S.Hasher.Hasher self.entry result) }
+        // Whatever is written, the keys and their number stay.
         ensures keeps { KeepsKeys self.old }
+        // `next` may be called.
         ensures ready { IterMutCanStep result }
         ensures rest { iter_mut_rest result ≡ self.old.entries }
         ensures fits { hash_map_len self.old < 2 ^ 63 }
+        // Each run of `next` lends the values of what is left, in order.
         ensures values_run { LendsValuesInOrder (iter_mut_rest {K = K} {X = V}) }
         ensures valid { IsValid K.eq self.old }
     {
@@ -266,6 +274,7 @@ impl<K: Eq + Hash, V, S: BuildHasher> NEMap<K, V, S> {
     /// ```
     pub fn nonempty_iter(&self) -> Iter<'_, K, V>
         ensures entries { result ≡ self.now.entries }
+        // As the source of a chain, it yields these items.
         ensures lists { ListsEntries (deref_pair {K = K} {X = V}) result self.now.entries }
         ensures valid { IsValid K.eq self.now }
     {
@@ -282,12 +291,16 @@ impl<K: Eq + Hash, V, S: BuildHasher> NEMap<K, V, S> {
     /// } // {2: 33, 4: 994}
     /// ```
     pub fn nonempty_iter_mut(&mut self) -> IterMut<'_, K, V>
+        // Once it is gone, the map has its old keys, with the values that were last written.
         ensures* writes_back { sem 𝓛 (LendsValues K.row V.row S.row S.Hasher.row K.Hash
             S.BuildHasher S.Hasher.Hasher self.entry (std_iterator result)) }
+        // Whatever is written, the keys and their number stay.
         ensures keeps { KeepsKeys self.old }
+        // `next` may be called.
         ensures ready { IterMutCanStep (std_iterator result) }
         ensures rest { iter_mut_rest (std_iterator result) ≡ self.old.entries }
         ensures fits { hash_map_len self.old < 2 ^ 63 }
+        // Each run of `next` lends the values of what is left, in order.
         ensures values_run { LendsValuesInOrder (iter_mut_rest {K = K} {X = V}) }
         ensures valid { IsValid K.eq self.old }
     {
@@ -305,6 +318,7 @@ impl<K: Eq + Hash, V, S: BuildHasher> NEMap<K, V, S> {
     /// ```
     pub fn keys(&self) -> Keys<'_, K, V>
         ensures keys { result ≡ keys self.now }
+        // As the source of a chain, it yields these items.
         ensures lists { ListsEntries (deref {X = K}) result (keys self.now) }
         ensures found { (q : K) → is_some (get K.eq self.now q) ≡ is_member K.eq result q }
         ensures len { length result ≡ hash_map_len self.now }
@@ -325,6 +339,7 @@ impl<K: Eq + Hash, V, S: BuildHasher> NEMap<K, V, S> {
         V: Drop,
         S: Drop,
         ensures keys { result ≡ keys self }
+        // As the source of a chain, it yields these items.
         ensures lists { ListsEntriesByValue KnownByValue result (keys self) }
         ensures found { (q : K) → is_some (get K.eq self q) ≡ is_member K.eq result q }
         ensures len { length result ≡ hash_map_len self }
@@ -363,6 +378,7 @@ impl<K: Eq + Hash, V, S: BuildHasher> NEMap<K, V, S> {
     /// ```
     pub fn values(&self) -> Values<'_, K, V>
         ensures values { result ≡ values self.now }
+        // As the source of a chain, it yields these items.
         ensures lists { ListsEntries (deref {X = V}) result (values self.now) }
         ensures len { length result ≡ hash_map_len self.now }
         ensures valid { IsValid K.eq self.now }
@@ -380,11 +396,14 @@ impl<K: Eq + Hash, V, S: BuildHasher> NEMap<K, V, S> {
     /// } // {2: 33, 4: 994}
     /// ```
     pub fn values_mut(&mut self) -> ValuesMut<'_, K, V>
+        // Once it is gone, the map has its old keys, with the values that were last written.
         ensures* writes_back { sem 𝓛 (LendsValuesAlone K.row V.row S.row S.Hasher.row K.Hash
             S.BuildHasher S.Hasher.Hasher self.entry (std_values result)) }
+        // Whatever is written, the keys and their number stay.
         ensures keeps { KeepsKeys self.old }
         ensures rest { values_mut_rest (std_values result) ≡ values self.old }
         ensures fits { hash_map_len self.old < 2 ^ 63 }
+        // Each run of `next` lends what is left, in order.
         ensures runs { YieldsMutRefsInOrder (values_mut_steps {K = K} {X = V}) values_mut_rest }
         ensures valid { IsValid K.eq self.old }
     {
@@ -405,6 +424,7 @@ impl<K: Eq + Hash, V, S: BuildHasher> NEMap<K, V, S> {
         V: Drop,
         S: Drop,
         ensures values { result ≡ values self }
+        // As the source of a chain, it yields these items.
         ensures lists { ListsEntriesByValue KnownByValue result (values self) }
         ensures found { (k : K) (v : V) → get K.eq self k ≡ Some v → Contains result v }
         ensures len { length result ≡ hash_map_len self }
@@ -461,6 +481,7 @@ impl<K: Eq + Hash, V, S: BuildHasher> NEMap<K, V, S> {
     /// }
     /// ```
     pub fn get_mut(&mut self, k: &K) -> Option<&mut V>
+        // Once the reference is gone, the key has the value that was last written.
         ensures* writes_back { sem 𝓛 (LendsValue K.row V.row S.row S.Hasher.row K.Hash
             S.BuildHasher S.Hasher.Hasher self.entry k.now result) }
         ensures value { option_copied_mut result ≡ get K.eq self.old k.now }
@@ -491,6 +512,7 @@ impl<K: Eq + Hash, V, S: BuildHasher> NEMap<K, V, S> {
         ensures keys_stay { IfOk result (λ old. IsSome old → keys self.new ≡ keys self.old) }
         ensures len { IfOk result (λ old. hash_map_len self.new
             ≡ hash_map_len self.old + (if is_some old then 0 else 1)) }
+        // Only a new key can fail; the entries then stay.
         ensures refused { OnErr result (get K.eq self.old k ≡ None) }
         ensures unchanged { OnErr result (IsUnchanged self.old self.new) }
         ensures hasher { hasher_of self.new ≡ hasher_of self.old }
@@ -511,6 +533,7 @@ impl<K: Eq + Hash, V, S: BuildHasher> NEMap<K, V, S> {
     pub fn remove(&mut self, k: &K) -> Option<V>
     where
         K: Drop,
+        // `None` if and only if the key is absent or the only one; then nothing changes.
         ensures entries { TakesFoundUnlessLast (get K.eq self.old k.now ≡ None) self.old.entries
             self.new.entries result (λ v. (get K.eq self.old k.now ≡ Some v)
             × IsPermutation (remove_entry (K.eq k.now) self.old.entries) self.new.entries) }
@@ -538,6 +561,7 @@ impl<K: Eq + Hash, V, S: BuildHasher> NEMap<K, V, S> {
     /// let stays = map.contains_key(&2); // true
     /// ```
     pub fn remove_entry(&mut self, k: &K) -> Option<(K, V)>
+        // `None` if and only if the key is absent or the only one; then nothing changes.
         ensures entries { TakesFoundUnlessLast (get K.eq self.old k.now ≡ None) self.old.entries
             self.new.entries result (λ p. (get_key K.eq self.old k.now ≡ Some p.0)
             × (get K.eq self.old k.now ≡ Some p.1)
@@ -621,9 +645,11 @@ impl<K: Eq + Hash, V, S: BuildHasher> NEMap<K, V, S> {
         V: Drop,
         requires { IsFiniteIterable I.into_iter_gives I.IntoIter.can_next I.IntoIter.remaining
             iter }
+        // The map of the old pairs and those that were drawn: at `Ok`, all of the source.
         ensures ran { ExtendsWithItems I.into_iter_gives I.IntoIter.next_gives
             (λ old pairs new. IsMapOf K.eq (old.entries ++ pairs) new.entries)
             iter self.old self.new result }
+        // The same at `Ok`, by the list of the source.
         ensures lists { OnOk result (ExtendsByList (⟦<I as Source>⟧.lists itself)
             (MeetsList I.into_iter_gives I.IntoIter.next_gives itself) iter self.old.entries
             (λ all. IsMapOf K.eq all self.new.entries)) }

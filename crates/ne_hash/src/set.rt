@@ -2,6 +2,8 @@
 //!
 //! An [`NESet`] finds an item by its hash, and iterates in an unspecified order. Items are compared
 //! by `==`. Of several equal items the set holds one.
+//!
+//! A method that removes an item never removes the only one. The Rust crate lacks these methods.
 ghost use Rattle.std.specs.Prelude.{◌≡◌, ◌+◌, ◌<◌, ◌≤◌, ◌^◌, ◌↔◌, ◌++◌, [], ◌∷◌, if◌then◌else◌};
 ghost use Rattle.std.specs.Prelude.{true, false, not, is_some, length, IfOk, IsOk, IsTrue};
 ghost use Rattle.std.specs.Prelude.{MatchOption, OnErr, OnOk, Bool, Some, IfSome, IsErr};
@@ -217,6 +219,7 @@ impl<T: Eq + Hash, S: BuildHasher> NESet<T, S> {
     /// ```
     pub fn iter(&self) -> hash_set::Iter<'_, T>
         ensures rest { result ≡ self.now.keys }
+        // Each run of `next` yields what is left, in order.
         ensures runs { ShowsInOrder (deref {X = T}) }
         ensures fits { hash_set_len self.now < 2 ^ 63 }
         ensures valid { IsValid T.eq self.now }
@@ -232,6 +235,7 @@ impl<T: Eq + Hash, S: BuildHasher> NESet<T, S> {
     /// ```
     pub fn nonempty_iter(&self) -> Iter<'_, T>
         ensures keys { result ≡ self.now.keys }
+        // As the source of a chain, it yields these items.
         ensures lists { ListsEntries (deref {X = T}) result self.now.keys }
         ensures valid { IsValid T.eq self.now }
     {
@@ -282,6 +286,7 @@ impl<T: Eq + Hash, S: BuildHasher> NESet<T, S> {
     pub fn difference<'a>(&'a self, other: &'a NESet<T, S>) -> hash_set::Difference<'a, T, S>
         ensures members { IsDifference T.eq self.now other.now result }
         ensures unique { IsDistinct T.eq result }
+        // Each item is stored in one of the sets.
         ensures stored { AreKeysOf self.now other.now result }
         ensures fits { length result < 2 ^ 63 }
         ensures runs { ShowsInOrder (deref {X = T}) }
@@ -322,6 +327,7 @@ impl<T: Eq + Hash, S: BuildHasher> NESet<T, S> {
         ensures kept { IfOk result (λ added. OnFalse added (IsUnchanged self.old self.new)) }
         ensures len { IfOk result (λ added. hash_set_len self.new
             ≡ hash_set_len self.old + (if added then 1 else 0)) }
+        // Only a new item can fail; the items then stay.
         ensures refused { OnErr result (contains T.eq self.old value ≡ false) }
         ensures unchanged { OnErr result (IsUnchanged self.old self.new) }
         ensures hasher { hasher_of self.new ≡ hasher_of self.old }
@@ -342,6 +348,7 @@ impl<T: Eq + Hash, S: BuildHasher> NESet<T, S> {
     pub fn remove(&mut self, value: &T) -> bool
     where
         T: Drop,
+        // `false` if and only if the item is absent or the only one; then nothing changes.
         ensures keys { RemovesFoundUnlessLast (contains T.eq self.old value.now ≡ false)
             self.old.keys self.new.keys result
             (IsPermutation (remove_key (T.eq value.now) self.old.keys) self.new.keys) }
@@ -368,6 +375,7 @@ impl<T: Eq + Hash, S: BuildHasher> NESet<T, S> {
     /// let stays = set.contains(&2); // true
     /// ```
     pub fn take(&mut self, value: &T) -> Option<T>
+        // `None` if and only if the item is absent or the only one; then nothing changes.
         ensures keys { TakesFoundUnlessLast (contains T.eq self.old value.now ≡ false)
             self.old.keys self.new.keys result (λ x. (get T.eq self.old value.now ≡ Some x)
             × IsPermutation (remove_key (T.eq value.now) self.old.keys) self.new.keys) }
@@ -425,6 +433,7 @@ impl<T: Eq + Hash, S: BuildHasher> NESet<T, S> {
     pub fn intersection<'a>(&'a self, other: &'a NESet<T, S>) -> hash_set::Intersection<'a, T, S>
         ensures members { IsIntersection T.eq self.now other.now result }
         ensures unique { IsDistinct T.eq result }
+        // Each item is stored in one of the sets.
         ensures stored { AreKeysOf self.now other.now result }
         ensures fits { length result < 2 ^ 63 }
         ensures runs { ShowsInOrder (deref {X = T}) }
@@ -487,6 +496,7 @@ impl<T: Eq + Hash, S: BuildHasher> NESet<T, S> {
         ensures keys { IfOk result (ReplacesKey T.eq self.old self.new value) }
         ensures len { IfOk result (λ old. hash_set_len self.new
             ≡ hash_set_len self.old + (if is_some old then 0 else 1)) }
+        // Only a new item can fail; the items then stay.
         ensures refused { OnErr result (contains T.eq self.old value ≡ false) }
         ensures unchanged { OnErr result (IsUnchanged self.old self.new) }
         ensures hasher { hasher_of self.new ≡ hasher_of self.old }
@@ -540,7 +550,9 @@ impl<T: Eq + Hash, S: BuildHasher> NESet<T, S> {
     pub fn union<'a>(&'a self, other: &'a NESet<T, S>) -> Union<'a, T, S>
         ensures members { IsUnion T.eq self.now other.now result }
         ensures unique { IsDistinct T.eq result }
+        // Each item is stored in one of the sets.
         ensures stored { AreKeysOf self.now other.now result }
+        // As the source of a chain, it yields these items.
         ensures lists { ListsUnion result result }
     {
         NonEmptyIter::new(self.inner.union(&other.inner))
@@ -560,9 +572,11 @@ impl<T: Eq + Hash, S: BuildHasher> NESet<T, S> {
         T: Drop,
         requires { IsFiniteIterable I.into_iter_gives I.IntoIter.can_next I.IntoIter.remaining
             iter }
+        // The set of the old items and those that were drawn: at `Ok`, all of the source.
         ensures ran { ExtendsWithItems I.into_iter_gives I.IntoIter.next_gives
             (λ old items new. IsSetOf T.eq (old.keys ++ items) new.keys)
             iter self.old self.new result }
+        // The same at `Ok`, by the list of the source.
         ensures lists { OnOk result (ExtendsByList (⟦<I as Source>⟧.lists itself)
             (MeetsList I.into_iter_gives I.IntoIter.next_gives itself) iter self.old.keys
             (λ all. IsSetOf T.eq all self.new.keys)) }

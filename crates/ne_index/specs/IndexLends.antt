@@ -26,8 +26,7 @@ module _ (K V S H : RattleType) (key : HashMembers K.Denot)
   abbrev pub LendsValueAt : MutBor (IndexMap K.Denot V.Denot S.Denot) → ℕ → MutBor V.Denot → Fml
   LendsValueAt m i r = Lends map_row V m r (with_value_at m.now i)
 
-  -- If r is an error, m is unchanged.
-  -- After the borrow, m is as after `insert` of k with the value last written through r.
+  -- After the borrow, m has k inserted with the value last written through r. An `Err` leaves m.
   abbrev pub LendsInserted : {E : Type 0} → MutBor (IndexMap K.Denot V.Denot S.Denot) → K.Denot
       → Result (MutBor V.Denot) E → Fml
   LendsInserted m k r = LendsSoOk map_row V m r

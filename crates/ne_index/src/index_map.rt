@@ -3,6 +3,9 @@
 //! An [`NEIndexMap`] iterates in the order in which its keys were inserted, and each key has an
 //! index. Keys are looked up by `Eq` and `Hash`. A key that is in the map stays as it is, at its
 //! index, if an equal one is inserted.
+//!
+//! A method that removes an entry, in `remove`, never removes the only one. The Rust crate lacks
+//! these methods, and `first_mut`, `last_mut` and `or_insert`.
 ghost use Rattle.std.specs.Prelude.{◌≡◌, ◌+◌, ◌-◌, ◌<◌, ◌≤◌, ◌^◌, ◌++◌, [], ◌∷◌, if◌then◌else◌};
 ghost use Rattle.std.specs.Prelude.{false, is_some, slice_get, unwrap_or, length, None, Some, IfOk};
 ghost use Rattle.std.specs.Prelude.{IfSome, IsSome, IfNone, IsOk, MatchOption, OnErr, OnOk};
@@ -217,6 +220,7 @@ impl<K: Eq + Hash, V, S: BuildHasher> NEIndexMap<K, V, S> {
     /// ```
     pub fn iter(&self) -> map::Iter<'_, K, V>
         ensures rest { result ≡ self.now.entries }
+        // Each run of `next` yields what is left, in order, and so its values.
         ensures runs { ShowsInOrder (deref_pair {K = K} {X = V}) }
         ensures values_run { ShowsValuesInOrder (deref_pair {K = K} {X = V}) }
         ensures fits { index_map_len self.now < 2 ^ 63 }
@@ -233,6 +237,7 @@ impl<K: Eq + Hash, V, S: BuildHasher> NEIndexMap<K, V, S> {
     /// ```
     pub fn nonempty_iter(&self) -> Iter<'_, K, V>
         ensures entries { result ≡ self.now.entries }
+        // As the source of a chain, it yields these items.
         ensures lists { ListsEntries (deref_pair {K = K} {X = V}) result self.now.entries }
         ensures valid { IsValid K.eq self.now }
     {
@@ -247,6 +252,7 @@ impl<K: Eq + Hash, V, S: BuildHasher> NEIndexMap<K, V, S> {
     /// ```
     pub fn keys(&self) -> Keys<'_, K, V>
         ensures keys { result ≡ keys self.now }
+        // As the source of a chain, it yields these items.
         ensures lists { ListsEntries (deref {X = K}) result (keys self.now) }
         ensures found { (q : K) → is_some (get K.eq self.now q) ≡ is_member K.eq result q }
         ensures len { length result ≡ index_map_len self.now }
@@ -285,6 +291,7 @@ impl<K: Eq + Hash, V, S: BuildHasher> NEIndexMap<K, V, S> {
     /// ```
     pub fn values(&self) -> Values<'_, K, V>
         ensures values { result ≡ values self.now }
+        // As the source of a chain, it yields these items.
         ensures lists { ListsEntries (deref {X = V}) result (values self.now) }
         ensures len { length result ≡ index_map_len self.now }
         ensures valid { IsValid K.eq self.now }
@@ -313,11 +320,14 @@ impl<K: Eq + Hash, V, S: BuildHasher> NEIndexMap<K, V, S> {
     /// *map.first_mut() = 27; // {2: 27, 4: 26}
     /// ```
     pub fn first_mut(&mut self) -> &mut V
+        // Once the reference is gone, the first entry has the value that was last written.
         ensures* writes_back { sem 𝓛 (LendsValueAt K.row V.row S.row S.Hasher.row K.Hash
             S.BuildHasher S.Hasher.Hasher self.entry 0 result) }
         ensures value { slice_get (values self.old) 0 ≡ Some result.now }
+        // Whatever is written, the keys and their number stay.
         ensures stays { (w : V) → (keys (with_value_at self.old 0 w) ≡ keys self.old)
             × (index_map_len (with_value_at self.old 0 w) ≡ index_map_len self.old) }
+        // The first key gets the value that is written, and the others keep theirs.
         ensures updates { (k : K) (v w : V) → slice_get self.old.entries 0 ≡ Some (k, v)
             → Updates K.eq self.old (with_value_at self.old 0 w) k (Some w) }
         ensures valid { IsValid K.eq self.old }
@@ -348,13 +358,16 @@ impl<K: Eq + Hash, V, S: BuildHasher> NEIndexMap<K, V, S> {
     /// *map.last_mut() = 27; // {2: 24, 4: 27}
     /// ```
     pub fn last_mut(&mut self) -> &mut V
+        // Once the reference is gone, the last entry has the value that was last written.
         ensures* writes_back { sem 𝓛 (LendsValueAt K.row V.row S.row S.Hasher.row K.Hash
             S.BuildHasher S.Hasher.Hasher self.entry (index_map_len self.old - 1) result) }
         ensures value { slice_get (values self.old) (index_map_len self.old - 1)
             ≡ Some result.now }
+        // Whatever is written, the keys and their number stay.
         ensures stays { (w : V) → let last = index_map_len self.old - 1 in
             (keys (with_value_at self.old last w) ≡ keys self.old)
             × (index_map_len (with_value_at self.old last w) ≡ index_map_len self.old) }
+        // The last key gets the value that is written, and the others keep theirs.
         ensures updates { (k : K) (v w : V) → let last = index_map_len self.old - 1 in
             slice_get self.old.entries last ≡ Some (k, v)
             → Updates K.eq self.old (with_value_at self.old last w) k (Some w) }
@@ -413,6 +426,7 @@ impl<K: Eq + Hash, V, S: BuildHasher> NEIndexMap<K, V, S> {
     /// }
     /// ```
     pub fn get_mut(&mut self, k: &K) -> Option<&mut V>
+        // Once the reference is gone, the key has the value that was last written.
         ensures* writes_back { sem 𝓛 (LendsValue K.row V.row S.row S.Hasher.row K.Hash
             S.BuildHasher S.Hasher.Hasher self.entry k.now result) }
         ensures value { option_copied_mut result ≡ get K.eq self.old k.now }
@@ -464,6 +478,7 @@ impl<K: Eq + Hash, V, S: BuildHasher> NEIndexMap<K, V, S> {
         ensures keys_stay { IfOk result (λ old. IsSome old → keys self.new ≡ keys self.old) }
         ensures len { IfOk result (λ old. index_map_len self.new
             ≡ index_map_len self.old + (if is_some old then 0 else 1)) }
+        // Only a new key can fail; the entries then stay.
         ensures refused { OnErr result (get K.eq self.old k ≡ None) }
         ensures unchanged { OnErr result (IsUnchanged self.old self.new) }
         ensures hasher { hasher_of self.new ≡ hasher_of self.old }
@@ -488,9 +503,11 @@ impl<K: Eq + Hash, V, S: BuildHasher> NEIndexMap<K, V, S> {
     where
         K: Drop,
         V: Drop,
+        // Once the reference is gone, the map is as after `insert` of the value last written.
         ensures* writes_back { sem 𝓛 (LendsInserted K.row V.row S.row S.Hasher.row K.Hash
             S.BuildHasher S.Hasher.Hasher self.entry k result) }
         ensures value { IfOk result (λ r. r.now ≡ unwrap_or (get K.eq self.old k) v) }
+        // Only a new key can fail.
         ensures refused { OnErr result (get K.eq self.old k ≡ None) }
         ensures valid { IsValid K.eq self.old }
     {
@@ -548,10 +565,12 @@ impl<K: Eq + Hash, V, S: BuildHasher> NEIndexMap<K, V, S> {
         V: Drop,
         requires { IsFiniteIterable I.into_iter_gives I.IntoIter.can_next I.IntoIter.remaining
             iter }
+        // The map of the old pairs and those that were drawn: at `Ok`, all of the source.
         ensures ran { ExtendsWithItems I.into_iter_gives I.IntoIter.next_gives
             (λ old pairs new. IsKeyListMapOf K.eq (old.entries ++ pairs) new.entries
             × (hasher_of new ≡ hasher_of old))
             iter self.old self.new result }
+        // The same at `Ok`, by the list of the source.
         ensures lists { OnOk result (ExtendsByList (⟦<I as Source>⟧.lists itself)
             (MeetsList I.into_iter_gives I.IntoIter.next_gives itself) iter self.old.entries
             (λ all. IsKeyListMapOf K.eq all self.new.entries)) }

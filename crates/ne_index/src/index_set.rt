@@ -2,6 +2,8 @@
 //!
 //! An [`NEIndexSet`] iterates in the order in which its items were inserted. Items are looked up by
 //! `Eq` and `Hash`. Of several equal items the set holds one.
+//!
+//! A method that removes an item never removes the only one. The Rust crate lacks these methods.
 ghost use Rattle.std.specs.Prelude.{◌≡◌, ◌+◌, ◌<◌, ◌≤◌, ◌^◌, ◌↔◌, ◌++◌, [], ◌∷◌, if◌then◌else◌};
 ghost use Rattle.std.specs.Prelude.{◌-◌, true, false, not, is_some, length, filter, take, IfNone};
 ghost use Rattle.std.specs.Prelude.{IfOk, IsOk, IsTrue, MatchOption, OnErr, OnOk, Some, Bool};
@@ -212,6 +214,7 @@ impl<T: Eq + Hash, S: BuildHasher> NEIndexSet<T, S> {
     /// ```
     pub fn iter(&self) -> set::Iter<'_, T>
         ensures rest { result ≡ self.now.keys }
+        // Each run of `next` yields what is left, in order.
         ensures runs { ShowsInOrder (deref {X = T}) }
         ensures fits { index_set_len self.now < 2 ^ 63 }
         ensures valid { IsValid T.eq self.now }
@@ -227,6 +230,7 @@ impl<T: Eq + Hash, S: BuildHasher> NEIndexSet<T, S> {
     /// ```
     pub fn nonempty_iter(&self) -> Iter<'_, T>
         ensures keys { result ≡ self.now.keys }
+        // As the source of a chain, it yields these items.
         ensures lists { ListsEntries (deref {X = T}) result self.now.keys }
         ensures valid { IsValid T.eq self.now }
     {
@@ -319,6 +323,7 @@ impl<T: Eq + Hash, S: BuildHasher> NEIndexSet<T, S> {
         ensures kept { IfOk result (λ added. OnFalse added (IsUnchanged self.old self.new)) }
         ensures len { IfOk result (λ added. index_set_len self.new
             ≡ index_set_len self.old + (if added then 1 else 0)) }
+        // Only a new item can fail; the items then stay.
         ensures refused { OnErr result (contains T.eq self.old value ≡ false) }
         ensures unchanged { OnErr result (IsUnchanged self.old self.new) }
         ensures hasher { hasher_of self.new ≡ hasher_of self.old }
@@ -339,6 +344,7 @@ impl<T: Eq + Hash, S: BuildHasher> NEIndexSet<T, S> {
     pub fn swap_remove(&mut self, value: &T) -> bool
     where
         T: Drop,
+        // `false` if and only if the item is absent or the only one; then nothing changes.
         ensures keys { RemovesFoundUnlessLast (contains T.eq self.old value.now ≡ false)
             self.old.keys self.new.keys result
             (self.new.keys ≡ swap_remove_by (T.eq value.now) self.old.keys) }
@@ -367,6 +373,7 @@ impl<T: Eq + Hash, S: BuildHasher> NEIndexSet<T, S> {
     pub fn shift_remove(&mut self, value: &T) -> bool
     where
         T: Drop,
+        // `false` if and only if the item is absent or the only one; then nothing changes.
         ensures keys { RemovesFoundUnlessLast (contains T.eq self.old value.now ≡ false)
             self.old.keys self.new.keys result
             (self.new.keys ≡ remove_key (T.eq value.now) self.old.keys) }
@@ -393,6 +400,7 @@ impl<T: Eq + Hash, S: BuildHasher> NEIndexSet<T, S> {
     /// let none = set.swap_take(&8); // None: there is no such item
     /// ```
     pub fn swap_take(&mut self, value: &T) -> Option<T>
+        // `None` if and only if the item is absent or the only one; then nothing changes.
         ensures keys { TakesFoundUnlessLast (contains T.eq self.old value.now ≡ false)
             self.old.keys self.new.keys result (λ x. (get T.eq self.old value.now ≡ Some x)
             × (self.new.keys ≡ swap_remove_by (T.eq value.now) self.old.keys)) }
@@ -420,6 +428,7 @@ impl<T: Eq + Hash, S: BuildHasher> NEIndexSet<T, S> {
     /// let none = set.shift_take(&4); // None: the only item stays
     /// ```
     pub fn shift_take(&mut self, value: &T) -> Option<T>
+        // `None` if and only if the item is absent or the only one; then nothing changes.
         ensures keys { TakesFoundUnlessLast (contains T.eq self.old value.now ≡ false)
             self.old.keys self.new.keys result (λ x. (get T.eq self.old value.now ≡ Some x)
             × (self.new.keys ≡ remove_key (T.eq value.now) self.old.keys)) }
@@ -446,8 +455,10 @@ impl<T: Eq + Hash, S: BuildHasher> NEIndexSet<T, S> {
     /// let none = set.pop(); // None: the only item stays
     /// ```
     pub fn pop(&mut self) -> Option<T>
+        // `None` if and only if there is one item; then nothing changes.
         ensures keys { TakesUnlessLast self.old.keys self.new.keys result
             (λ x. self.old.keys ≡ self.new.keys ++ x ∷ []) }
+        // The same, for the automatic proof.
         ensures rest { IfSome result (λ _.
             self.new.keys ≡ take (index_set_len self.old - 1) self.old.keys) }
         ensures updates { IfSome result (λ x. Updates T.eq self.old self.new x false) }
@@ -570,6 +581,7 @@ impl<T: Eq + Hash, S: BuildHasher> NEIndexSet<T, S> {
             (self.new.keys ≡ self.old.keys ++ value ∷ [])) }
         ensures len { IfOk result (λ old. index_set_len self.new
             ≡ index_set_len self.old + (if is_some old then 0 else 1)) }
+        // Only a new item can fail; the items then stay.
         ensures refused { OnErr result (contains T.eq self.old value ≡ false) }
         ensures unchanged { OnErr result (IsUnchanged self.old self.new) }
         ensures hasher { hasher_of self.new ≡ hasher_of self.old }
@@ -621,6 +633,7 @@ impl<T: Eq + Hash, S: BuildHasher> NEIndexSet<T, S> {
     pub fn union<'a>(&'a self, other: &'a NEIndexSet<T, S>) -> Union<'a, T, S>
         ensures items { result ≡ union T.eq self.now other.now }
         ensures members { IsUnion T.eq self.now other.now result }
+        // As the source of a chain, it yields these items.
         ensures lists { ListsUnion result (union T.eq self.now other.now) }
         ensures unique { IsDistinct T.eq result }
     {
@@ -642,10 +655,12 @@ impl<T: Eq + Hash, S: BuildHasher> NEIndexSet<T, S> {
         T: Drop,
         requires { IsFiniteIterable I.into_iter_gives I.IntoIter.can_next I.IntoIter.remaining
             iter }
+        // The set of the old items and those that were drawn: at `Ok`, all of the source.
         ensures ran { ExtendsWithItems I.into_iter_gives I.IntoIter.next_gives
             (λ old items new. IsKeyListSetOf T.eq (old.keys ++ items) new.keys
             × (hasher_of new ≡ hasher_of old))
             iter self.old self.new result }
+        // The same at `Ok`, by the list of the source.
         ensures lists { OnOk result (ExtendsByList (⟦<I as Source>⟧.lists itself)
             (MeetsList I.into_iter_gives I.IntoIter.next_gives itself) iter self.old.keys
             (λ all. IsKeyListSetOf T.eq all self.new.keys)) }

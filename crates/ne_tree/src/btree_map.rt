@@ -2,6 +2,10 @@
 //!
 //! An [`NEBTreeMap`] iterates in ascending order of its keys. Keys are looked up by `Ord`. A key
 //! that is in the map stays as it is if an equal one is inserted.
+//!
+//! A method that removes an entry never removes the only one. The Rust crate lacks these methods,
+//! and `range`, `values_mut`, `into_keys`, `into_values`, `is_empty` and those for the first and
+//! the last key.
 ghost use Rattle.std.specs.Prelude.{◌≡◌, ◌+◌, ◌<◌, ◌^◌, ◌++◌, [], ◌∷◌, if◌then◌else◌, ◌-◌, ◌↔◌};
 ghost use Rattle.std.specs.Prelude.{is_some, false, length, take, slice_get, None, Some, IfOk};
 ghost use Rattle.std.specs.Prelude.{IfSome, IsSome, MatchOption, OnErr, OnOk, Bool, IsErr};
@@ -134,6 +138,7 @@ impl<K: Ord, V> NEBTreeMap<K, V> {
     /// ```
     pub fn iter(&self) -> btree_map::Iter<'_, K, V>
         ensures rest { result ≡ self.now.entries }
+        // Each run of `next` yields what is left, in order, and so its values.
         ensures runs { ShowsInOrder (deref_pair {K = K} {X = V}) }
         ensures values_run { ShowsValuesInOrder (deref_pair {K = K} {X = V}) }
         ensures fits { btree_map_len self.now < 2 ^ 63 }
@@ -152,11 +157,15 @@ impl<K: Ord, V> NEBTreeMap<K, V> {
     /// } // {2: 1, 4: 32}
     /// ```
     pub fn iter_mut(&mut self) -> btree_map::IterMut<'_, K, V>
+        // Once it is gone, the map has its old keys, with the values that were last written.
         ensures* writes_back { sem 𝓛 (LendsValues K.row V.row K.Ord self.entry result) }
+        // Whatever is written, the keys and their number stay.
         ensures keeps { KeepsKeys self.old 0 }
+        // `next` may be called.
         ensures ready { IterMutCanStep result }
         ensures rest { iter_mut_rest result ≡ self.old.entries }
         ensures fits { btree_map_len self.old < 2 ^ 63 }
+        // Each run of `next` lends the values of what is left, in order.
         ensures values_run { LendsValuesInOrder (iter_mut_rest {K = K} {X = V}) }
         ensures valid { IsValid K.cmp self.old }
     {
@@ -171,6 +180,7 @@ impl<K: Ord, V> NEBTreeMap<K, V> {
     /// ```
     pub fn nonempty_iter(&self) -> Iter<'_, K, V>
         ensures entries { result ≡ self.now.entries }
+        // As the source of a chain, it yields these items.
         ensures lists { ListsEntries (deref_pair {K = K} {X = V}) result self.now.entries }
         ensures valid { IsValid K.cmp self.now }
     {
@@ -187,12 +197,16 @@ impl<K: Ord, V> NEBTreeMap<K, V> {
     /// } // {2: 33, 4: 994}
     /// ```
     pub fn nonempty_iter_mut(&mut self) -> IterMut<'_, K, V>
+        // Once it is gone, the map has its old keys, with the values that were last written.
         ensures* writes_back { sem 𝓛 (LendsValues K.row V.row K.Ord self.entry
             (std_iterator result)) }
+        // Whatever is written, the keys and their number stay.
         ensures keeps { KeepsKeys self.old 0 }
+        // `next` may be called.
         ensures ready { IterMutCanStep (std_iterator result) }
         ensures rest { iter_mut_rest (std_iterator result) ≡ self.old.entries }
         ensures fits { btree_map_len self.old < 2 ^ 63 }
+        // Each run of `next` lends the values of what is left, in order.
         ensures values_run { LendsValuesInOrder (iter_mut_rest {K = K} {X = V}) }
         ensures valid { IsValid K.cmp self.old }
     {
@@ -209,6 +223,7 @@ impl<K: Ord, V> NEBTreeMap<K, V> {
     /// ```
     pub fn keys(&self) -> Keys<'_, K, V>
         ensures keys { result ≡ keys self.now }
+        // As the source of a chain, it yields these items.
         ensures lists { ListsEntries (deref {X = K}) result (keys self.now) }
         ensures found { (q : K)
             → is_some (get K.cmp self.now q) ≡ is_member (eq_by_cmp K.cmp) result q }
@@ -229,6 +244,7 @@ impl<K: Ord, V> NEBTreeMap<K, V> {
         K: Drop,
         V: Drop,
         ensures keys { result ≡ keys self }
+        // As the source of a chain, it yields these items.
         ensures lists { ListsEntriesByValue KnownByValue result (keys self) }
         ensures found { (q : K)
             → is_some (get K.cmp self q) ≡ is_member (eq_by_cmp K.cmp) result q }
@@ -271,6 +287,7 @@ impl<K: Ord, V> NEBTreeMap<K, V> {
     /// ```
     pub fn values(&self) -> Values<'_, K, V>
         ensures values { result ≡ values self.now }
+        // As the source of a chain, it yields these items.
         ensures lists { ListsEntries (deref {X = V}) result (values self.now) }
         ensures len { length result ≡ btree_map_len self.now }
         ensures valid { IsValid K.cmp self.now }
@@ -288,11 +305,14 @@ impl<K: Ord, V> NEBTreeMap<K, V> {
     /// } // {2: 1, 4: 32}
     /// ```
     pub fn values_mut(&mut self) -> ValuesMut<'_, K, V>
+        // Once it is gone, the map has its old keys, with the values that were last written.
         ensures* writes_back { sem 𝓛 (LendsValuesAlone K.row V.row K.Ord self.entry
             (std_values_iterator result)) }
+        // Whatever is written, the keys and their number stay.
         ensures keeps { KeepsKeys self.old 0 }
         ensures rest { values_mut_rest (std_values_iterator result) ≡ values self.old }
         ensures fits { btree_map_len self.old < 2 ^ 63 }
+        // Each run of `next` lends what is left, in order.
         ensures runs { YieldsMutRefsInOrder (values_mut_steps {K = K} {X = V})
             (values_mut_rest {K = K} {X = V}) }
         ensures valid { IsValid K.cmp self.old }
@@ -313,6 +333,7 @@ impl<K: Ord, V> NEBTreeMap<K, V> {
         K: Drop,
         V: Drop,
         ensures values { result ≡ values self }
+        // As the source of a chain, it yields these items.
         ensures lists { ListsEntriesByValue KnownByValue result (values self) }
         ensures found { (k : K) (v : V) → get K.cmp self k ≡ Some v → Contains result v }
         ensures len { length result ≡ btree_map_len self }
@@ -398,6 +419,7 @@ impl<K: Ord, V> NEBTreeMap<K, V> {
     /// }
     /// ```
     pub fn get_mut(&mut self, k: &K) -> Option<&mut V>
+        // Once the reference is gone, the key has the value that was last written.
         ensures* writes_back { sem 𝓛 (LendsValue K.row V.row K.Ord self.entry k.now result) }
         ensures value { option_copied_mut result ≡ get K.cmp self.old k.now }
         ensures valid { IsValid K.cmp self.old }
@@ -421,10 +443,13 @@ impl<K: Ord, V> NEBTreeMap<K, V> {
             (R.end_bound range) self.now.entries }
         ensures in_range { R.has_bounds range
             → IsRangeOf K.cmp (R.start_bound range) (R.end_bound range) self.now result }
+        // The entries are next to each other in the map.
         ensures contiguous { IsRun self.now result }
+        // Each run of `next` yields what is left, in order, and of `next_back` in reverse.
         ensures runs { ShowsInOrder (deref_pair {K = K} {X = V}) }
         ensures runs_back { ShowsInReverse (deref_pair {K = K} {X = V}) }
         ensures fits { length result < 2 ^ 63 }
+        // Each call that yields a pair yields a value of the map.
         ensures member { ValuesAreAmong (TakesFirst deref_pair) (λ x. x.1.now) result
             (values self.now) }
         ensures listed_back { ValuesAreAmong (TakesLast deref_pair) (λ x. x.1.now) result
@@ -457,6 +482,7 @@ impl<K: Ord, V> NEBTreeMap<K, V> {
         ensures keys_stay { IfOk result (λ old. IsSome old → keys self.new ≡ keys self.old) }
         ensures len { IfOk result (λ old. btree_map_len self.new
             ≡ btree_map_len self.old + (if is_some old then 0 else 1)) }
+        // Only a new key can fail; the entries then stay.
         ensures refused { OnErr result (get K.cmp self.old k ≡ None) }
         ensures unchanged { OnErr result (IsUnchanged self.old self.new) }
         ensures valid { IsValid K.cmp self.new }
@@ -475,6 +501,7 @@ impl<K: Ord, V> NEBTreeMap<K, V> {
     pub fn remove(&mut self, k: &K) -> Option<V>
     where
         K: Drop,
+        // `None` if and only if the key is absent or the only one; then nothing changes.
         ensures entries { TakesFoundUnlessLast (get K.cmp self.old k.now ≡ None) self.old.entries
             self.new.entries result (λ v. (get K.cmp self.old k.now ≡ Some v)
             × (self.new.entries ≡ remove_entry (is_at (K.cmp k.now)) self.old.entries)) }
@@ -499,6 +526,7 @@ impl<K: Ord, V> NEBTreeMap<K, V> {
     /// let none = map.remove_entry(&2); // None: the only key stays
     /// ```
     pub fn remove_entry(&mut self, k: &K) -> Option<(K, V)>
+        // `None` if and only if the key is absent or the only one; then nothing changes.
         ensures entries { TakesFoundUnlessLast (get K.cmp self.old k.now ≡ None) self.old.entries
             self.new.entries result (λ p. (get_key K.cmp self.old k.now ≡ Some p.0)
             × (get K.cmp self.old k.now ≡ Some p.1)
@@ -525,6 +553,7 @@ impl<K: Ord, V> NEBTreeMap<K, V> {
     /// let none = map.pop_first(); // None: the only key stays
     /// ```
     pub fn pop_first(&mut self) -> Option<(K, V)>
+        // `None` if and only if there is one entry; then nothing changes.
         ensures entries { TakesUnlessLast self.old.entries self.new.entries result
             (λ p. self.old.entries ≡ p ∷ self.new.entries) }
         ensures value { IfSome result (λ p. get K.cmp self.old p.0 ≡ Some p.1) }
@@ -550,8 +579,10 @@ impl<K: Ord, V> NEBTreeMap<K, V> {
     /// let none = map.pop_last(); // None: the only key stays
     /// ```
     pub fn pop_last(&mut self) -> Option<(K, V)>
+        // `None` if and only if there is one entry; then nothing changes.
         ensures entries { TakesUnlessLast self.old.entries self.new.entries result
             (λ p. self.old.entries ≡ self.new.entries ++ p ∷ []) }
+        // The same, for the automatic proof.
         ensures rest { IfSome result (λ _. self.new.entries
             ≡ take (btree_map_len self.old - 1) self.old.entries) }
         ensures value { IfSome result (λ p. get K.cmp self.old p.0 ≡ Some p.1) }
@@ -616,9 +647,11 @@ impl<K: Ord, V> NEBTreeMap<K, V> {
         V: Drop,
         requires { IsFiniteIterable I.into_iter_gives I.IntoIter.can_next I.IntoIter.remaining
             iter }
+        // The map of the old pairs and those that were drawn: at `Ok`, all of the source.
         ensures ran { ExtendsWithItems I.into_iter_gives I.IntoIter.next_gives
             (λ old pairs new. IsMapOf K.eq (old.entries ++ pairs) new.entries)
             iter self.old self.new result }
+        // The same at `Ok`, by the list of the source.
         ensures lists { OnOk result (ExtendsByList (⟦<I as Source>⟧.lists itself)
             (MeetsList I.into_iter_gives I.IntoIter.next_gives itself) iter self.old.entries
             (λ all. IsMapOf K.eq all self.new.entries)) }

@@ -2,6 +2,9 @@
 //!
 //! An [`NEBTreeSet`] iterates in ascending order of its items. Items are compared by `Ord`. Of
 //! several equal items the set holds one.
+//!
+//! A method that removes an item never removes the only one. The Rust crate lacks these methods,
+//! and `range`, `is_empty`, `first` and `last`.
 ghost use Rattle.std.specs.Prelude.{◌≡◌, ◌+◌, ◌<◌, ◌^◌, ◌↔◌, ◌++◌, [], ◌∷◌, if◌then◌else◌, ◌-◌};
 ghost use Rattle.std.specs.Prelude.{true, false, not, is_some, length, take, slice_get, IfOk};
 ghost use Rattle.std.specs.Prelude.{IsTrue, MatchOption, OnErr, OnOk, Bool, Some, IfSome, IsErr};
@@ -123,6 +126,7 @@ impl<T: Ord> NEBTreeSet<T> {
     /// ```
     pub fn iter(&self) -> btree_set::Iter<'_, T>
         ensures rest { result ≡ self.now.keys }
+        // Each run of `next` yields what is left, in order.
         ensures runs { ShowsInOrder (deref {X = T}) }
         ensures fits { btree_set_len self.now < 2 ^ 63 }
         ensures valid { IsValid T.cmp self.now }
@@ -138,6 +142,7 @@ impl<T: Ord> NEBTreeSet<T> {
     /// ```
     pub fn nonempty_iter(&self) -> Iter<'_, T>
         ensures keys { result ≡ self.now.keys }
+        // As the source of a chain, it yields these items.
         ensures lists { ListsEntries (deref {X = T}) result self.now.keys }
         ensures valid { IsValid T.cmp self.now }
     {
@@ -256,7 +261,9 @@ impl<T: Ord> NEBTreeSet<T> {
             (R.end_bound range) self.now }
         ensures in_range { R.has_bounds range
             → IsKeyRangeOf T.cmp (R.start_bound range) (R.end_bound range) self.now result }
+        // The items are next to each other in the set.
         ensures contiguous { IsRun self.now result }
+        // Each run of `next` yields what is left, in order, and of `next_back` in reverse.
         ensures runs { ShowsInOrder (deref {X = T}) }
         ensures runs_back { ShowsInReverse (deref {X = T}) }
         ensures fits { length result < 2 ^ 63 }
@@ -285,6 +292,7 @@ impl<T: Ord> NEBTreeSet<T> {
         ensures kept { IfOk result (λ added. OnFalse added (IsUnchanged self.old self.new)) }
         ensures len { IfOk result (λ added. btree_set_len self.new
             ≡ btree_set_len self.old + (if added then 1 else 0)) }
+        // Only a new item can fail; the items then stay.
         ensures refused { OnErr result (contains T.cmp self.old value ≡ false) }
         ensures unchanged { OnErr result (IsUnchanged self.old self.new) }
         ensures valid { IsValid T.cmp self.new }
@@ -303,6 +311,7 @@ impl<T: Ord> NEBTreeSet<T> {
     pub fn remove(&mut self, value: &T) -> bool
     where
         T: Drop,
+        // `false` if and only if the item is absent or the only one; then nothing changes.
         ensures keys { RemovesFoundUnlessLast (contains T.cmp self.old value.now ≡ false)
             self.old.keys self.new.keys result
             (self.new.keys ≡ remove_key (is_at (T.cmp value.now)) self.old.keys) }
@@ -327,6 +336,7 @@ impl<T: Ord> NEBTreeSet<T> {
     /// let none = set.take(&2); // None: the only item stays
     /// ```
     pub fn take(&mut self, value: &T) -> Option<T>
+        // `None` if and only if the item is absent or the only one; then nothing changes.
         ensures keys { TakesFoundUnlessLast (contains T.cmp self.old value.now ≡ false)
             self.old.keys self.new.keys result (λ x. (get T.cmp self.old value.now ≡ Some x)
             × (self.new.keys ≡ remove_key (is_at (T.cmp value.now)) self.old.keys)) }
@@ -352,6 +362,7 @@ impl<T: Ord> NEBTreeSet<T> {
     /// let none = set.pop_first(); // None: the only item stays
     /// ```
     pub fn pop_first(&mut self) -> Option<T>
+        // `None` if and only if there is one item; then nothing changes.
         ensures keys { TakesUnlessLast self.old.keys self.new.keys result
             (λ x. self.old.keys ≡ x ∷ self.new.keys) }
         ensures found { IfSome result (λ x. IsTrue (contains T.cmp self.old x)) }
@@ -377,8 +388,10 @@ impl<T: Ord> NEBTreeSet<T> {
     /// let none = set.pop_last(); // None: the only item stays
     /// ```
     pub fn pop_last(&mut self) -> Option<T>
+        // `None` if and only if there is one item; then nothing changes.
         ensures keys { TakesUnlessLast self.old.keys self.new.keys result
             (λ x. self.old.keys ≡ self.new.keys ++ x ∷ []) }
+        // The same, for the automatic proof.
         ensures rest { IfSome result (λ _. self.new.keys
             ≡ take (btree_set_len self.old - 1) self.old.keys) }
         ensures found { IfSome result (λ x. IsTrue (contains T.cmp self.old x)) }
@@ -495,6 +508,7 @@ impl<T: Ord> NEBTreeSet<T> {
         ensures keys { OnOk result (self.new.keys ≡ replace_key T.cmp self.old.keys value) }
         ensures len { IfOk result (λ old. btree_set_len self.new
             ≡ btree_set_len self.old + (if is_some old then 0 else 1)) }
+        // Only a new item can fail; the items then stay.
         ensures refused { OnErr result (contains T.cmp self.old value ≡ false) }
         ensures unchanged { OnErr result (IsUnchanged self.old self.new) }
         ensures valid { IsValid T.cmp self.new }
@@ -512,6 +526,7 @@ impl<T: Ord> NEBTreeSet<T> {
     pub fn union<'a>(&'a self, other: &'a NEBTreeSet<T>) -> Union<'a, T>
         ensures items { result ≡ union T.cmp self.now other.now }
         ensures members { IsUnion T.cmp self.now other.now result }
+        // As the source of a chain, it yields these items.
         ensures lists { ListsUnion result (union T.cmp self.now other.now) }
         ensures ordered { IsStrictlySortedBy T.cmp result }
     {
@@ -532,9 +547,11 @@ impl<T: Ord> NEBTreeSet<T> {
         T: Drop,
         requires { IsFiniteIterable I.into_iter_gives I.IntoIter.can_next I.IntoIter.remaining
             iter }
+        // The set of the old items and those that were drawn: at `Ok`, all of the source.
         ensures ran { ExtendsWithItems I.into_iter_gives I.IntoIter.next_gives
             (λ old items new. IsSetOf T.eq (old.keys ++ items) new.keys)
             iter self.old self.new result }
+        // The same at `Ok`, by the list of the source.
         ensures lists { OnOk result (ExtendsByList (⟦<I as Source>⟧.lists itself)
             (MeetsList I.into_iter_gives I.IntoIter.next_gives itself) iter self.old.keys
             (λ all. IsSetOf T.eq all self.new.keys)) }

@@ -25,6 +25,7 @@ impl<K: Eq + Hash, V, S: BuildHasher> NEIndexMap<K, V, S> {
     pub fn swap_remove(&mut self, k: &K) -> Option<V>
     where
         K: Drop,
+        // `None` if and only if the key is absent or the only one; then nothing changes.
         ensures entries { TakesFoundUnlessLast (get K.eq self.old k.now ≡ None) self.old.entries
             self.new.entries result (λ v. (get K.eq self.old k.now ≡ Some v)
             × (self.new.entries ≡ swap_remove_entry (K.eq k.now) self.old.entries)) }
@@ -53,6 +54,7 @@ impl<K: Eq + Hash, V, S: BuildHasher> NEIndexMap<K, V, S> {
     pub fn shift_remove(&mut self, k: &K) -> Option<V>
     where
         K: Drop,
+        // `None` if and only if the key is absent or the only one; then nothing changes.
         ensures entries { TakesFoundUnlessLast (get K.eq self.old k.now ≡ None) self.old.entries
             self.new.entries result (λ v. (get K.eq self.old k.now ≡ Some v)
             × (self.new.entries ≡ shift_remove_entry (K.eq k.now) self.old.entries)) }
@@ -79,6 +81,7 @@ impl<K: Eq + Hash, V, S: BuildHasher> NEIndexMap<K, V, S> {
     /// let none = map.swap_remove_entry(&8); // None: there is no such key
     /// ```
     pub fn swap_remove_entry(&mut self, k: &K) -> Option<(K, V)>
+        // `None` if and only if the key is absent or the only one; then nothing changes.
         ensures entries { TakesFoundUnlessLast (get K.eq self.old k.now ≡ None) self.old.entries
             self.new.entries result (λ p. (get_key K.eq self.old k.now ≡ Some p.0)
             × (get K.eq self.old k.now ≡ Some p.1)
@@ -107,6 +110,7 @@ impl<K: Eq + Hash, V, S: BuildHasher> NEIndexMap<K, V, S> {
     /// let none = map.shift_remove_entry(&4); // None: the only entry stays
     /// ```
     pub fn shift_remove_entry(&mut self, k: &K) -> Option<(K, V)>
+        // `None` if and only if the key is absent or the only one; then nothing changes.
         ensures entries { TakesFoundUnlessLast (get K.eq self.old k.now ≡ None) self.old.entries
             self.new.entries result (λ p. (get_key K.eq self.old k.now ≡ Some p.0)
             × (get K.eq self.old k.now ≡ Some p.1)
@@ -134,8 +138,10 @@ impl<K: Eq + Hash, V, S: BuildHasher> NEIndexMap<K, V, S> {
     /// let none = map.pop(); // None: the only entry stays
     /// ```
     pub fn pop(&mut self) -> Option<(K, V)>
+        // `None` if and only if there is one entry; then nothing changes.
         ensures entries { TakesUnlessLast self.old.entries self.new.entries result
             (λ p. self.old.entries ≡ self.new.entries ++ p ∷ []) }
+        // The same, for the automatic proof.
         ensures rest { IfSome result (λ _.
             self.new.entries ≡ take (index_map_len self.old - 1) self.old.entries) }
         ensures updates { IfSome result (λ p. Updates K.eq self.old self.new p.0 None) }
