@@ -3,9 +3,8 @@
 use Rattle.std.specs.declared.hash.BuildHasher as builder
 use Rattle.std.specs.declared.hash.Hasher as hasher
 use Rattle.std.specs.Prelude.{◌≡◌, Option}
-use Rattle.std.specs.Borrow.{Array, Fml, MutBor, RattleType, LendsSo, follows}
+use Rattle.std.specs.Borrow.{Array, Fml, GName, MutBor, RattleType, LendsSo, follows}
 use Rattle.std.specs.HashMap.{HashMap, WritesThrough}
-use Rattle.std.specs.HashMap.IterMut.{iter_mut_name, values_mut_name}
 use Rattle.std.specs.HashMap.Lent.{HashMembers, with_values}
 use Rattle.std_collections.specs.declared.hash_map.iter.lent.IterMut.{IterMut as StdIterMut}
 use Rattle.std_collections.specs.declared.hash_map.iter.lent.ValuesMut.{ValuesMut as StdValuesMut}
@@ -18,8 +17,8 @@ abbrev pub std_iterator : {K V : Type 0} → IterMut K V → StdIterMut K V
 std_iterator w = w.inner
 
 -- The std iterator that a `ValuesMut` holds and becomes.
-abbrev pub std_values : {K V : Type 0} → ValuesMut K V → StdValuesMut K V
-std_values w = w.inner
+abbrev pub std_values_iterator : {K V : Type 0} → ValuesMut K V → StdValuesMut K V
+std_values_iterator w = w.inner
 
 module _ (K V S H : RattleType) (key : HashMembers K.Denot)
     (build : builder.Ghosts S.Denot H.Denot) (hash : hasher.Ghosts H.Denot) where
@@ -28,17 +27,9 @@ module _ (K V S H : RattleType) (key : HashMembers K.Denot)
   map_row = the_row K V S H (record { eq = key.eq }) (record { hash_input = key.hash_input }) build
       hash
 
-  -- After the borrow, m has its old keys, and each value is as the references of `it` left it.
-  abbrev pub LendsValues : MutBor (HashMap K.Denot V.Denot S.Denot) → StdIterMut K.Denot V.Denot
-      → Fml
-  LendsValues m it = follows map_row (Array V 0) m.ghost_name (iter_mut_name it)
-      (with_values m.now)
-
-  -- After the borrow by `values_mut`, m has its old keys, and each value is as `it` left it.
-  abbrev pub LendsValuesAlone : MutBor (HashMap K.Denot V.Denot S.Denot)
-      → StdValuesMut K.Denot V.Denot → Fml
-  LendsValuesAlone m it = follows map_row (Array V 0) m.ghost_name (values_mut_name it)
-      (with_values m.now)
+  -- After the borrow, m has its old keys, with the values that the loan named r ends at.
+  abbrev pub LendsValues : MutBor (HashMap K.Denot V.Denot S.Denot) → GName → Fml
+  LendsValues m r = follows map_row (Array V 0) m.ghost_name r (with_values m.now)
 
   -- After the borrow, m has at k the value last written through r. If r is `None`, m is unchanged.
   abbrev pub LendsValue : MutBor (HashMap K.Denot V.Denot S.Denot) → K.Denot

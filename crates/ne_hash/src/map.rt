@@ -10,8 +10,8 @@ ghost use Rattle.std.specs.Prelude.{false, is_some, length, None, IfOk, IfSome, 
 ghost use Rattle.std.specs.Prelude.{MatchOption, OnErr, OnOk, Some, Bool, Contains, IsErr, IsTrue};
 ghost use Rattle.std.specs.HashMap.{get, get_key, hash_map_len, hasher_of, keys, spare, values};
 ghost use Rattle.std.specs.HashMap.{IsEmpty, IsReordered, IsUnchanged, PutsEntry, IsClone, Updates};
-ghost use Rattle.std.specs.HashMap.IterMut.{iter_mut_rest, values_mut_rest, values_mut_steps};
-ghost use Rattle.std.specs.HashMap.IterMut.{IterMutCanStep};
+ghost use Rattle.std.specs.HashMap.IterMut.{iter_mut_name, iter_mut_rest, values_mut_name};
+ghost use Rattle.std.specs.HashMap.IterMut.{values_mut_rest, values_mut_steps, IterMutCanStep};
 ghost use Rattle.std.specs.HashMap.Lent.{KeepsKeys};
 ghost use Rattle.std.specs.Borrow.{sem};
 ghost use Rattle.std.specs.Int.NonZero.{non_zero_usize_get};
@@ -33,8 +33,8 @@ ghost use Rattle.ne_iter.specs.KeyIterators.{ListsEntries, KnownByValue, ListsEn
 ghost use Rattle.ne_iter.specs.SourceLists.{MeetsList};
 ghost use Rattle.ne_iter.specs.KeyClones.{KeepsEntries};
 ghost use Rattle.ne_iter.specs.KeptEntries.{either_way, kept_entries, ActsAsAtEntry};
-ghost use Rattle.ne_hash.specs.HashLends.{std_iterator, std_values, LendsValue, LendsValues};
-ghost use Rattle.ne_hash.specs.HashLends.{LendsValuesAlone};
+ghost use Rattle.ne_hash.specs.HashLends.{std_iterator, std_values_iterator, LendsValue};
+ghost use Rattle.ne_hash.specs.HashLends.{LendsValues};
 ghost use Rattle.ne_hash.specs.ValidHashMap.{IsValid};
 
 mod iter;
@@ -252,7 +252,7 @@ impl<K: Eq + Hash, V, S: BuildHasher> NEMap<K, V, S> {
     pub fn iter_mut(&mut self) -> hash_map::IterMut<'_, K, V>
         // Once it is gone, the map has its old keys, with the values that were last written.
         ensures* writes_back { sem 𝓛 (LendsValues K.row V.row S.row S.Hasher.row K.Hash
-            S.BuildHasher S.Hasher.Hasher self.entry result) }
+            S.BuildHasher S.Hasher.Hasher self.entry (iter_mut_name result)) }
         // Whatever is written, the keys and their number stay.
         ensures keeps { KeepsKeys self.old }
         // `next` may be called.
@@ -293,7 +293,7 @@ impl<K: Eq + Hash, V, S: BuildHasher> NEMap<K, V, S> {
     pub fn nonempty_iter_mut(&mut self) -> IterMut<'_, K, V>
         // Once it is gone, the map has its old keys, with the values that were last written.
         ensures* writes_back { sem 𝓛 (LendsValues K.row V.row S.row S.Hasher.row K.Hash
-            S.BuildHasher S.Hasher.Hasher self.entry (std_iterator result)) }
+            S.BuildHasher S.Hasher.Hasher self.entry (iter_mut_name (std_iterator result))) }
         // Whatever is written, the keys and their number stay.
         ensures keeps { KeepsKeys self.old }
         // `next` may be called.
@@ -397,11 +397,12 @@ impl<K: Eq + Hash, V, S: BuildHasher> NEMap<K, V, S> {
     /// ```
     pub fn values_mut(&mut self) -> ValuesMut<'_, K, V>
         // Once it is gone, the map has its old keys, with the values that were last written.
-        ensures* writes_back { sem 𝓛 (LendsValuesAlone K.row V.row S.row S.Hasher.row K.Hash
-            S.BuildHasher S.Hasher.Hasher self.entry (std_values result)) }
+        ensures* writes_back { sem 𝓛 (LendsValues K.row V.row S.row S.Hasher.row K.Hash
+            S.BuildHasher S.Hasher.Hasher self.entry
+            (values_mut_name (std_values_iterator result))) }
         // Whatever is written, the keys and their number stay.
         ensures keeps { KeepsKeys self.old }
-        ensures rest { values_mut_rest (std_values result) ≡ values self.old }
+        ensures rest { values_mut_rest (std_values_iterator result) ≡ values self.old }
         ensures fits { hash_map_len self.old < 2 ^ 63 }
         // Each run of `next` lends what is left, in order.
         ensures runs { YieldsMutRefsInOrder (values_mut_steps {K = K} {X = V}) values_mut_rest }

@@ -2,11 +2,10 @@
 -- `values_mut`, `get_mut` and the functions that these call.
 use Rattle.std.specs.contracts.alloc.Global as global
 use Rattle.std.specs.Prelude.{◌≡◌, Option}
-use Rattle.std.specs.Borrow.{Fml, RattleType, MutBor, LendsSo, follows}
+use Rattle.std.specs.Borrow.{Fml, GName, RattleType, MutBor, LendsSo, follows}
 use Rattle.std.specs.contracts.impls.GlobalAllocator.TheImpl.{ghosts}
 use Rattle.std.specs.BTreeMap.{BTreeMap, WritesThrough, values}
 use Rattle.std.specs.BTreeMap.Lent.{OrdMembers, with_values, map_row as row_of}
-use Rattle.std.specs.BTreeMap.IterMut.{iter_mut_name, values_mut_name}
 use Rattle.std_collections.specs.declared.btree_map.iter.lent.IterMut.{IterMut as StdIterMut}
 use Rattle.std_collections.specs.declared.btree_map.iter.lent.ValuesMut.{ValuesMut as StdValuesMut}
 use Rattle.ne_tree.specs.declared.btree_map.iter.IterMut.{IterMut}
@@ -31,27 +30,13 @@ module _ (K V : RattleType) (key : OrdMembers K.Denot) where
   abbrev pub inner_row : RattleType
   inner_row = row_of K V global.the_row key ghosts
 
-  -- After the borrow, m has its old keys, and each value is as the references of `it` left it.
-  abbrev pub LendsValues : MutBor (BTreeMap K.Denot V.Denot) → StdIterMut K.Denot V.Denot → Fml
-  LendsValues m it = follows map_row map_row m.ghost_name (iter_mut_name it)
-      (λ n. with_values m.now 0 (values n))
+  -- After the borrow, m has its old keys, with the values that the loan named r ends at.
+  abbrev pub LendsValues : MutBor (BTreeMap K.Denot V.Denot) → GName → Fml
+  LendsValues m r = follows map_row map_row m.ghost_name r (λ n. with_values m.now 0 (values n))
 
-  -- After the borrow, the inner map m has its old keys, and each value is as `it` left it.
-  abbrev pub LendsValuesInside : MutBor (BTreeMap K.Denot V.Denot) → StdIterMut K.Denot V.Denot
-      → Fml
-  LendsValuesInside m it = follows inner_row inner_row m.ghost_name (iter_mut_name it)
-      (λ n. with_values m.now 0 (values n))
-
-  -- After the borrow by `values_mut`, m has its old keys, and each value is as `it` left it.
-  abbrev pub LendsValuesAlone : MutBor (BTreeMap K.Denot V.Denot) → StdValuesMut K.Denot V.Denot
-      → Fml
-  LendsValuesAlone m it = follows map_row map_row m.ghost_name (values_mut_name it)
-      (λ n. with_values m.now 0 (values n))
-
-  -- After the borrow by `values_mut`, the inner map m has its old keys, each value as `it` left it.
-  abbrev pub LendsValuesAloneInside : MutBor (BTreeMap K.Denot V.Denot)
-      → StdValuesMut K.Denot V.Denot → Fml
-  LendsValuesAloneInside m it = follows inner_row inner_row m.ghost_name (values_mut_name it)
+  -- After the borrow, the inner map m has its old keys, with the values that r ends at.
+  abbrev pub LendsValuesInside : MutBor (BTreeMap K.Denot V.Denot) → GName → Fml
+  LendsValuesInside m r = follows inner_row inner_row m.ghost_name r
       (λ n. with_values m.now 0 (values n))
 
   -- After the borrow, m has at k the value last written through r. If r is `None`, m is unchanged.

@@ -14,7 +14,7 @@ ghost use Rattle.std.specs.BTreeMap.{btree_map_len, get, get_key, insert_entry, 
 ghost use Rattle.std.specs.BTreeMap.{is_at, IsClone, IsEmpty, IsUnchanged, Updates, IsLowerBound};
 ghost use Rattle.std.specs.BTreeMap.{IsRun, IsUpperBound};
 ghost use Rattle.std.specs.BTreeMap.IterMut.{iter_mut_rest, values_mut_rest, values_mut_steps};
-ghost use Rattle.std.specs.BTreeMap.IterMut.{IterMutCanStep};
+ghost use Rattle.std.specs.BTreeMap.IterMut.{iter_mut_name, values_mut_name, IterMutCanStep};
 ghost use Rattle.std.specs.BTreeMap.Lent.{KeepsKeys};
 ghost use Rattle.std.specs.Borrow.{sem};
 ghost use Rattle.std.specs.Int.NonZero.{non_zero_usize_get};
@@ -40,8 +40,7 @@ ghost use Rattle.ne_iter.specs.SourceLists.{MeetsList};
 ghost use Rattle.ne_iter.specs.KeyClones.{KeepsEntries};
 ghost use Rattle.ne_iter.specs.KeptEntries.{either_way, kept_entries, ActsAsAtEntry};
 ghost use Rattle.ne_tree.specs.TreeLends.{std_iterator, std_values_iterator, LendsValue};
-ghost use Rattle.ne_tree.specs.TreeLends.{LendsValues, LendsValuesInside, LendsValuesAlone};
-ghost use Rattle.ne_tree.specs.TreeLends.{LendsValuesAloneInside};
+ghost use Rattle.ne_tree.specs.TreeLends.{LendsValues, LendsValuesInside};
 ghost use Rattle.ne_tree.specs.ValidTreeMap.{IsValid};
 
 mod iter;
@@ -158,7 +157,8 @@ impl<K: Ord, V> NEBTreeMap<K, V> {
     /// ```
     pub fn iter_mut(&mut self) -> btree_map::IterMut<'_, K, V>
         // Once it is gone, the map has its old keys, with the values that were last written.
-        ensures* writes_back { sem 𝓛 (LendsValues K.row V.row K.Ord self.entry result) }
+        ensures* writes_back { sem 𝓛 (LendsValues K.row V.row K.Ord self.entry
+            (iter_mut_name result)) }
         // Whatever is written, the keys and their number stay.
         ensures keeps { KeepsKeys self.old 0 }
         // `next` may be called.
@@ -199,7 +199,7 @@ impl<K: Ord, V> NEBTreeMap<K, V> {
     pub fn nonempty_iter_mut(&mut self) -> IterMut<'_, K, V>
         // Once it is gone, the map has its old keys, with the values that were last written.
         ensures* writes_back { sem 𝓛 (LendsValues K.row V.row K.Ord self.entry
-            (std_iterator result)) }
+            (iter_mut_name (std_iterator result))) }
         // Whatever is written, the keys and their number stay.
         ensures keeps { KeepsKeys self.old 0 }
         // `next` may be called.
@@ -306,8 +306,8 @@ impl<K: Ord, V> NEBTreeMap<K, V> {
     /// ```
     pub fn values_mut(&mut self) -> ValuesMut<'_, K, V>
         // Once it is gone, the map has its old keys, with the values that were last written.
-        ensures* writes_back { sem 𝓛 (LendsValuesAlone K.row V.row K.Ord self.entry
-            (std_values_iterator result)) }
+        ensures* writes_back { sem 𝓛 (LendsValues K.row V.row K.Ord self.entry
+            (values_mut_name (std_values_iterator result))) }
         // Whatever is written, the keys and their number stay.
         ensures keeps { KeepsKeys self.old 0 }
         ensures rest { values_mut_rest (std_values_iterator result) ≡ values self.old }
@@ -693,7 +693,8 @@ impl<K: Ord, V> NEBTreeMap<K, V> {
 
     // Lends the values by std's iterator, for `values_mut`.
     fn lend_values(&mut self) -> btree_map::ValuesMut<'_, K, V>
-        ensures* writes_back { sem 𝓛 (LendsValuesAlone K.row V.row K.Ord self.entry result) }
+        ensures* writes_back { sem 𝓛 (LendsValues K.row V.row K.Ord self.entry
+            (values_mut_name result)) }
         ensures keeps { KeepsKeys self.old 0 }
         ensures rest { values_mut_rest result ≡ values self.old }
         ensures fits { btree_map_len self.old < 2 ^ 63 }
@@ -707,7 +708,8 @@ impl<K: Ord, V> NEBTreeMap<K, V> {
 
 // Lends the values of the inner map, for `iter_mut`.
 fn inner_iter_mut<'a, K: Ord, V>(map: &'a mut BTreeMap<K, V>) -> btree_map::IterMut<'a, K, V>
-    ensures* writes_back { sem 𝓛 (LendsValuesInside K.row V.row K.Ord map.entry result) }
+    ensures* writes_back { sem 𝓛 (LendsValuesInside K.row V.row K.Ord map.entry
+        (iter_mut_name result)) }
     ensures keeps { KeepsKeys map.old 0 }
     ensures ready { IterMutCanStep result }
     ensures rest { iter_mut_rest result ≡ map.old.entries }
@@ -719,7 +721,8 @@ fn inner_iter_mut<'a, K: Ord, V>(map: &'a mut BTreeMap<K, V>) -> btree_map::Iter
 
 // Lends the values of the inner map, for `lend_values`.
 fn inner_values_mut<'a, K: Ord, V>(map: &'a mut BTreeMap<K, V>) -> btree_map::ValuesMut<'a, K, V>
-    ensures* writes_back { sem 𝓛 (LendsValuesAloneInside K.row V.row K.Ord map.entry result) }
+    ensures* writes_back { sem 𝓛 (LendsValuesInside K.row V.row K.Ord map.entry
+        (values_mut_name result)) }
     ensures keeps { KeepsKeys map.old 0 }
     ensures rest { values_mut_rest result ≡ values map.old }
     ensures fits { btree_map_len map.old < 2 ^ 63 }

@@ -2,7 +2,8 @@
 //! std's iterators.
 ghost use Rattle.std.specs.Prelude.{◌≡◌, ◌<◌, ◌^◌, length};
 ghost use Rattle.std.specs.HashMap.{IsUnique, hash_map_len};
-ghost use Rattle.std.specs.HashMap.IterMut.{iter_mut_rest, IterMutCanStep, values_mut_rest};
+ghost use Rattle.std.specs.HashMap.IterMut.{iter_mut_name, iter_mut_rest, values_mut_rest};
+ghost use Rattle.std.specs.HashMap.IterMut.{IterMutCanStep};
 ghost use Rattle.std.specs.Map.Iter.{deref, deref_pair};
 ghost use Rattle.ne_vec.specs.Lists.{view_by};
 ghost use Rattle.ne_iter.specs.KeyIterators.{IteratesEntries, IteratesEntriesByValue};
@@ -96,7 +97,7 @@ impl<'a, K: Eq + Hash, V, S: BuildHasher> IntoIterator for &'a mut NEMap<K, V, S
 
     fn into_iter(self) -> hash_map::IterMut<'a, K, V>
         ensures* writes_back { sem 𝓛 (LendsValues K.row V.row S.row S.Hasher.row K.Hash
-            S.BuildHasher S.Hasher.Hasher self.entry result) }
+            S.BuildHasher S.Hasher.Hasher self.entry (iter_mut_name result)) }
         ensures keeps { KeepsKeys self.old }
         ensures into_iter_gives { (iter_mut_rest result ≡ self.old.entries)
             × IterMutCanStep result × (hash_map_len self.old < 2 ^ 63)
@@ -155,7 +156,7 @@ impl<'a, K, V> IntoIterator for IterMut<'a, K, V> {
 }
 
 /// A non-empty iterator over mutable references to the values of an [`NEMap`]. In contracts,
-/// `std_values` is the std iterator that it holds.
+/// `std_values_iterator` is the std iterator that it holds.
 #[derive(Drop)]
 pub struct ValuesMut<'a, K, V> {
     pub(super) inner: hash_map::ValuesMut<'a, K, V>,
@@ -169,13 +170,14 @@ impl<'a, K, V> NonEmptyIterator for ValuesMut<'a, K, V> {
 }
 
 impl<'a, K, V> IntoIterator for ValuesMut<'a, K, V> {
-    ghost use Rattle.ne_hash.specs.HashLends.{std_values};
+    ghost use Rattle.ne_hash.specs.HashLends.{std_values_iterator};
 
     type Item = &'a mut V;
 
     type IntoIter = hash_map::ValuesMut<'a, K, V>;
 
-    ghost into_iter_gives = { λ w it. (0 < length (values_mut_rest it)) × (it ≡ std_values w) };
+    ghost into_iter_gives = { λ w it. (0 < length (values_mut_rest it))
+        × (it ≡ std_values_iterator w) };
 
     fn into_iter(self) -> hash_map::ValuesMut<'a, K, V> {
         self.inner

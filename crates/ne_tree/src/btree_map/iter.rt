@@ -2,7 +2,8 @@
 //! into std's iterators.
 ghost use Rattle.std.specs.Prelude.{◌≡◌, ◌<◌, ◌^◌, length};
 ghost use Rattle.std.specs.BTreeMap.{IsOrdered, btree_map_len};
-ghost use Rattle.std.specs.BTreeMap.IterMut.{iter_mut_rest, values_mut_rest, IterMutCanStep};
+ghost use Rattle.std.specs.BTreeMap.IterMut.{iter_mut_name, iter_mut_rest, values_mut_rest};
+ghost use Rattle.std.specs.BTreeMap.IterMut.{IterMutCanStep};
 ghost use Rattle.std.specs.Map.Iter.{deref, deref_pair};
 ghost use Rattle.ne_vec.specs.Lists.{view_by};
 ghost use Rattle.ne_iter.specs.KeyIterators.{IteratesEntries, IteratesKnown, KnownByReference};
@@ -97,7 +98,8 @@ impl<'a, K: Ord, V> IntoIterator for &'a mut NEBTreeMap<K, V> {
         × (btree_map_len m.now < 2 ^ 63) × IsValid K.cmp m.now };
 
     fn into_iter(self) -> btree_map::IterMut<'a, K, V>
-        ensures* writes_back { sem 𝓛 (LendsValues K.row V.row K.Ord self.entry result) }
+        ensures* writes_back { sem 𝓛 (LendsValues K.row V.row K.Ord self.entry
+            (iter_mut_name result)) }
         ensures keeps { KeepsKeys self.old 0 }
         ensures into_iter_gives { (iter_mut_rest result ≡ self.old.entries)
             × IterMutCanStep result × (btree_map_len self.old < 2 ^ 63)

@@ -156,7 +156,8 @@ iter_mut_spec 𝓤 𝓛 𝓜 𝓡 wired K V LK LV o₀ d₀ o₁ d₁ o₂ d₂ 
     ⊛ ‵ (It.own_val it (v ∷ []))) ⊛
     some (λ (ws : Lasts Gn κs (ka, tt)). ‵ (lasts Gn κs (ka, tt) ws)
     ⊛ ‵ (LendsValuesInside (param 0 K) (param 1 V)
-    (f.K-Ord-whole K V o₀ d₀ o₁ d₁ o₂ d₂ o₃ d₃) ka it) ⊛ raw (fact 𝓤 (KeepsKeys d 0))
+    (f.K-Ord-whole K V o₀ d₀ o₁ d₁ o₂ d₂ o₃ d₃) ka (iter_mut_name it))
+    ⊛ raw (fact 𝓤 (KeepsKeys d 0))
     ⊛ raw (fact 𝓤 (IterMutCanStep it)) ⊛ raw (fact 𝓤 (iter_mut_rest it ≡ d.entries))
     ⊛ raw (fact 𝓤 (btree_map_len d < 2 ^ 63))
     ⊛ raw (fact 𝓤 (LendsValuesInOrder (iter_mut_rest {K = K.Denot} {X = V.Denot})))))))
@@ -195,7 +196,7 @@ iter_mut_spec 𝓤 𝓛 𝓜 𝓡 wired K V LK LV o₀ d₀ o₁ d₁ o₂ d₂ 
     move ! (4 ∷ 6 ∷ 7 ∷ 3 ∷ 0 ∷ 5 ∷ []) $ group ! 6 $
     use1 𝓛 (later (‵ (flft κ (Share.right q))
     ⊛ ‵ (LendsValues (param 0 K) (param 1 V)
-    (f.K-Ord-whole K V o₀ d₀ o₁ d₁ o₂ d₂ o₃ d₃) a.0 it)))
+    (f.K-Ord-whole K V o₀ d₀ o₁ d₁ o₂ d₂ o₃ d₃) a.0 (iter_mut_name it))))
     (closes_following 𝓛 (mem R) (mem F) (mem F) put put κ (Share.right q) b o b fo a.0.ghost_name δ
     (iter_mut_name it) Back back n (R.coded.code d) (R.coded.code d)) $ await ! tt $ split ! $
     -- [the right token; what follows; the left tokens; the iterator]

@@ -59,7 +59,7 @@ use Rattle.std_collections.specs.contracts.btree_map.BTreeMap as inner
 use Rattle.std_collections.proofs.btree_map.BTreeMap.TheLaws as inner_laws
 use Rattle.std_collections.specs.contracts.btree_map.iter.lent.ValuesMut as iter
 use Rattle.std_collections.proofs.btree_map.iter.lent.ValuesMut.TheLaws as iter_laws
-use Rattle.ne_tree.specs.TreeLends.{LendsValuesAlone, LendsValuesAloneInside}
+use Rattle.ne_tree.specs.TreeLends.{LendsValues, LendsValuesInside}
 use Rattle.ne_tree.specs.ValidTreeMap.{IsValid}
 use Rattle.ne_tree.specs.contracts.btree_map.NEBTreeMap as outer
 use Rattle.ne_tree.specs.contracts.btree_map.NEBTreeMap.TheInside as inside
@@ -154,8 +154,9 @@ lend_values_spec 𝓤 𝓛 𝓜 𝓡 wired K V LK LV o₀ d₀ o₁ d₁ o₂ d�
     use1 𝓛 (later (some (λ (it : It.Denot). ((‵ (flft κ (Share.left q)) ⊛ toks)
     ⊛ ‵ (It.own_val it (v ∷ []))) ⊛
     some (λ (ws : Lasts Gn κs (ka, tt)). ‵ (lasts Gn κs (ka, tt) ws)
-    ⊛ ‵ (LendsValuesAloneInside (param 0 K) (param 1 V)
-    (f.K-Ord-whole K V o₀ d₀ o₁ d₁ o₂ d₂ o₃ d₃) ka it) ⊛ raw (fact 𝓤 (KeepsKeys d 0))
+    ⊛ ‵ (LendsValuesInside (param 0 K) (param 1 V)
+    (f.K-Ord-whole K V o₀ d₀ o₁ d₁ o₂ d₂ o₃ d₃) ka (values_mut_name it))
+    ⊛ raw (fact 𝓤 (KeepsKeys d 0))
     ⊛ raw (fact 𝓤 (values_mut_rest it ≡ values d))
     ⊛ raw (fact 𝓤 (btree_map_len d < 2 ^ 63))
     ⊛ raw (fact 𝓤 (YieldsMutRefsInOrder (values_mut_steps {K = K.Denot} {X = V.Denot})
@@ -193,8 +194,8 @@ lend_values_spec 𝓤 𝓛 𝓜 𝓡 wired K V LK LV o₀ d₀ o₁ d₁ o₂ d�
     }) (refl, good w)) b o) in
     move ! (4 ∷ 6 ∷ 7 ∷ 3 ∷ 0 ∷ 5 ∷ []) $ group ! 6 $
     use1 𝓛 (later (‵ (flft κ (Share.right q))
-    ⊛ ‵ (LendsValuesAlone (param 0 K) (param 1 V)
-    (f.K-Ord-whole K V o₀ d₀ o₁ d₁ o₂ d₂ o₃ d₃) a.0 it)))
+    ⊛ ‵ (LendsValues (param 0 K) (param 1 V)
+    (f.K-Ord-whole K V o₀ d₀ o₁ d₁ o₂ d₂ o₃ d₃) a.0 (values_mut_name it))))
     (closes_following 𝓛 (mem R) (mem F) (mem F) put put κ (Share.right q) b o b fo a.0.ghost_name δ
     (values_mut_name it) Back back n (R.coded.code d) (R.coded.code d)) $ await ! tt $ split ! $
     -- [the right token; what follows; the left tokens; the iterator]
