@@ -1,3 +1,4 @@
 pub mod TreeInserts
 pub mod MapEq
 pub mod SetEq
+pub mod ValuesLent

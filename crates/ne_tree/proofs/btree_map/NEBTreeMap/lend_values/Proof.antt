@@ -1,21 +1,16 @@
--- `lend_values` borrows the inner map for as long as the map is borrowed. The invariant holds again
--- at the end, since the clause of the inner `values_mut` says that the keys and their number
--- are the same.
-use mathlib.Core.Path.{◌≡◌, refl, sym, subst}
-use Prim.Native.Nat.{ℕ, ◌+◌}
+-- `lend_values` borrows the inner map for as long as the map is borrowed.
+use mathlib.Core.Path.{◌≡◌, refl}
+use Prim.Native.Nat.{ℕ}
 use mathlib.Core.List.{List, [], ◌∷◌}
 use mir.Val.{Val, vptr}
 use mir.Syntax.{Args, Fn, a_type, dcons, dnil, named}
 use mir.MapTy.{inst_fn}
-use base.Logic.{SProp, ent, sep, emp, id⊢, via}
+use base.Logic.{SProp, emp, id⊢}
 use base.Fml.{ftrue, fsep, flft, fauth, Lft}
-use base.Fraction.{full_share}
 use base.Share
-use prog.Memory.{align, up}
-use types.Logic.{sem}
 use types.Kit.{‵, raw, ◌⊛◌, some, later, given, ◌$◌, ◌∵◌, !, qed, by, move, keep, drop, split}
 use types.Kit.{split3, join, fsplit, fsplit3, fjoin, fjoin3, fpack, feq_i, pick, learn, await}
-use types.Kit.{rewrite, group, use0, use1, use2}
+use types.Kit.{group, use0, use1, use2}
 use types.Run.{enter, addr, stop, fld, no_more, and_then, returns}
 use types.ByLocal.{alloc_all, pass_all, free_all, look_at, get, through, sets, lands_as}
 use types.Tokens.{name_new}
@@ -27,7 +22,7 @@ use contract.Monad.{fact}
 use contract.Running.{tables}
 use contract.BorrowLft.{◌⊑◌}
 use denote.RattleType.{RattleType, owns}
-use denote.Memory.{part_at, mem, part_of, lone}
+use denote.Memory.{mem, part_of}
 use denote.Ref.{MutBor, MutRef, mut_vals, mut_Tells}
 use denote.Exit.{no}
 use denote.Laws.{shows}
@@ -35,10 +30,6 @@ use denote.Signature.{plain, mut_ref_to, named_lft}
 use denote.Steps.{nothing, peeks, heard}
 use denote.Param.{param, bounded}
 use denote.Param.Laws.{param_laws}
-use denote.Model.Fields.{view_made, plain_out, Plain-in}
-use denote.Struct.Members.{Member}
-use denote.Struct.Parts.{PartsBack}
-use denote.Struct.Pick.{field_out, field_back}
 use denote.Triple.Call.{calls_at}
 use denote.Triple.Clauses.{lasts, Lasts}
 use denote.Triple.Entry.{on_entry}
@@ -47,23 +38,15 @@ use denote.Triple.Table.{framed}
 use denote.Triple.Walked.{Stays, stay_dropped, walk_of, Goes-spent_ref}
 use Rattle.std.proofs.raw_atomic.Walks.{proved, leaves}
 use Rattle.std.specs.Prelude.{◌<◌, ◌^◌}
-use Rattle.std.specs.List.Sorted.{IsStrictlySortedBy}
 use Rattle.std.specs.Iterator.Runs.{YieldsMutRefsInOrder}
-use Rattle.std.specs.BTreeMap.{BTreeMap, btree_map_len, values}
+use Rattle.std.specs.BTreeMap.{btree_map_len, values}
 use Rattle.std.specs.BTreeMap.IterMut.{values_mut_rest, values_mut_name, values_mut_steps}
 use Rattle.std.specs.BTreeMap.Lent.{KeepsKeys, with_values}
-use Rattle.std.specs.contracts.alloc.Global as global
-use Rattle.std.proofs.alloc.Global.TheLaws as global_laws
-use Rattle.std.specs.contracts.impls.GlobalAllocator.TheImpl.{ghosts}
-use Rattle.std_collections.specs.contracts.btree_map.BTreeMap as inner
-use Rattle.std_collections.proofs.btree_map.BTreeMap.TheLaws as inner_laws
 use Rattle.std_collections.specs.contracts.btree_map.iter.lent.ValuesMut as iter
 use Rattle.std_collections.proofs.btree_map.iter.lent.ValuesMut.TheLaws as iter_laws
 use Rattle.ne_tree.specs.TreeLends.{LendsValues, LendsValuesInside}
 use Rattle.ne_tree.specs.ValidTreeMap.{IsValid}
-use Rattle.ne_tree.specs.contracts.btree_map.NEBTreeMap as outer
-use Rattle.ne_tree.specs.contracts.btree_map.NEBTreeMap.TheInside as inside
-use Rattle.ne_tree.proofs.btree_map.NEBTreeMap.TheLaws as outer_laws
+use Rattle.ne_tree.proofs.ValuesLent.{Inner, Left, Outer, inner_at, puts_back, takes_out}
 use Rattle.ne_tree.specs.contracts.btree_map.NEBTreeMap.lend_values as f
 use Rattle.ne_tree.proofs.btree_map.NEBTreeMap.lend_values.Statement.{statement}
 use Rattle.ne_tree.proofs.btree_map.NEBTreeMap.lend_values.Code as code
@@ -80,11 +63,8 @@ lend_values_spec 𝓤 𝓛 𝓜 𝓡 wired K V LK LV o₀ d₀ o₁ d₁ o₂ d�
     let G =
     triple_of 𝓛 (g.signature K V o₀ d₀ o₁ d₁ o₂ d₂ o₃ d₃)
     (g.spec K V o₀ d₀ o₁ d₁ o₂ d₂ o₃ d₃ 𝓛 𝓜.mem 𝓡.returns) in
-    let R : RattleType = outer.the_row (param 0 K) (param 1 V) o₀ o₂ o₃ in
-    let In : RattleType = inside.the_row (param 0 K) (param 1 V) o₀ o₂ o₃ in
-    let F : RattleType = inner.the_row (param 0 K) (param 1 V) global.the_row o₀ o₂ o₃ ghosts in
-    let opens = outer_laws.the_opens (param 0 K) (param 1 V) o₀ o₂ o₃ in
-    let ms : List Member = record { row = F; ty = lone F.mir } ∷ [] in
+    let R : RattleType = Outer (param 0 K) (param 1 V) o₀ o₂ o₃ in
+    let F : RattleType = Inner (param 0 K) (param 1 V) o₀ o₂ o₃ in
     let args : Args =
     bounded (a_type ∷ a_type ∷ []) (
       K,
@@ -101,9 +81,9 @@ lend_values_spec 𝓤 𝓛 𝓜 𝓡 wired K V LK LV o₀ d₀ o₁ d₁ o₂ d�
     (λ κs. (mut_vals, tt)) (λ κs. (mut_Tells (named 0) κs.0 R, tt)) (λ κs qs bounds a gh are.
     let κ : Lft = κs.0 in let q = qs.0 in
     let b = a.0.ref_ptr.0 in let o = a.0.ref_ptr.1 in let d = a.0.now in let vs = mut_vals a.0 in
-    let fo : ℕ = o + up (align (lone F.mir)) 0 in
+    let fo : ℕ = inner_at (param 0 K) (param 1 V) o₀ o₂ o₃ o in
     let y : W.Ghost = ((κs, qs, bounds, a, (vs, tt)), gh) in
-    let Back : SProp 𝓤 = sep 𝓤 (emp 𝓤) (PartsBack 𝓛 full_share [] ms b o) in
+    let Back : SProp 𝓤 = Left (param 0 K) (param 1 V) o₀ o₂ o₃ 𝓛 d b o in
     let It : RattleType = iter.the_row (named_lft 3 0 tt κs) (param 0 K) (param 1 V) in
     let toks = ‵ (flft κs.1.0 qs.1.0) ⊛ ‵ (flft κs.1.1.0 qs.1.1.0) ⊛ ‵ ftrue in
     qed 𝓛 (raw (on_entry 𝓛 En.signature κs qs a (vs, tt)) ∷ (given (κs.1.0 ⊑ K.lives) (‵ ftrue)
@@ -116,20 +96,9 @@ lend_values_spec 𝓤 𝓛 𝓜 𝓡 wired K V LK LV o₀ d₀ o₁ d₁ o₂ d�
     move ! (2 ∷ []) $ use1 𝓛 (‵ (flft κ (Share.left q))
     ⊛ ‵ (flft κ (Share.right q))) (𝓛.lfts.lft_split κ q) $ split ! $
     move ! (2 ∷ 3 ∷ 1 ∷ []) $ open_ref ! tt (mem R) {x = d} {b = b} {o = o} $
-    use1 𝓛 (some (λ (x : (x : In.Denot)
-    × opens.Known d x).
-    ‵ (part_at In full_share x.0 b o))) (plain_out R In opens 𝓛 full_share d b o) $ pick ! (λ x.
-    use1 𝓛 (‵ (part_at F full_share x.0.inner b fo)
-    ⊛ raw Back)
-    (field_out 𝓛 full_share [] ms (
-      (inner_laws.the_row_laws (param 0 K) (param 1 V) global.the_row o₀ o₂ o₃ ghosts
-          (param_laws 0 K LK) (param_laws 1 V LV) global_laws.the_row_laws).lawful 𝓛,
-      tt,
-    ) (
-      x.0.inner,
-      tt,
-    ) b o 0) $ split ! $
-    rewrite ! 0 (λ (m : F.Denot). ‵ (part_at F full_share m b fo)) x.1.0 refl $
+    use1 𝓛 (some (λ (_ : IsValid o₀.cmp d). ‵ ((mem F).own_at d b fo) ⊛ raw Back))
+    (takes_out (param 0 K) (param 1 V) o₀ o₂ o₃ 𝓛 d b o (param_laws 0 K LK) (param_laws 1 V LV)) $
+    pick ! (λ valid. split ! $
     -- [the inner map; Back; the open borrow; obs; auth; left token; other tokens]
     name_new ! tt (F.coded.code d) (λ δ. move ! (2 ∷ 1 ∷ []) $ fjoin ! $
     fpack ! F.Denot (λ m. fsep ((mem F).own_at m b fo) (fauth δ (F.coded.code m))) d $
@@ -171,27 +140,7 @@ lend_values_spec 𝓤 𝓛 𝓜 𝓡 wired K V LK LV o₀ d₀ o₁ d₁ o₂ d�
     heard ! _ (λ fits. heard ! _ (λ run.
     -- [what follows; the tokens; the iterator; what the lender keeps; aged; Back; obs; auth]
     let put : F.Denot → F.Denot = λ w. with_values d 0 (values w) in
-    let valid : IsValid o₀.cmp d = subst (λ (m : F.Denot). IsValid o₀.cmp m) x.1.0 x.1.1 in
-    let good : (w : F.Denot) → IsValid o₀.cmp (put w) = λ w. (
-      subst (λ (n : ℕ). 0 < n) (sym (keeps.1 (values w))) valid.0,
-      subst (IsStrictlySortedBy o₀.cmp) (sym (keeps.0 (values w))) valid.1,
-    ) in
-    let back : (w : F.Denot)
-    → ent 𝓤 (sep 𝓤 (sem 𝓛 ((mem F).own_at (put w) b fo)) Back)
-    (sem 𝓛 ((mem R).own_at (put w) b o)) = λ w.
-    via 𝓤 _ (field_back 𝓛 full_share [] ms (
-      put w,
-      tt,
-    ) b o 0) (Plain-in R In opens 𝓛 full_share (put w) (record {
-      inner =
-          put w;
-    })
-    (view_made In (BTreeMap K.Denot V.Denot) R.coded
-    (outer.the_view (param 0 K) (param 1 V) o₀ o₂ o₃)
-    (outer.the_invariant (param 0 K) (param 1 V) o₀ o₂ o₃) 𝓛 (put w) (record {
-      inner =
-          put w;
-    }) (refl, good w)) b o) in
+    let back = puts_back (param 0 K) (param 1 V) o₀ o₂ o₃ 𝓛 d b o keeps valid in
     move ! (4 ∷ 6 ∷ 7 ∷ 3 ∷ 0 ∷ 5 ∷ []) $ group ! 6 $
     use1 𝓛 (later (‵ (flft κ (Share.right q))
     ⊛ ‵ (LendsValues (param 0 K) (param 1 V)
