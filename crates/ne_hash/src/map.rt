@@ -250,7 +250,7 @@ impl<K: Eq + Hash, V, S: BuildHasher> NEMap<K, V, S> {
     /// } // {2: 1, 4: 32}
     /// ```
     pub fn iter_mut(&mut self) -> hash_map::IterMut<'_, K, V>
-        // Once it is gone, the map has its old keys, with the values that were last written.
+        // Once the iterator is gone, the map has its old keys with the values last written.
         ensures* writes_back { sem 𝓛 (LendsValues K.row V.row S.row S.Hasher.row K.Hash
             S.BuildHasher S.Hasher.Hasher self.entry (iter_mut_name result)) }
         // Whatever is written, the keys and their number stay.
@@ -291,7 +291,7 @@ impl<K: Eq + Hash, V, S: BuildHasher> NEMap<K, V, S> {
     /// } // {2: 33, 4: 994}
     /// ```
     pub fn nonempty_iter_mut(&mut self) -> IterMut<'_, K, V>
-        // Once it is gone, the map has its old keys, with the values that were last written.
+        // Once the iterator is gone, the map has its old keys with the values last written.
         ensures* writes_back { sem 𝓛 (LendsValues K.row V.row S.row S.Hasher.row K.Hash
             S.BuildHasher S.Hasher.Hasher self.entry (iter_mut_name (std_iterator result))) }
         // Whatever is written, the keys and their number stay.
@@ -396,7 +396,7 @@ impl<K: Eq + Hash, V, S: BuildHasher> NEMap<K, V, S> {
     /// } // {2: 33, 4: 994}
     /// ```
     pub fn values_mut(&mut self) -> ValuesMut<'_, K, V>
-        // Once it is gone, the map has its old keys, with the values that were last written.
+        // Once the iterator is gone, the map has its old keys with the values last written.
         ensures* writes_back { sem 𝓛 (LendsValues K.row V.row S.row S.Hasher.row K.Hash
             S.BuildHasher S.Hasher.Hasher self.entry
             (values_mut_name (std_values_iterator result))) }
@@ -482,7 +482,7 @@ impl<K: Eq + Hash, V, S: BuildHasher> NEMap<K, V, S> {
     /// }
     /// ```
     pub fn get_mut(&mut self, k: &K) -> Option<&mut V>
-        // Once the reference is gone, the key has the value that was last written.
+        // Once the reference is gone, the key has the value last written.
         ensures* writes_back { sem 𝓛 (LendsValue K.row V.row S.row S.Hasher.row K.Hash
             S.BuildHasher S.Hasher.Hasher self.entry k.now result) }
         ensures value { option_copied_mut result ≡ get K.eq self.old k.now }

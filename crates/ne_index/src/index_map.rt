@@ -320,7 +320,7 @@ impl<K: Eq + Hash, V, S: BuildHasher> NEIndexMap<K, V, S> {
     /// *map.first_mut() = 27; // {2: 27, 4: 26}
     /// ```
     pub fn first_mut(&mut self) -> &mut V
-        // Once the reference is gone, the first entry has the value that was last written.
+        // Once the reference is gone, the first entry has the value last written.
         ensures* writes_back { sem 𝓛 (LendsValueAt K.row V.row S.row S.Hasher.row K.Hash
             S.BuildHasher S.Hasher.Hasher self.entry 0 result) }
         ensures value { slice_get (values self.old) 0 ≡ Some result.now }
@@ -358,7 +358,7 @@ impl<K: Eq + Hash, V, S: BuildHasher> NEIndexMap<K, V, S> {
     /// *map.last_mut() = 27; // {2: 24, 4: 27}
     /// ```
     pub fn last_mut(&mut self) -> &mut V
-        // Once the reference is gone, the last entry has the value that was last written.
+        // Once the reference is gone, the last entry has the value last written.
         ensures* writes_back { sem 𝓛 (LendsValueAt K.row V.row S.row S.Hasher.row K.Hash
             S.BuildHasher S.Hasher.Hasher self.entry (index_map_len self.old - 1) result) }
         ensures value { slice_get (values self.old) (index_map_len self.old - 1)
@@ -426,7 +426,7 @@ impl<K: Eq + Hash, V, S: BuildHasher> NEIndexMap<K, V, S> {
     /// }
     /// ```
     pub fn get_mut(&mut self, k: &K) -> Option<&mut V>
-        // Once the reference is gone, the key has the value that was last written.
+        // Once the reference is gone, the key has the value last written.
         ensures* writes_back { sem 𝓛 (LendsValue K.row V.row S.row S.Hasher.row K.Hash
             S.BuildHasher S.Hasher.Hasher self.entry k.now result) }
         ensures value { option_copied_mut result ≡ get K.eq self.old k.now }

@@ -156,7 +156,7 @@ impl<K: Ord, V> NEBTreeMap<K, V> {
     /// } // {2: 1, 4: 32}
     /// ```
     pub fn iter_mut(&mut self) -> btree_map::IterMut<'_, K, V>
-        // Once it is gone, the map has its old keys, with the values that were last written.
+        // Once the iterator is gone, the map has its old keys with the values last written.
         ensures* writes_back { sem 𝓛 (LendsValues K.row V.row K.Ord self.entry
             (iter_mut_name result)) }
         // Whatever is written, the keys and their number stay.
@@ -197,7 +197,7 @@ impl<K: Ord, V> NEBTreeMap<K, V> {
     /// } // {2: 33, 4: 994}
     /// ```
     pub fn nonempty_iter_mut(&mut self) -> IterMut<'_, K, V>
-        // Once it is gone, the map has its old keys, with the values that were last written.
+        // Once the iterator is gone, the map has its old keys with the values last written.
         ensures* writes_back { sem 𝓛 (LendsValues K.row V.row K.Ord self.entry
             (iter_mut_name (std_iterator result))) }
         // Whatever is written, the keys and their number stay.
@@ -305,7 +305,7 @@ impl<K: Ord, V> NEBTreeMap<K, V> {
     /// } // {2: 1, 4: 32}
     /// ```
     pub fn values_mut(&mut self) -> ValuesMut<'_, K, V>
-        // Once it is gone, the map has its old keys, with the values that were last written.
+        // Once the iterator is gone, the map has its old keys with the values last written.
         ensures* writes_back { sem 𝓛 (LendsValues K.row V.row K.Ord self.entry
             (values_mut_name (std_values_iterator result))) }
         // Whatever is written, the keys and their number stay.
@@ -419,7 +419,7 @@ impl<K: Ord, V> NEBTreeMap<K, V> {
     /// }
     /// ```
     pub fn get_mut(&mut self, k: &K) -> Option<&mut V>
-        // Once the reference is gone, the key has the value that was last written.
+        // Once the reference is gone, the key has the value last written.
         ensures* writes_back { sem 𝓛 (LendsValue K.row V.row K.Ord self.entry k.now result) }
         ensures value { option_copied_mut result ≡ get K.cmp self.old k.now }
         ensures valid { IsValid K.cmp self.old }

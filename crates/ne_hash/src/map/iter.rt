@@ -112,8 +112,8 @@ impl<'a, K: Eq + Hash, V, S: BuildHasher> IntoIterator for &'a mut NEMap<K, V, S
 #[derive(Drop)]
 pub struct Held;
 
-/// A non-empty iterator over the pairs of an [`NEMap`]. In contracts it is the list of the pairs,
-/// in an unspecified order.
+/// A non-empty iterator over the pairs of an [`NEMap`], in an unspecified order. In contracts it is
+/// the list of the pairs.
 pub type Iter<'a, K, V> = NonEmptyIter<hash_map::Iter<'a, K, V>, Held>;
 
 impl<'a, K, V> HeldIterator<hash_map::Iter<'a, K, V>> for Held {
@@ -126,8 +126,8 @@ impl<'a, K, V> HeldIterator<hash_map::Iter<'a, K, V>> for Held {
     ghost has_first = { HasFirst-entries deref_pair };
 }
 
-/// A non-empty iterator over the pairs of an [`NEMap`], with mutable references to the values. In
-/// contracts, `std_iterator` is the std iterator that it holds.
+/// A non-empty iterator over the pairs of an [`NEMap`], in an unspecified order, with mutable
+/// references to the values. Contracts describe it by the std iterator inside, `std_iterator`.
 #[derive(Drop)]
 pub struct IterMut<'a, K, V> {
     pub(super) inner: hash_map::IterMut<'a, K, V>,
@@ -155,8 +155,60 @@ impl<'a, K, V> IntoIterator for IterMut<'a, K, V> {
     }
 }
 
-/// A non-empty iterator over mutable references to the values of an [`NEMap`]. In contracts,
-/// `std_values_iterator` is the std iterator that it holds.
+/// A non-empty iterator over the pairs of an [`NEMap`] by value, in an unspecified order. In
+/// contracts it is the list of the pairs.
+pub type IntoIter<K, V> = NonEmptyIter<hash_map::IntoIter<K, V>, Held>;
+
+impl<K: Drop, V: Drop> HeldIterator<hash_map::IntoIter<K, V>> for Held {
+    ghost items_left = { length };
+
+    ghost known = { KnownByValue };
+
+    ghost has_first = { HasFirst-entries (λ x. x) };
+}
+
+/// A non-empty iterator over the keys of an [`NEMap`], in the order of the pairs. In contracts it
+/// is the list of the keys.
+pub type Keys<'a, K, V> = NonEmptyIter<hash_map::Keys<'a, K, V>, Held>;
+
+impl<'a, K, V> HeldIterator<hash_map::Keys<'a, K, V>> for Held {
+    ghost item_view = { view_by (deref {X = K}) };
+
+    ghost items_left = { length };
+
+    ghost known = { KnownByReference 63 (deref {X = K}) };
+
+    ghost has_first = { HasFirst-entries deref };
+}
+
+/// A non-empty iterator over the keys of an [`NEMap`] by value, in the order of the pairs. In
+/// contracts it is the list of the keys.
+pub type IntoKeys<K, V> = NonEmptyIter<hash_map::IntoKeys<K, V>, Held>;
+
+impl<K: Drop, V: Drop> HeldIterator<hash_map::IntoKeys<K, V>> for Held {
+    ghost items_left = { length };
+
+    ghost known = { KnownByValue };
+
+    ghost has_first = { HasFirst-entries (λ x. x) };
+}
+
+/// A non-empty iterator over the values of an [`NEMap`], in the order of the pairs. In contracts it
+/// is the list of the values.
+pub type Values<'a, K, V> = NonEmptyIter<hash_map::Values<'a, K, V>, Held>;
+
+impl<'a, K, V> HeldIterator<hash_map::Values<'a, K, V>> for Held {
+    ghost item_view = { view_by (deref {X = V}) };
+
+    ghost items_left = { length };
+
+    ghost known = { KnownByReference 63 (deref {X = V}) };
+
+    ghost has_first = { HasFirst-entries deref };
+}
+
+/// A non-empty iterator over mutable references to the values of an [`NEMap`], in the order of
+/// the pairs. Contracts describe it by the std iterator inside, `std_values_iterator`.
 #[derive(Drop)]
 pub struct ValuesMut<'a, K, V> {
     pub(super) inner: hash_map::ValuesMut<'a, K, V>,
@@ -184,60 +236,8 @@ impl<'a, K, V> IntoIterator for ValuesMut<'a, K, V> {
     }
 }
 
-/// A non-empty iterator over the pairs of an [`NEMap`] by value. In contracts it is the list of the
-/// pairs, in an unspecified order.
-pub type IntoIter<K, V> = NonEmptyIter<hash_map::IntoIter<K, V>, Held>;
-
-impl<K: Drop, V: Drop> HeldIterator<hash_map::IntoIter<K, V>> for Held {
-    ghost items_left = { length };
-
-    ghost known = { KnownByValue };
-
-    ghost has_first = { HasFirst-entries (λ x. x) };
-}
-
-/// A non-empty iterator over the keys of an [`NEMap`]. In contracts it is the list of the keys, in
-/// an unspecified order.
-pub type Keys<'a, K, V> = NonEmptyIter<hash_map::Keys<'a, K, V>, Held>;
-
-impl<'a, K, V> HeldIterator<hash_map::Keys<'a, K, V>> for Held {
-    ghost item_view = { view_by (deref {X = K}) };
-
-    ghost items_left = { length };
-
-    ghost known = { KnownByReference 63 (deref {X = K}) };
-
-    ghost has_first = { HasFirst-entries deref };
-}
-
-/// A non-empty iterator over the values of an [`NEMap`]. In contracts it is the list of the values,
-/// in the order of their keys.
-pub type Values<'a, K, V> = NonEmptyIter<hash_map::Values<'a, K, V>, Held>;
-
-impl<'a, K, V> HeldIterator<hash_map::Values<'a, K, V>> for Held {
-    ghost item_view = { view_by (deref {X = V}) };
-
-    ghost items_left = { length };
-
-    ghost known = { KnownByReference 63 (deref {X = V}) };
-
-    ghost has_first = { HasFirst-entries deref };
-}
-
-/// A non-empty iterator over the keys of an [`NEMap`] by value. In contracts it is the list of the
-/// keys, in an unspecified order.
-pub type IntoKeys<K, V> = NonEmptyIter<hash_map::IntoKeys<K, V>, Held>;
-
-impl<K: Drop, V: Drop> HeldIterator<hash_map::IntoKeys<K, V>> for Held {
-    ghost items_left = { length };
-
-    ghost known = { KnownByValue };
-
-    ghost has_first = { HasFirst-entries (λ x. x) };
-}
-
-/// A non-empty iterator over the values of an [`NEMap`] by value. In contracts it is the list of
-/// the values, in the order of their keys.
+/// A non-empty iterator over the values of an [`NEMap`] by value, in the order of the pairs. In
+/// contracts it is the list of the values.
 pub type IntoValues<K, V> = NonEmptyIter<hash_map::IntoValues<K, V>, Held>;
 
 impl<K: Drop, V: Drop> HeldIterator<hash_map::IntoValues<K, V>> for Held {

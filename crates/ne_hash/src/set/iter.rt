@@ -82,8 +82,8 @@ impl<'a, T: Eq + Hash, S: BuildHasher> IntoIterator for &'a NESet<T, S> {
 #[derive(Drop)]
 pub struct Held;
 
-/// A non-empty iterator over the items of an [`NESet`]. In contracts it is the list of the items,
-/// in an unspecified order.
+/// A non-empty iterator over the items of an [`NESet`], in an unspecified order. In contracts it is
+/// the list of the items.
 pub type Iter<'a, T> = NonEmptyIter<hash_set::Iter<'a, T>, Held>;
 
 impl<'a, T> HeldIterator<hash_set::Iter<'a, T>> for Held {
@@ -96,8 +96,8 @@ impl<'a, T> HeldIterator<hash_set::Iter<'a, T>> for Held {
     ghost has_first = { HasFirst-entries deref };
 }
 
-/// A non-empty iterator over the items of an [`NESet`] by value. In contracts it is the list of the
-/// items, in an unspecified order.
+/// A non-empty iterator over the items of an [`NESet`] by value, in an unspecified order. In
+/// contracts it is the list of the items.
 pub type IntoIter<T> = NonEmptyIter<hash_set::IntoIter<T>, Held>;
 
 impl<T: Drop> HeldIterator<hash_set::IntoIter<T>> for Held {
@@ -108,8 +108,8 @@ impl<T: Drop> HeldIterator<hash_set::IntoIter<T>> for Held {
     ghost has_first = { HasFirst-entries (λ x. x) };
 }
 
-/// A non-empty iterator over the items of two sets, each once. In contracts it is the list of the
-/// items, in an unspecified order.
+/// A non-empty iterator over the items of two sets, each once, in an unspecified order. In
+/// contracts it is the list of the items.
 pub type Union<'a, T, S> = NonEmptyIter<hash_set::Union<'a, T, S>, Held>;
 
 impl<'a, T: Eq + Hash, S: BuildHasher> HeldIterator<hash_set::Union<'a, T, S>> for Held {

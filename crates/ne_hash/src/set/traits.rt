@@ -49,19 +49,6 @@ impl<T: Eq + Hash, S: BuildHasher> Eq for NESet<T, S> {
     ghost laws = { hash_set_eq_equiv T.Eq.laws };
 }
 
-/// Collects items into a set that holds each of them once.
-impl<T: Eq + Hash + Drop, S: BuildHasher + Default + Drop> FromNonEmptyIterator<T> for NESet<T, S> {
-    ghost collected = { λ xs s. IsSetOf T.eq xs s.keys };
-
-    fn from_nonempty_iter<I: IntoNonEmptyIterator<Item = T>>(
-        alloc: Global,
-        iter: I,
-    ) -> Result<NESet<T, S>, AllocError> {
-        let inner: HashSet<T, S> = HashSet::from_nonempty_iter(alloc, iter)?;
-        Ok(NESet { inner })
-    }
-}
-
 /// Returns the inner `HashSet` unchanged, with its hasher. Its type no longer guarantees an item.
 impl<T: Eq + Hash, S: BuildHasher> From<NESet<T, S>> for HashSet<T, S> {
     ghost from_gives = { λ s t. (t ≡ s) × IsValid T.eq t };
@@ -69,13 +56,6 @@ impl<T: Eq + Hash, S: BuildHasher> From<NESet<T, S>> for HashSet<T, S> {
     fn from(s: NESet<T, S>) -> HashSet<T, S> {
         let NESet { inner } = s;
         inner
-    }
-}
-
-/// Prints as std prints a set: `{1}`.
-impl<T: Eq + Hash + Debug, S: BuildHasher> Debug for NESet<T, S> {
-    fn fmt<W: fmt::Write>(&self, f: &mut fmt::Formatter<W>) -> fmt::Result {
-        self.inner.fmt(f)
     }
 }
 
@@ -103,6 +83,26 @@ impl<T: Eq + Hash + Clone, S: BuildHasher + Clone> Clone for NESet<T, S> {
 
     fn clone(&self) -> Result<NESet<T, S>, AllocError> {
         NESet::clone(self)
+    }
+}
+
+/// Collects items into a set that holds each of them once.
+impl<T: Eq + Hash + Drop, S: BuildHasher + Default + Drop> FromNonEmptyIterator<T> for NESet<T, S> {
+    ghost collected = { λ xs s. IsSetOf T.eq xs s.keys };
+
+    fn from_nonempty_iter<I: IntoNonEmptyIterator<Item = T>>(
+        alloc: Global,
+        iter: I,
+    ) -> Result<NESet<T, S>, AllocError> {
+        let inner: HashSet<T, S> = HashSet::from_nonempty_iter(alloc, iter)?;
+        Ok(NESet { inner })
+    }
+}
+
+/// Prints as std prints a set: `{1}`.
+impl<T: Eq + Hash + Debug, S: BuildHasher> Debug for NESet<T, S> {
+    fn fmt<W: fmt::Write>(&self, f: &mut fmt::Formatter<W>) -> fmt::Result {
+        self.inner.fmt(f)
     }
 }
 

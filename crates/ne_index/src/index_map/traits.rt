@@ -22,13 +22,6 @@ use std::fmt::Debug;
 use std::hash::{BuildHasher, Hash};
 use std::ops::Index;
 
-/// Prints as std prints a map: `{0: 10, 1: 11}`.
-impl<K: Eq + Hash + Debug, V: Debug, S: BuildHasher> Debug for NEIndexMap<K, V, S> {
-    fn fmt<W: fmt::Write>(&self, f: &mut fmt::Formatter<W>) -> fmt::Result {
-        self.inner.fmt(f)
-    }
-}
-
 /// Returns the inner `IndexMap`, for the methods that only an `IndexMap` has. The map cannot be
 /// changed through it.
 impl<K: Eq + Hash, V, S: BuildHasher> AsRef<IndexMap<K, V, S>> for NEIndexMap<K, V, S> {
@@ -136,6 +129,13 @@ impl<K: Eq + Hash, V> Index<usize> for NEIndexMap<K, V> {
         ensures { slice_get (values self.now) index ≡ Some result.now }
     {
         &self.inner[index]
+    }
+}
+
+/// Prints as std prints a map: `{0: 10, 1: 11}`.
+impl<K: Eq + Hash + Debug, V: Debug, S: BuildHasher> Debug for NEIndexMap<K, V, S> {
+    fn fmt<W: fmt::Write>(&self, f: &mut fmt::Formatter<W>) -> fmt::Result {
+        self.inner.fmt(f)
     }
 }
 

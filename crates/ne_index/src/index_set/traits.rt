@@ -48,6 +48,43 @@ impl<T: Eq + Hash, S: BuildHasher> Eq for NEIndexSet<T, S> {
     ghost laws = { hash_set_eq_equiv T.Eq.laws };
 }
 
+/// Returns the inner `IndexSet` unchanged, with its hasher. Its type no longer guarantees an item.
+impl<T: Eq + Hash, S: BuildHasher> From<NEIndexSet<T, S>> for IndexSet<T, S> {
+    ghost from_gives = { λ s t. (t ≡ s) × IsValid T.eq t };
+
+    fn from(s: NEIndexSet<T, S>) -> IndexSet<T, S> {
+        let NEIndexSet { inner } = s;
+        inner
+    }
+}
+
+/// Converts a set as `try_from_set` does, and returns `Error::Empty` if and only if `set` is empty.
+/// It does not allocate and keeps the hasher; the Rust crate collects the items into a new set with
+/// a default hasher.
+impl<T: Eq + Hash, S: BuildHasher + Drop> TryFrom<IndexSet<T, S>> for NEIndexSet<T, S> {
+    ghost use Rattle.std.specs.Prelude.{Result};
+
+    type Error = Error;
+
+    ghost try_from_gives = { λ set r. MatchResult r (λ s. s ≡ set) (λ _. IsEmpty set) };
+
+    fn try_from(set: IndexSet<T, S>) -> Result<NEIndexSet<T, S>, Error> {
+        match NEIndexSet::try_from_set(set) {
+            Some(made) => Ok(made),
+            None => Err(Error::Empty),
+        }
+    }
+}
+
+/// Calls the inherent method `clone`.
+impl<T: Eq + Hash + Clone, S: BuildHasher + Clone> Clone for NEIndexSet<T, S> {
+    ghost is_clone = { λ s t. IsClone T.is_clone s t × KeepsItems T.is_clone s.keys t.keys };
+
+    fn clone(&self) -> Result<NEIndexSet<T, S>, AllocError> {
+        NEIndexSet::clone(self)
+    }
+}
+
 /// Collects items into a set that holds each of them once, in the order in which they first appear.
 impl<T: Eq + Hash + Drop, S: BuildHasher + Default + Drop> FromNonEmptyIterator<T>
     for NEIndexSet<T, S> {
@@ -77,47 +114,10 @@ fn collected<
     iter.into_nonempty_iter().into_iter().collect(alloc)
 }
 
-/// Returns the inner `IndexSet` unchanged, with its hasher. Its type no longer guarantees an item.
-impl<T: Eq + Hash, S: BuildHasher> From<NEIndexSet<T, S>> for IndexSet<T, S> {
-    ghost from_gives = { λ s t. (t ≡ s) × IsValid T.eq t };
-
-    fn from(s: NEIndexSet<T, S>) -> IndexSet<T, S> {
-        let NEIndexSet { inner } = s;
-        inner
-    }
-}
-
 /// Prints as std prints a set: `{1, 2}`.
 impl<T: Eq + Hash + Debug, S: BuildHasher> Debug for NEIndexSet<T, S> {
     fn fmt<W: fmt::Write>(&self, f: &mut fmt::Formatter<W>) -> fmt::Result {
         self.inner.fmt(f)
-    }
-}
-
-/// Converts a set as `try_from_set` does, and returns `Error::Empty` if and only if `set` is empty.
-/// It does not allocate and keeps the hasher; the Rust crate collects the items into a new set with
-/// a new hasher.
-impl<T: Eq + Hash, S: BuildHasher + Drop> TryFrom<IndexSet<T, S>> for NEIndexSet<T, S> {
-    ghost use Rattle.std.specs.Prelude.{Result};
-
-    type Error = Error;
-
-    ghost try_from_gives = { λ set r. MatchResult r (λ s. s ≡ set) (λ _. IsEmpty set) };
-
-    fn try_from(set: IndexSet<T, S>) -> Result<NEIndexSet<T, S>, Error> {
-        match NEIndexSet::try_from_set(set) {
-            Some(made) => Ok(made),
-            None => Err(Error::Empty),
-        }
-    }
-}
-
-/// Calls the inherent method `clone`.
-impl<T: Eq + Hash + Clone, S: BuildHasher + Clone> Clone for NEIndexSet<T, S> {
-    ghost is_clone = { λ s t. IsClone T.is_clone s t × KeepsItems T.is_clone s.keys t.keys };
-
-    fn clone(&self) -> Result<NEIndexSet<T, S>, AllocError> {
-        NEIndexSet::clone(self)
     }
 }
 

@@ -184,20 +184,6 @@ impl<'a, K, V> HeldIterator<btree_map::Keys<'a, K, V>> for Held {
     ghost has_first = { HasFirst-entries deref };
 }
 
-/// A non-empty iterator over the values of an [`NEBTreeMap`], in ascending order of their keys. In
-/// contracts it is the list of the values.
-pub type Values<'a, K, V> = NonEmptyIter<btree_map::Values<'a, K, V>, Held>;
-
-impl<'a, K, V> HeldIterator<btree_map::Values<'a, K, V>> for Held {
-    ghost item_view = { view_by (deref {X = V}) };
-
-    ghost items_left = { length };
-
-    ghost known = { KnownByReference 63 (deref {X = V}) };
-
-    ghost has_first = { HasFirst-entries deref };
-}
-
 /// A non-empty iterator over the keys of an [`NEBTreeMap`] by value, in ascending order. In
 /// contracts it is the list of the keys.
 pub type IntoKeys<K, V> = NonEmptyIter<btree_map::IntoKeys<K, V>, Held>;
@@ -210,16 +196,18 @@ impl<K: Drop, V: Drop> HeldIterator<btree_map::IntoKeys<K, V>> for Held {
     ghost has_first = { HasFirst-entries (λ x. x) };
 }
 
-/// A non-empty iterator over the values of an [`NEBTreeMap`] by value, in ascending order of their
-/// keys. In contracts it is the list of the values.
-pub type IntoValues<K, V> = NonEmptyIter<btree_map::IntoValues<K, V>, Held>;
+/// A non-empty iterator over the values of an [`NEBTreeMap`], in ascending order of their keys. In
+/// contracts it is the list of the values.
+pub type Values<'a, K, V> = NonEmptyIter<btree_map::Values<'a, K, V>, Held>;
 
-impl<K: Drop, V: Drop> HeldIterator<btree_map::IntoValues<K, V>> for Held {
+impl<'a, K, V> HeldIterator<btree_map::Values<'a, K, V>> for Held {
+    ghost item_view = { view_by (deref {X = V}) };
+
     ghost items_left = { length };
 
-    ghost known = { KnownByValue };
+    ghost known = { KnownByReference 63 (deref {X = V}) };
 
-    ghost has_first = { HasFirst-entries (λ x. x) };
+    ghost has_first = { HasFirst-entries deref };
 }
 
 /// A non-empty iterator over mutable references to the values of an [`NEBTreeMap`], in ascending
@@ -249,4 +237,16 @@ impl<'a, K, V> IntoIterator for ValuesMut<'a, K, V> {
     fn into_iter(self) -> btree_map::ValuesMut<'a, K, V> {
         self.inner
     }
+}
+
+/// A non-empty iterator over the values of an [`NEBTreeMap`] by value, in ascending order of their
+/// keys. In contracts it is the list of the values.
+pub type IntoValues<K, V> = NonEmptyIter<btree_map::IntoValues<K, V>, Held>;
+
+impl<K: Drop, V: Drop> HeldIterator<btree_map::IntoValues<K, V>> for Held {
+    ghost items_left = { length };
+
+    ghost known = { KnownByValue };
+
+    ghost has_first = { HasFirst-entries (λ x. x) };
 }

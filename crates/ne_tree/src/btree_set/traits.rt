@@ -61,19 +61,6 @@ impl<T: Ord> Eq for NEBTreeSet<T> {
     ghost laws = { on_equiv (λ s. s.keys) (lists_equiv T.Eq.laws) };
 }
 
-/// Collects items into a set that holds each of them once. The items are in ascending order.
-impl<T: Ord + Drop> FromNonEmptyIterator<T> for NEBTreeSet<T> {
-    ghost collected = { λ xs s. IsSetOf T.eq xs s.keys };
-
-    fn from_nonempty_iter<I: IntoNonEmptyIterator<Item = T>>(
-        alloc: Global,
-        iter: I,
-    ) -> Result<NEBTreeSet<T>, AllocError> {
-        let inner: BTreeSet<T> = BTreeSet::from_nonempty_iter(alloc, iter)?;
-        Ok(NEBTreeSet { inner })
-    }
-}
-
 /// Returns the inner `BTreeSet` unchanged. Its type no longer guarantees an item.
 impl<T: Ord> From<NEBTreeSet<T>> for BTreeSet<T> {
     ghost from_gives = { λ s t. (t ≡ s) × IsValid T.cmp t };
@@ -81,13 +68,6 @@ impl<T: Ord> From<NEBTreeSet<T>> for BTreeSet<T> {
     fn from(s: NEBTreeSet<T>) -> BTreeSet<T> {
         let NEBTreeSet { inner } = s;
         inner
-    }
-}
-
-/// Prints as std prints a set: `{1, 2}`.
-impl<T: Ord + Debug> Debug for NEBTreeSet<T> {
-    fn fmt<W: fmt::Write>(&self, f: &mut fmt::Formatter<W>) -> fmt::Result {
-        self.inner.fmt(f)
     }
 }
 
@@ -114,6 +94,26 @@ impl<T: Ord + Clone> Clone for NEBTreeSet<T> {
 
     fn clone(&self) -> Result<NEBTreeSet<T>, AllocError> {
         NEBTreeSet::clone(self)
+    }
+}
+
+/// Collects items into a set that holds each of them once. The items are in ascending order.
+impl<T: Ord + Drop> FromNonEmptyIterator<T> for NEBTreeSet<T> {
+    ghost collected = { λ xs s. IsSetOf T.eq xs s.keys };
+
+    fn from_nonempty_iter<I: IntoNonEmptyIterator<Item = T>>(
+        alloc: Global,
+        iter: I,
+    ) -> Result<NEBTreeSet<T>, AllocError> {
+        let inner: BTreeSet<T> = BTreeSet::from_nonempty_iter(alloc, iter)?;
+        Ok(NEBTreeSet { inner })
+    }
+}
+
+/// Prints as std prints a set: `{1, 2}`.
+impl<T: Ord + Debug> Debug for NEBTreeSet<T> {
+    fn fmt<W: fmt::Write>(&self, f: &mut fmt::Formatter<W>) -> fmt::Result {
+        self.inner.fmt(f)
     }
 }
 
