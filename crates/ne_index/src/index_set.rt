@@ -633,9 +633,9 @@ impl<T: Eq + Hash, S: BuildHasher> NEIndexSet<T, S> {
     pub fn union<'a>(&'a self, other: &'a NEIndexSet<T, S>) -> Union<'a, T, S>
         ensures items { result ≡ union T.eq self.now other.now }
         ensures members { IsUnion T.eq self.now other.now result }
+        ensures unique { IsDistinct T.eq result }
         // As the source of a chain, it yields these items.
         ensures lists { ListsUnion result (union T.eq self.now other.now) }
-        ensures unique { IsDistinct T.eq result }
     {
         NonEmptyIter::new(self.inner.union(&other.inner))
     }

@@ -526,9 +526,9 @@ impl<T: Ord> NEBTreeSet<T> {
     pub fn union<'a>(&'a self, other: &'a NEBTreeSet<T>) -> Union<'a, T>
         ensures items { result ≡ union T.cmp self.now other.now }
         ensures members { IsUnion T.cmp self.now other.now result }
+        ensures ordered { IsStrictlySortedBy T.cmp result }
         // As the source of a chain, it yields these items.
         ensures lists { ListsUnion result (union T.cmp self.now other.now) }
-        ensures ordered { IsStrictlySortedBy T.cmp result }
     {
         NonEmptyIter::new(self.inner.union(&other.inner))
     }
