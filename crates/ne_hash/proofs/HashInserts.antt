@@ -4,7 +4,7 @@ use Rattle.std.proofs.Common.{Bool, List, [], ◌∷◌, ◌++◌, Some, true}
 use Rattle.std.specs.Cmp.{IsEquivalence}
 use Rattle.std.specs.HashMap.{HashMap, InsertsAll, IsUnique, Updates}
 use Rattle.std.specs.HashSet.{HashSet, IsUnique as AreUnique}
-use Rattle.ne_iter.specs.Collected.{IsMapOf, IsSetOf}
+use Rattle.ne_iter.specs.Collected.{IsMapOfPairs, IsSetOf}
 use Rattle.ne_iter.specs.CollectedLaws.{map_of-inserts, map_of-more, nonempty-inserts}
 use Rattle.ne_iter.specs.CollectedLaws.{set_of-inserts, set_of-more, nonempty_set-inserts}
 use Rattle.ne_hash.specs.ValidHashMap.{IsValid}
@@ -13,7 +13,7 @@ use Rattle.ne_hash.specs.ValidHashSet.{IsValid as AreValid}
 -- Pairs inserted one after the other.
 module _ {K V S : Type 0} {eq : K → K → Bool} (laws : IsEquivalence eq) (m n : HashMap K V S)
     (xs : List (K × V)) (x : InsertsAll eq m xs n) where
-  pub map_of-inserts_all : IsUnique eq m → IsMapOf eq (m.entries ++ xs) n.entries
+  pub map_of-inserts_all : IsUnique eq m → IsMapOfPairs eq (m.entries ++ xs) n.entries
   map_of-inserts_all u = map_of-inserts laws m.entries n.entries xs x.0 u x.1
 
   pub valid-inserts_all : IsValid eq m → IsValid eq n
@@ -25,8 +25,8 @@ module _ {K V S : Type 0} {eq : K → K → Bool} (laws : IsEquivalence eq) (m n
 module _ {K V S : Type 0} (eq : K → K → Bool) where
   -- The map after one more pair.
   pub map_of-put : IsEquivalence eq → (xs : List (K × V)) (m n : HashMap K V S) (p : K × V)
-      → IsUnique eq n → Updates eq m n p.0 (Some p.1) → IsMapOf eq xs m.entries
-      → IsMapOf eq (xs ++ p ∷ []) n.entries
+      → IsUnique eq n → Updates eq m n p.0 (Some p.1) → IsMapOfPairs eq xs m.entries
+      → IsMapOfPairs eq (xs ++ p ∷ []) n.entries
   map_of-put laws xs m n p u put h = map_of-more laws xs m.entries n.entries p u put.0 h
 
 -- Items inserted one after the other.

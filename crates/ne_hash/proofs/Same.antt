@@ -5,7 +5,7 @@ use Rattle.std.specs.HashMap.{HashMap, get, hash_map_eq}
 use Rattle.std.specs.HashMap.Eq.{get_from_hash_map_eq, hash_map_eq_from_get}
 use Rattle.std.specs.HashSet.{HashSet, hash_set_eq, IsSameSet}
 use Rattle.std.specs.HashSet.Eq.{hash_set_eq_decides}
-use Rattle.ne_iter.specs.SameMap.{IsSameMap}
+use Rattle.ne_iter.specs.Keyed.SameMap.{IsSameMap}
 
 pub maps_equal_iff_same : {K V S : Type 0} {eq : K → K → Bool} (laws : IsEquivalence eq)
     (of_values : V → V → Bool) (m n : HashMap K V S) (r : Bool) → r ≡ hash_map_eq eq of_values m n

@@ -4,7 +4,7 @@ ghost use Rattle.std.specs.Prelude.{◌≡◌, ◌↔◌, List, Option, Some, Ma
 ghost use Rattle.std.specs.HashMap.{HashMap as Entries, IsEmpty as HasNoEntry, get};
 ghost use Rattle.std.specs.HashSet.{HashSet as Keys, IsEmpty as HasNoKey, IsSameSet};
 ghost use Rattle.ne_vec.specs.declared.Error.{Error};
-ghost use Rattle.ne_iter.specs.SameMap.{IsSameMap};
+ghost use Rattle.ne_iter.specs.Keyed.SameMap.{IsSameMap};
 
 use crate::{NEMap, NESet};
 use ne_iter::{FromNonEmptyIterator, Singleton};

@@ -24,18 +24,18 @@ ghost use Rattle.std.specs.Set.{remove_key};
 ghost use Rattle.ne_vec.specs.Lists.{itself};
 ghost use Rattle.ne_vec.specs.Taken.{RemovesFoundUnlessLast, TakesFoundUnlessLast};
 ghost use Rattle.ne_iter.specs.Collected.{IsSetOf};
-ghost use Rattle.ne_iter.specs.ExtendLists.{ExtendsByList};
-ghost use Rattle.ne_iter.specs.KeyIterators.{ListsEntries, ListsUnion};
+ghost use Rattle.ne_iter.specs.Keyed.Extends.{ExtendsByList};
+ghost use Rattle.ne_iter.specs.Keyed.Iterators.{ListsEntries, ListsUnion};
 ghost use Rattle.ne_iter.specs.SourceLists.{MeetsList};
-ghost use Rattle.ne_iter.specs.KeyClones.{KeepsItems};
-ghost use Rattle.ne_iter.specs.KeptEntries.{either_way};
+ghost use Rattle.ne_iter.specs.Keyed.Clones.{KeepsItems};
+ghost use Rattle.ne_iter.specs.Keyed.KeptEntries.{either_way};
 ghost use Rattle.ne_hash.specs.ValidHashSet.{IsValid};
 
 mod iter;
 mod traits;
 
 pub use iter::{Held, IntoIter, Iter, Union};
-use ne_iter::iter::{NonEmptyIter, Source};
+use ne_iter::iter::{ItemSource, NonEmptyIter};
 use std::alloc::{AllocError, Global};
 use std::collections::{HashSet, hash_set};
 use std::hash::{BuildHasher, BuildHasherDefault, FoldHasher, Hash};
@@ -577,7 +577,7 @@ impl<T: Eq + Hash, S: BuildHasher> NESet<T, S> {
             (λ old items new. IsSetOf T.eq (old.keys ++ items) new.keys)
             iter self.old self.new result }
         // The same at `Ok`, by the list of the source.
-        ensures lists { OnOk result (ExtendsByList (⟦<I as Source>⟧.lists itself)
+        ensures lists { OnOk result (ExtendsByList (⟦<I as ItemSource>⟧.lists itself)
             (MeetsList I.into_iter_gives I.IntoIter.next_gives itself) iter self.old.keys
             (λ all. IsSetOf T.eq all self.new.keys)) }
         ensures valid { IsValid T.eq self.new }

@@ -11,10 +11,10 @@ use Rattle.std.specs.Set.{is_member}
 use Rattle.indexmap.specs.IndexMap.{IndexMap, Extends, IsFromIterResult, IsUnique, Updates}
 use Rattle.indexmap.specs.IndexMap.{index_map_len, insert_all}
 use Rattle.indexmap.specs.IndexSet.{IndexSet, index_set_len}
-use Rattle.ne_iter.specs.Collected.{last_value, IsMapOf}
+use Rattle.ne_iter.specs.Collected.{last_value, IsMapOfPairs}
 use Rattle.ne_iter.specs.CollectedLaws.{map_of-inserts, map_of-more, option_or-none}
 use Rattle.ne_iter.specs.CollectedLaws.{update_all-last_value, set_of-inserts, set_of-more}
-use Rattle.ne_iter.specs.KeyList.{key_list, IsKeyListMapOf}
+use Rattle.ne_iter.specs.Keyed.KeyList.{key_list, IsKeyListMapOf}
 use Rattle.ne_index.specs.KeyListSets.{IsKeyListSetOf}
 use Rattle.ne_index.specs.Puts.{put_item}
 use Rattle.ne_index.specs.ValidIndexMap.{IsValid}
@@ -36,7 +36,7 @@ some_key eq (x ∷ xs) some = omega arith
 
 module _ {K V : Type 0} {eq : K → K → Bool} (laws : IsEquivalence eq) where
   -- The keys of a map of pairs are the keys of the pairs.
-  same_keys : (pairs es : List (K × V)) → IsMapOf eq pairs es
+  same_keys : (pairs es : List (K × V)) → IsMapOfPairs eq pairs es
       → (q : K) → is_member eq (keys_of es) q ≡ is_member eq (keys_of pairs) q
   same_keys pairs es h q = sym (is_some-lookup (eq q) es)
       ∙ ap is_some (h.1 q ∙ sym (option_or-none (last_value eq pairs q))

@@ -9,7 +9,7 @@ use Rattle.std.specs.Set.{is_member}
 use Rattle.indexmap.specs.IndexSet.{insert_all, insert_key}
 use Rattle.ne_iter.specs.Collected.{IsSetOf}
 use Rattle.ne_iter.specs.CollectedLaws.{first_seen-distinct}
-use Rattle.ne_iter.specs.KeyList.{first_seen, key_list}
+use Rattle.ne_iter.specs.Keyed.KeyList.{first_seen, key_list}
 use Rattle.ne_index.specs.Puts.{put_item}
 use Rattle.ne_index.proofs.Put.{put_item-insert}
 

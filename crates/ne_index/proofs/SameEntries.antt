@@ -5,7 +5,7 @@ use Rattle.std.proofs.lemmas.Map.Keys.{IsDistinct-head, IsDistinct-tail}
 use Rattle.std.specs.Cmp.{IsEquivalence}
 use Rattle.std.specs.List.{AllByRecursion, IsDistinct}
 use Rattle.std.specs.Map.{keys_of, lookup}
-use Rattle.ne_iter.specs.KeyList.{IsKeyListMapOf}
+use Rattle.ne_iter.specs.Keyed.KeyList.{IsKeyListMapOf}
 
 module _ {K V : Type 0} {eq : K → K → Bool} (laws : IsEquivalence eq) where
   -- A key that no entry has is not found.

@@ -20,10 +20,10 @@ ghost use Rattle.indexmap.specs.IndexMap.{get, get_key, hasher_of, index_map_len
 ghost use Rattle.indexmap.specs.IndexMap.{spare, values, with_value_at, IsEmpty, IsReordered};
 ghost use Rattle.indexmap.specs.IndexMap.{IsUnchanged, IsClone, Updates};
 ghost use Rattle.ne_vec.specs.Lists.{itself};
-ghost use Rattle.ne_iter.specs.ExtendLists.{ExtendsByList};
-ghost use Rattle.ne_iter.specs.KeyClones.{KeepsEntries};
-ghost use Rattle.ne_iter.specs.KeyList.{IsKeyListMapOf};
-ghost use Rattle.ne_iter.specs.KeyIterators.{ListsEntries};
+ghost use Rattle.ne_iter.specs.Keyed.Extends.{ExtendsByList};
+ghost use Rattle.ne_iter.specs.Keyed.Clones.{KeepsEntries};
+ghost use Rattle.ne_iter.specs.Keyed.KeyList.{IsKeyListMapOf};
+ghost use Rattle.ne_iter.specs.Keyed.Iterators.{ListsEntries};
 ghost use Rattle.ne_iter.specs.SourceLists.{MeetsList};
 ghost use Rattle.ne_index.specs.IndexLends.{LendsValue, LendsInserted, LendsValueAt};
 ghost use Rattle.ne_index.specs.Puts.{put_entry, put_item};
@@ -35,7 +35,7 @@ mod traits;
 
 use indexmap::{IndexMap, map};
 pub use iter::{Held, IntoIter, Iter, Keys, Values};
-use ne_iter::iter::{NonEmptyIter, Source};
+use ne_iter::iter::{ItemSource, NonEmptyIter};
 use std::alloc::{AllocError, Global};
 use std::hash::{BuildHasher, BuildHasherDefault, FoldHasher, Hash};
 use std::marker::Model;
@@ -571,7 +571,7 @@ impl<K: Eq + Hash, V, S: BuildHasher> NEIndexMap<K, V, S> {
             × (hasher_of new ≡ hasher_of old))
             iter self.old self.new result }
         // The same at `Ok`, by the list of the source.
-        ensures lists { OnOk result (ExtendsByList (⟦<I as Source>⟧.lists itself)
+        ensures lists { OnOk result (ExtendsByList (⟦<I as ItemSource>⟧.lists itself)
             (MeetsList I.into_iter_gives I.IntoIter.next_gives itself) iter self.old.entries
             (λ all. IsKeyListMapOf K.eq all self.new.entries)) }
         ensures hasher { hasher_of self.new ≡ hasher_of self.old }

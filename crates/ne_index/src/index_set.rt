@@ -22,11 +22,11 @@ ghost use Rattle.indexmap.specs.IndexSet.{IsDifference, IsDisjoint, IsEmpty, IsI
 ghost use Rattle.indexmap.specs.IndexSet.{IsSubset, IsUnchanged, IsUnion, IsClone, Updates};
 ghost use Rattle.ne_vec.specs.Lists.{itself};
 ghost use Rattle.ne_vec.specs.Taken.{RemovesFoundUnlessLast, TakesFoundUnlessLast, TakesUnlessLast};
-ghost use Rattle.ne_iter.specs.ExtendLists.{ExtendsByList};
-ghost use Rattle.ne_iter.specs.KeyIterators.{ListsEntries, ListsUnion};
-ghost use Rattle.ne_iter.specs.KeyClones.{KeepsItems};
+ghost use Rattle.ne_iter.specs.Keyed.Extends.{ExtendsByList};
+ghost use Rattle.ne_iter.specs.Keyed.Iterators.{ListsEntries, ListsUnion};
+ghost use Rattle.ne_iter.specs.Keyed.Clones.{KeepsItems};
 ghost use Rattle.ne_iter.specs.SourceLists.{MeetsList};
-ghost use Rattle.ne_iter.specs.KeptEntries.{either_way};
+ghost use Rattle.ne_iter.specs.Keyed.KeptEntries.{either_way};
 ghost use Rattle.ne_index.specs.KeyListSets.{IsKeyListSetOf};
 ghost use Rattle.ne_index.specs.Puts.{put_in_place, put_item};
 ghost use Rattle.ne_index.specs.ValidIndexSet.{IsValid};
@@ -36,7 +36,7 @@ mod traits;
 
 use indexmap::{IndexSet, set};
 pub use iter::{Held, IntoIter, Iter, Union};
-use ne_iter::iter::{NonEmptyIter, Source};
+use ne_iter::iter::{ItemSource, NonEmptyIter};
 use std::alloc::{AllocError, Global};
 use std::hash::{BuildHasher, BuildHasherDefault, FoldHasher, Hash};
 use std::marker::Model;
@@ -661,7 +661,7 @@ impl<T: Eq + Hash, S: BuildHasher> NEIndexSet<T, S> {
             × (hasher_of new ≡ hasher_of old))
             iter self.old self.new result }
         // The same at `Ok`, by the list of the source.
-        ensures lists { OnOk result (ExtendsByList (⟦<I as Source>⟧.lists itself)
+        ensures lists { OnOk result (ExtendsByList (⟦<I as ItemSource>⟧.lists itself)
             (MeetsList I.into_iter_gives I.IntoIter.next_gives itself) iter self.old.keys
             (λ all. IsKeyListSetOf T.eq all self.new.keys)) }
         ensures hasher { hasher_of self.new ≡ hasher_of self.old }

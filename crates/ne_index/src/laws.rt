@@ -5,8 +5,8 @@ ghost use Rattle.ne_vec.specs.declared.Error.{Error};
 ghost use Rattle.indexmap.specs.IndexMap.{IndexMap as Entries, IsEmpty as HasNoEntry, get};
 ghost use Rattle.indexmap.specs.IndexSet.{IndexSet as Keys, IsEmpty as HasNoKey, IsSameSet};
 ghost use Rattle.ne_iter.specs.Collected.{IsSetOf};
-ghost use Rattle.ne_iter.specs.KeyList.{first_seen, key_list};
-ghost use Rattle.ne_iter.specs.SameMap.{IsSameMap};
+ghost use Rattle.ne_iter.specs.Keyed.KeyList.{first_seen, key_list};
+ghost use Rattle.ne_iter.specs.Keyed.SameMap.{IsSameMap};
 
 use crate::{NEIndexMap, NEIndexSet};
 use indexmap::{IndexMap, IndexSet};

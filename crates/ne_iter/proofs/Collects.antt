@@ -18,7 +18,7 @@ use Rattle.std.specs.Map.{keys_of, lookup, update_all}
 use Rattle.std.specs.Ordering.{eq_by_cmp}
 use Rattle.std.specs.Set.{is_member}
 use Rattle.std.specs.declared.cmp.Ordering.{Ordering}
-use Rattle.ne_iter.specs.Collected.{last_value, IsMapOf, IsSetOf}
+use Rattle.ne_iter.specs.Collected.{last_value, IsMapOfPairs, IsSetOf}
 use Rattle.ne_iter.specs.CollectedLaws.{option_or-none, some_member, update_all-last_value}
 use mathlib.Core.Path.{fun_ext}
 
@@ -33,7 +33,7 @@ module _ {K : Type 0} {eq : K → K → Bool} (laws : IsEquivalence eq) where
   module _ {X : Type 0} where
     module _ (ps es : List (K × X)) (made : (q : K)
         → lookup (eq q) es ≡ update_all eq (λ _. None) ps q) where
-      map_of-inserts : IsDistinct eq (keys_of es) → IsMapOf eq ps es
+      map_of-inserts : IsDistinct eq (keys_of es) → IsMapOfPairs eq ps es
       map_of-inserts d = (
         d,
         λ q. made q ∙ update_all-last_value laws (λ _. None) ps q
@@ -50,7 +50,7 @@ module _ {K : Type 0} {eq : K → K → Bool} (laws : IsEquivalence eq) where
           subst (λ n. 0 < n) (length-keys_of es) keys
 
   pub hash_map_made : {X S : Type 0} (ps : List (K × X)) (m : HashMap K X S) → 0 < length ps
-      → hash.IsFromIterResult eq ps m → IsMapOf eq ps m.entries × (0 < hash_map_len m)
+      → hash.IsFromIterResult eq ps m → IsMapOfPairs eq ps m.entries × (0 < hash_map_len m)
   hash_map_made ps m some h = (
     map_of-inserts ps m.entries h.0 h.1,
     some_entry ps m.entries h.0 some,
@@ -66,12 +66,12 @@ module _ {K : Type 0} {eq : K → K → Bool} {cmp : K → K → Ordering} (tota
   by_cmp = sym (fun_ext (λ a. fun_ext (λ b. same a b)))
 
   pub tree_map_made : {X : Type 0} (ps : List (K × X)) (m : BTreeMap K X) → 0 < length ps
-      → tree.IsFromIterResult cmp ps m → IsMapOf eq ps m.entries × IsOrdered cmp m
+      → tree.IsFromIterResult cmp ps m → IsMapOfPairs eq ps m.entries × IsOrdered cmp m
       × (0 < btree_map_len m)
   tree_map_made ps m some h =
       let laws = eq_by_cmp_equiv total in
       let is = map_of-inserts laws ps m.entries h.0 (IsDistinct-from_sorted cmp _ h.1) in (
-        subst (λ (e : K → K → Bool). IsMapOf e ps m.entries) by_cmp is,
+        subst (λ (e : K → K → Bool). IsMapOfPairs e ps m.entries) by_cmp is,
         h.1,
         some_entry laws ps m.entries h.0 some,
       )

@@ -5,14 +5,16 @@ use Rattle.std.proofs.Common.{subst, ◌∙◌}
 use Rattle.std.proofs.lemmas.List.{map-append, append-nil}
 use Rattle.std.specs.Borrow.{Bor}
 use Rattle.std.specs.Fn.{Mut}
-use Rattle.std.specs.Iterator.{ActsAsAt, Drains}
+use Rattle.std.specs.Iterator.{ActsAsAt}
 use Rattle.std.specs.List.{AllByRecursion}
 use Rattle.ne_vec.specs.Divisions.{concat, IsRun, IsDivision, by_first}
 use Rattle.ne_iter.specs.Calls.{CallsEachAt}
 use Rattle.ne_iter.specs.Keys.{items_of, same_key, DividesByKey}
 use Rattle.ne_iter.specs.GroupingRuns.{IsOver, StandsAt, HasRead}
 use Rattle.ne_iter.specs.GroupingLaws.{nil_mapped}
-use Rattle.ne_iter.specs.Grouping.{Grouping, Ahead, Unread, Held, Ended}
+use Rattle.ne_iter.specs.declared.iter.group_by.State.{State}
+use Rattle.ne_iter.specs.declared.iter.group_by.State.TheVariants.{Unread, Held, Ended}
+use Rattle.ne_iter.specs.Grouping.{Grouping}
 
 joined_mapped : {A B : Type 0} (f : A → B) (rs : List (List A))
     → concat (map (map f) rs) ≡ map f (concat rs)
@@ -40,15 +42,6 @@ no_run_is_empty eq ps rs d = subst (AllByRecursion (λ r. r ≢ [])) (sym d.2)
 
 module _ {S K A F : Type 0} (steps : S → Option A → S → Type 0) (calls : Mut F (Bor A × Unit {0}) K)
     (eq : K → K → Bool) (s : S) (f : F) where
-  pub all_drained : (rs : List (List A)) (g : Grouping S K A F) → HasRead steps calls eq s f rs g
-      → IsOver g
-      → (ps : List (A × K)) × Drains steps s (items_of ps) × CallsEachAt calls f ps g.closure
-      × DividesByKey eq ps rs
-  all_drained rs g read over =
-      let stands : StandsAt steps calls eq Ended s read.drawn g.source read.runs = subst
-      (λ a. StandsAt steps calls eq a s read.drawn g.source read.runs) over read.stands in
-      (read.drawn, (g.source, stands.0), read.called, (read.runs, stands.1, read.returned))
-
   module _ (unique : (xs : List (A × K)) (rs others : List (List (A × K)))
       → IsDivision (by_first (same_key eq)) xs rs → IsDivision (by_first (same_key eq)) xs others
       → rs ≡ others)
@@ -57,7 +50,7 @@ module _ {S K A F : Type 0} (steps : S → Option A → S → Type 0) (calls : M
       → IsDivision (by_first (same_key eq)) (xs ++ more) all → (rest : List (List (A × K)))
       × (all ≡ rs ++ rest)) where
     -- whatever items follow those taken, the runs returned are the first runs
-    are_first : (a : Ahead K A) (t : S) (drawn : List (A × K)) (runs : List (List (A × K)))
+    are_first : (a : State K A) (t : S) (drawn : List (A × K)) (runs : List (List (A × K)))
         (more : List (A × K)) (all : List (List (A × K))) → StandsAt steps calls eq a s drawn t runs
         → (a ≡ Ended → more ≡ []) → IsDivision (by_first (same_key eq)) (drawn ++ more) all
         → (rest : List (List (A × K))) × (all ≡ runs ++ rest)
@@ -74,7 +67,7 @@ module _ {S K A F : Type 0} (steps : S → Option A → S → Type 0) (calls : M
         → (IsOver g → more ≡ [])
         → DividesByKey eq (read.drawn ++ more) all → (rest : List (List A)) × (all ≡ rs ++ rest)
     first_runs rs g read more all none d =
-        let m = are_first g.ahead g.source read.drawn read.runs more d.0 read.stands none d.1 in (
+        let m = are_first g.state g.source read.drawn read.runs more d.0 read.stands none d.1 in (
           map items_of m.0,
           d.2 ∙ (ap (map items_of) m.1
               ∙ (map-append items_of read.runs m.0

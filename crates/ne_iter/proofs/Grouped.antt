@@ -16,7 +16,9 @@ use Rattle.ne_iter.specs.Keys.{items_of, same_key, DividesByKey, IsDividedBy}
 use Rattle.ne_iter.specs.GroupingRuns.{IsOver, StandsAt, HasRead, GivesRun, GroupsRuns, ReturnsThen}
 use Rattle.ne_iter.specs.GroupingRuns.{ReturnsOn}
 use Rattle.ne_iter.specs.GroupingLaws.{fresh_grouping, nil_mapped}
-use Rattle.ne_iter.specs.Grouping.{Grouping, Ahead, Unread, Held, Ended}
+use Rattle.ne_iter.specs.declared.iter.group_by.State.{State}
+use Rattle.ne_iter.specs.declared.iter.group_by.State.TheVariants.{Unread, Held, Ended}
+use Rattle.ne_iter.specs.Grouping.{Grouping}
 use Rattle.ne_iter.specs.Sources.{Reads}
 use Rattle.ne_iter.proofs.Groupings.{division_of_none, held_is_not_over, unread_is_not_over}
 
@@ -136,7 +138,7 @@ module _ {S K A F : Type 0} (steps : S → Option A → S → Type 0)
 
   module _ {U : Type 0} (becomes : U → S → Type 0) (source : U) (s : S) (made : becomes source s)
       (f : F) where
-    has_runs : (a : Ahead K A) (whole : Bool) (rs : List (List A)) (drawn : List (A × K))
+    has_runs : (a : State K A) (whole : Bool) (rs : List (List A)) (drawn : List (A × K))
         (runs : List (List (A × K))) (g : F) (t : S) → StandsAt steps key_calls eq a s drawn t runs
         → rs ≡ map items_of runs → CallsEachAt key_calls f drawn g → (whole ≡ true → a ≡ Ended)
         → HasRuns (Reads becomes steps) key_calls eq whole source f rs
@@ -195,7 +197,7 @@ module _ {S K A F : Type 0} (steps : S → Option A → S → Type 0)
     read_has_runs : (whole : Bool) (rs : List (List A)) (h : Grouping S K A F)
         → HasRead steps key_calls eq s f rs h → (whole ≡ true → IsOver h)
         → HasRuns (Reads becomes steps) key_calls eq whole source f rs
-    read_has_runs whole rs h read over = has_runs h.ahead whole rs read.drawn read.runs h.closure
+    read_has_runs whole rs h read over = has_runs h.state whole rs read.drawn read.runs h.closure
         h.source read.stands read.returned read.called over
 
     -- the runs that were returned, if the calls ended, and before an `Err`
@@ -220,13 +222,13 @@ module _ {S K A F : Type 0} (steps : S → Option A → S → Type 0)
     )
 
   -- a grouping that `into_iter` makes has returned no run
-  pub begun : (it : Grouping S K A F) (f : F) → it.closure ≡ f → it.ahead ≡ Unread
+  pub begun : (it : Grouping S K A F) (f : F) → it.closure ≡ f → it.state ≡ Unread
       → HasRead steps key_calls eq it.source f [] it
   begun it f same unread = subst (λ q. HasRead steps key_calls eq it.source q [] it) same
       (fresh_grouping steps key_calls eq it unread)
 
   -- the runs returned to the end are the runs by a function, if the closure acts as the function
-  pub runs_grouped : (g : Grouping S K A F) → g.ahead ≡ Unread
+  pub runs_grouped : (g : Grouping S K A F) → g.state ≡ Unread
       → ((eq : K → K → Bool) (h : A → K) (ps : List (A × K)) (rs : List (List A)) (f : F)
       → ActsAsAt key_calls g.closure h → CallsEachAt key_calls g.closure ps f
       → DividesByKey eq ps rs

@@ -11,7 +11,9 @@ use Rattle.ne_vec.specs.Divisions.{IsDivision, by_first}
 use Rattle.ne_iter.specs.Calls.{CallsEachAt}
 use Rattle.ne_iter.specs.Keys.{items_of, same_key}
 use Rattle.ne_iter.specs.GroupingRuns.{StandsAt, HasRead}
-use Rattle.ne_iter.specs.Grouping.{Grouping, Ahead, Unread, Held, Ended}
+use Rattle.ne_iter.specs.declared.iter.group_by.State.{State}
+use Rattle.ne_iter.specs.declared.iter.group_by.State.TheVariants.{Unread, Held, Ended}
+use Rattle.ne_iter.specs.Grouping.{Grouping}
 
 one_more_is_some : {A : Type 0} (xs : List A) (y : A) → xs ++ y ∷ [] ≢ []
 one_more_is_some [] y = λ e. cc
@@ -52,7 +54,7 @@ module _ {S K A F : Type 0} (steps : S → Option A → S → Type 0) (calls : M
 
   module _ (s : S) (f : F) (rs : List (List A)) where
     pub open_first : (g : Grouping S K A F) (x : A) (k : K) (t : S) (f' : F)
-        → HasRead steps calls eq s f rs g → g.ahead ≡ Unread
+        → HasRead steps calls eq s f rs g → g.state ≡ Unread
         → steps g.source (Some x) t → CalledAt calls g.closure x k f'
         → OpenRun s f rs t f' k (x ∷ [])
     open_first g x k t f' h e step call =
@@ -73,7 +75,7 @@ module _ {S K A F : Type 0} (steps : S → Option A → S → Type 0) (calls : M
         }
 
     pub open_held : (g : Grouping S K A F) (x : A) (k : K) → HasRead steps calls eq s f rs g
-        → g.ahead ≡ Held k x → OpenRun s f rs g.source g.closure k (x ∷ [])
+        → g.state ≡ Held k x → OpenRun s f rs g.source g.closure k (x ∷ [])
     open_held g x k h e =
         let stands : StandsAt steps calls eq (Held k x) s h.drawn g.source h.runs = subst
         (λ a. StandsAt steps calls eq a s h.drawn g.source h.runs) e h.stands in
@@ -133,7 +135,7 @@ module _ {S K A F : Type 0} (steps : S → Option A → S → Type 0) (calls : M
         → IsDivision (by_first (same_key eq)) (xs ++ p ∷ [])
         ((runs ++ last ∷ []) ++ (p ∷ []) ∷ []))
         → OpenRun s f rs t g k run → steps t (Some x) h.source → CalledAt calls g x k' h.closure
-        → eq k k' ≡ false → h.ahead ≡ Held k' x → HasRead steps calls eq s f (rs ++ run ∷ []) h
+        → eq k k' ≡ false → h.state ≡ Held k' x → HasRead steps calls eq s f (rs ++ run ∷ []) h
     close_held t g k run x k' h breaks o step call other e = record {
       drawn = o.drawn ++ (x, k') ∷ [];
       runs = o.runs ++ ((o.first, k) ∷ o.later) ∷ [];
@@ -149,7 +151,7 @@ module _ {S K A F : Type 0} (steps : S → Option A → S → Type 0) (calls : M
     }
 
     pub close_end : (t : S) (g : F) (k : K) (run : List A) (h : Grouping S K A F)
-        → OpenRun s f rs t g k run → steps t None h.source → g ≡ h.closure → h.ahead ≡ Ended
+        → OpenRun s f rs t g k run → steps t None h.source → g ≡ h.closure → h.state ≡ Ended
         → HasRead steps calls eq s f (rs ++ run ∷ []) h
     close_end t g k run h o step same e = record {
       drawn = o.drawn;
@@ -160,8 +162,8 @@ module _ {S K A F : Type 0} (steps : S → Option A → S → Type 0) (calls : M
           (o.runs ++ ((o.first, k) ∷ o.later) ∷ [])) (sym e) ((t, o.came, step), o.division);
     }
 
-pub held_is_not_over : {K A : Type 0} {k : K} {x : A} {a : Ahead K A} → a ≡ Held k x → a ≡ Ended → ⊥
+pub held_is_not_over : {K A : Type 0} {k : K} {x : A} {a : State K A} → a ≡ Held k x → a ≡ Ended → ⊥
 held_is_not_over e o = let p = sym e ∙ o in cc
 
-pub unread_is_not_over : {K A : Type 0} {a : Ahead K A} → a ≡ Unread → a ≡ Ended → ⊥
+pub unread_is_not_over : {K A : Type 0} {a : State K A} → a ≡ Unread → a ≡ Ended → ⊥
 unread_is_not_over e o = let p = sym e ∙ o in cc

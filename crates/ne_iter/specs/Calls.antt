@@ -32,8 +32,8 @@ ReturnsEachAt calls y f xs g = FoldsTo (λ p x q. CalledAt calls p x y q) f xs g
 abbrev pub Folds : {F A B : Type 0} → Mut F (B × (A × Unit {0})) B → F → B → List A → B → F → Type 0
 Folds {F = F} {B = B} calls f init xs r g = FoldsTo {P = F × B} (FoldTurn calls) (f, init) xs (g, r)
 
--- The state is s at the first call, at each later call what the call before left, and t at the end.
--- f, called with the items of xs and a `&mut` to a state, may return ys, and is then g.
+-- f, called with the items of xs and a `&mut` to a state, may return ys, and is then g. The state
+-- is s at the first call, at each later call what the call before left, and t at the end.
 abbrev pub CallsWithState : {F S A B : Type 0}
     → Mut F (MutBor S × (A × Unit {0})) (B × (MutBor S × Unit {0}))
     → F → S → List A → List B → F → S → Type 0
@@ -43,8 +43,7 @@ CallsWithState calls f s (x ∷ xs) [] g t = ⊥
 CallsWithState {F} {S} calls f s (x ∷ xs) (y ∷ ys) g t =
     (h : F) × (u : S) × CalledWithState calls f s x y h u × CallsWithState calls h u xs ys g t
 
--- No call of f changes f.
--- Each call of f with the state s and x returns out s x and leaves the state next s x.
+-- Each call of f with the state s and x returns out s x, leaves the state next s x, and keeps f.
 abbrev pub ActsAsWithState : {F S A B : Type 0}
     → Mut F (MutBor S × (A × Unit {0})) (B × (MutBor S × Unit {0}))
     → F → (S → A → S) → (S → A → B) → Type 0

@@ -30,8 +30,8 @@ module _ {U A : Type 0} (reads : Bool → U → List A → Type 0) where
     pub read_other : others whole other other_items
     pub is : zs ≡ items ++ other_items
 
--- `others` is the clause on the list of the second source; `meets` serves if there is no clause.
--- `chain` yields the items of xs, followed by those of a second source.
+-- `chain` yields the items of xs, followed by those of a second source. `others` is the clause on
+-- the list of the second source; `meets` serves if there is no clause.
 abbrev pub ChainsLists : {W A : Type 0} → (W → List A → Type 0) → (W → List A → Type 0) → W
     → List A → (List A → Type 0) → Type 0
 ChainsLists {A = A} others meets w xs gives = EachList others w (λ ys. gives (xs ++ ys))

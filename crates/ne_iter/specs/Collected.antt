@@ -12,10 +12,9 @@ module _ {K : Type 0} (eq : K → K → Bool) where
   abbrev pub last_value : {V : Type 0} → List (K × V) → K → Option V
   last_value pairs q = lookup (eq q) (reverse pairs)
 
-  -- Each key of the pairs has one entry, with the value of the last pair whose key equals it.
-  -- The entries are the map of the pairs.
-  abbrev pub IsMapOf : {V : Type 0} → List (K × V) → List (K × V) → Type 0
-  IsMapOf pairs entries = IsDistinct eq (keys_of entries)
+  -- The entries are the map of the pairs: each key once, with the value of its last pair.
+  abbrev pub IsMapOfPairs : {V : Type 0} → List (K × V) → List (K × V) → Type 0
+  IsMapOfPairs pairs entries = IsDistinct eq (keys_of entries)
       × ((q : K) → lookup (eq q) entries ≡ last_value pairs q)
 
   -- The keys are the set of the items: each item is there once, and nothing else is.
@@ -34,8 +33,8 @@ module _ {T V : Type 0} (collected : List T → V → Type 0) (is_complete : V �
   PrefixMakes items v = MatchBool (is_complete v) (collected items v)
       ((prefix : List T) × (more : List T) × (items ≡ prefix ++ more) × collected prefix v)
 
-  -- An `Err` is the last item, so it is the first `Err` of each list that begins with the items.
-  -- The result is `Ok` of the value made if each item is `Ok`, and otherwise the first `Err`.
+  -- The result is `Ok` of the value made if each item is `Ok`, and otherwise the first `Err`, which
+  -- is the last item, and so the first `Err` of each list that begins with the items.
   abbrev pub ResultsMake : {E : Type 0} → List (Result T E) → Result V E → Type 0
   ResultsMake {E} items result = MatchResult result
       (λ v. (values : List T) × (items ≡ map Ok values)

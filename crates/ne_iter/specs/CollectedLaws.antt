@@ -14,8 +14,8 @@ use Rattle.std.specs.List.{IsDistinct, AllByRecursion, list_any}
 use Rattle.std.specs.Map.{keys_of, lookup, update, update_all}
 use Rattle.std.specs.Option.{option_or}
 use Rattle.std.specs.Set.{is_member}
-use Rattle.ne_iter.specs.Collected.{last_value, IsMapOf, IsSetOf}
-use Rattle.ne_iter.specs.KeyList.{first_seen}
+use Rattle.ne_iter.specs.Collected.{last_value, IsMapOfPairs, IsSetOf}
+use Rattle.ne_iter.specs.Keyed.KeyList.{first_seen}
 use Rattle.ne_iter.specs.SourceLaws.{some_item}
 use Rattle.ne_iter.specs.Sources.{IsNonEmpty, Reads, SameLists}
 use mathlib.Core.Path.{fun_ext}
@@ -100,7 +100,7 @@ module _ {K V : Type 0} {eq : K → K → Bool} (laws : IsEquivalence eq) where
 module _ {K V : Type 0} {eq : K → K → Bool} (laws : IsEquivalence eq) (es fs ps : List (K × V))
     (made : (q : K) → lookup (eq q) fs ≡ update_all eq (λ k. lookup (eq k) es) ps q) where
   pub map_of-inserts : IsDistinct eq (keys_of es) → IsDistinct eq (keys_of fs)
-      → IsMapOf eq (es ++ ps) fs
+      → IsMapOfPairs eq (es ++ ps) fs
   map_of-inserts d e = (e, λ q. made q ∙ last_value-extended laws es ps q d)
 
   pub nonempty-inserts : 0 < length es → 0 < length fs
@@ -154,9 +154,9 @@ module _ {K : Type 0} (eq : K → K → Bool) where
   IsDistinct-one k = (tt, tt)
 
   pub map_of-one : {V : Type 0} (p : K × V) (es : List (K × V)) → es ≡ p ∷ []
-      → IsMapOf eq (p ∷ []) es × (0 < length es)
+      → IsMapOfPairs eq (p ∷ []) es × (0 < length es)
   map_of-one p es is = (
-    subst (IsMapOf eq (p ∷ [])) (sym is) (IsDistinct-one p.0, λ q. refl),
+    subst (IsMapOfPairs eq (p ∷ [])) (sym is) (IsDistinct-one p.0, λ q. refl),
     subst (λ l. 0 < length l) (sym is) (omega arith),
   )
 
@@ -184,7 +184,7 @@ module _ {K : Type 0} {eq : K → K → Bool} (laws : IsEquivalence eq) where
   pub map_of-more : {V : Type 0} (ps es fs : List (K × V)) (p : K × V)
       → IsDistinct eq (keys_of fs)
       → ((q : K) → lookup (eq q) fs ≡ cond (eq p.0 q) (Some p.1) (lookup (eq q) es))
-      → IsMapOf eq ps es → IsMapOf eq (ps ++ p ∷ []) fs
+      → IsMapOfPairs eq ps es → IsMapOfPairs eq (ps ++ p ∷ []) fs
   map_of-more ps es fs p d put h = (
     d,
     λ q. put q ∙ ap (λ b. cond b (Some p.1) (lookup (eq q) es)) (laws.symm p.0 q)

@@ -18,8 +18,7 @@ abbrev pub less_by : {A : Type 0} → (A → A → Ordering) → A → A → Boo
 less_by cmp x y = is_lt (cmp x y)
 
 module _ {A : Type 0} (less : A → A → Bool) where
-  -- m is less than no item of xs, and each item before m is less than m.
-  -- m is the first greatest item of xs.
+  -- m is the first greatest item of xs: it is less than no item, and each before it is less than m.
   abbrev pub IsFirstGreatest : List A → A → Type 0
   IsFirstGreatest xs m = (place : ℕ) × IsFirstBest (λ x y. less y x) xs (length xs) place
       × (slice_get xs place ≡ Some m)
@@ -36,8 +35,8 @@ module _ {A : Type 0} where
   CallableOnTwo {S} steps calls it f = (xs : List A) (t : S) (x y : Bor A) → Yields steps it xs t
       → Contains xs x.now → Contains xs y.now → calls.pre f (x, (y, tt))
 
-  -- `kept` is the item kept so far, and x the next one. f is called with both, through `view`.
-  -- `next`, the item kept of the two, is x if f returns true, and otherwise `kept`.
+  -- Of the item kept so far and the next one, x, `next` is kept: it is x if f, called with both
+  -- through `view`, returns true, and otherwise `kept`.
   abbrev pub KeepsBetter : {V F : Type 0} → (A → V) → Shared F (Bor V × (Bor V × Unit {0})) Bool
       → F → A → A → A → Type 0
   KeepsBetter view calls f kept x next = (better : Bool)
@@ -45,30 +44,29 @@ module _ {A : Type 0} where
 
 module _ {A F : Type 0} (calls : Shared F (Bor A × (Bor A × Unit {0})) Ordering) (f : F)
     (view : View A) (xs : List view.Target) where
-  -- `meant` is `is_lt` for `Less` or `is_gt` for `Greater`. xs has x and y, through `view`.
-  -- The result of f for any two items x and y is `meant` if and only if `test` is true of the two.
+  -- The result of f for two items of xs, through `view`, is `meant` if and only if `test` is true
+  -- of the two. `meant` is `is_lt` for `Less` or `is_gt` for `Greater`.
   abbrev pub ReturnsOnlyWhere : (Ordering → Bool) → (view.Target → view.Target → Bool) → Type 0
   ReturnsOnlyWhere meant test = (x y : A) (r : Ordering) → Contains xs (view.of x)
       → Contains xs (view.of y) → FnReturnsAtPair calls f x y r
       → meant r ≡ test (view.of x) (view.of y)
 
-  -- m, through `view`, is an item of xs.
-  -- `max_by`: m is the first greatest item if f returns `Less` exactly as a total preorder does.
+  -- `max_by`: m, through `view`, is an item of xs, and the first greatest one if f returns `Less`
+  -- exactly as a total preorder does.
   abbrev pub PicksGreatest : A → Type 0
   PicksGreatest m = Contains xs (view.of m) × ((less : view.Target → view.Target → Bool)
       → IsStrictWeakOrder less → ReturnsOnlyWhere is_lt less
       → IsFirstGreatest less xs (view.of m))
 
-  -- m, through `view`, is an item of xs.
-  -- `min_by`: m is the first least item if f returns `Greater` exactly as a total preorder does.
+  -- `min_by`: m, through `view`, is an item of xs, and the first least one if f returns `Greater`
+  -- exactly as a total preorder does.
   abbrev pub PicksLeast : A → Type 0
   PicksLeast m = Contains xs (view.of m) × ((less : view.Target → view.Target → Bool)
       → IsStrictWeakOrder less → ReturnsOnlyWhere is_gt (λ x y. less y x)
       → IsFirstLeast less xs (view.of m))
 
--- For `max_by_key` and `min_by_key`: f was called with the items in order, and each item has the
--- key that f returned for it.
--- `best` says that the result, with its key, is the best of all items that the source yielded.
+-- The result, with its key, is the best of all items that the source yielded, as `best` says. f was
+-- called with the items in order, and each has the key that f returned for it.
 pub record PicksByKey {U A K F : Type 0} (reads : Bool → U → List A → Type 0)
     (calls : Mut F (Bor A × Unit {0}) K) (source : U) (f : F) (result : A)
     (best : List (A × K) → A × K → Type 0) : Type 0 where
@@ -96,21 +94,20 @@ module _ {U A K F : Type 0} (reads : Bool → U → List A → Type 0)
 abbrev pub HoldsBefore : {A : Type 0} → List A → A → (List A → Type 0) → Type 0
 HoldsBefore xs m P = (place : ℕ) × (slice_get xs place ≡ Some m) × P (take place xs)
 
--- m is an item of xs, no item beats m, and m beats each item before it.
--- For the automatic proof: m is the first best item of xs.
+-- For the automatic proof: m is in xs, no item beats m, and m beats each item before it.
 abbrev pub IsBestOfList : {A : Type 0} → (A → A → Bool) → List A → A → Type 0
 IsBestOfList beats xs m = Contains xs m × All (λ x. beats x m ≡ false) xs
     × HoldsBefore xs m (All (λ x. beats m x ≡ true))
 
 module _ {A K F : Type 0} (calls : Mut F (Bor A × Unit {0}) K) (f : F) (view : View A) (m : A) where
-  -- If f acts as a function h of the items through `view`, the values of h are the keys.
-  -- R relates the key of m to the key of each item of xs.
+  -- R relates the key of m to the key of each item of xs, if f acts as a function of items through
+  -- `view`, whose values are the keys.
   abbrev pub RelatesKeys : (K → K → Type 0) → List view.Target → Type 0
   RelatesKeys R xs = (h : view.Target → K) → ActsAsAt calls f (λ x. h (view.of x))
       → Naming (map h xs) (All (R (h (view.of m))))
 
-  -- m, through `view`, is in xs. No item's key beats the key of m, which beats each key before it.
-  -- m, through `view`, is the first item of xs with the best key.
+  -- m, through `view`, is the first item of xs with the best key: no key beats its key, which beats
+  -- each key before it.
   abbrev pub HasBestKey : (K → K → Bool) → List view.Target → Type 0
   HasBestKey beats xs = Contains xs (view.of m) × RelatesKeys (λ best k. beats k best ≡ false) xs
       × HoldsBefore xs (view.of m) (RelatesKeys (λ best k. beats best k ≡ true))
@@ -121,8 +118,8 @@ abbrev pub NoKeyBeats : {S A K F : Type 0} {steps : S → Option A → S → Typ
 NoKeyBeats {K = K} p calls f beats m = CallKeepsClosure calls f → (k : K) × CalledAt calls f m k f
     × AllItems p (λ x. (j : K) × CalledAt calls f x j f × (beats j k ≡ false))
 
--- The run yields m, no item beats m, and each list that equals the items of the run contains m.
--- For the automatic proof: m is the best item of the run p.
+-- For the automatic proof: the run p yields m, no item beats m, and each list that equals the items
+-- of p contains m.
 abbrev pub IsBestOfRun : {S A : Type 0} {steps : S → Option A → S → Type 0} → Run steps
     → (A → A → Bool) → A → Type 0
 IsBestOfRun {A = A} p beats m = AnyItem p (λ x. x ≡ m) × AllItems p (λ x. beats x m ≡ false)

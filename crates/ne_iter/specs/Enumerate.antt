@@ -16,8 +16,8 @@ abbrev pub IsEnumerated : {U A : Type 0} → (Bool → U → List A → Type 0) 
 IsEnumerated {A = A} reads source whole ys = (xs : List A) × reads whole source xs
     × (ys ≡ enumerate_from 0 xs)
 
--- `CountsAs` spares `grind` the list of pairs of an adapter that numbers the items of xs.
 -- For the automatic proof: a run from v is at most as long as xs, and as long as xs if it is whole.
+-- So `grind` needs no list of pairs of an adapter that numbers the items of xs.
 abbrev pub CountsAs : {V T A B : Type 0} → (V → T → Type 0) → (T → Option B → T → Type 0) → V
     → List A → Type 0
 CountsAs {T = T} becomes steps v xs = (it : T) → becomes v it → EachRunFrom steps it (λ p.

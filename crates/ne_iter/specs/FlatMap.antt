@@ -41,8 +41,8 @@ abbrev pub ReturnsLists : {A W B F : Type 0} → Mut F (A × Unit {0}) W → F
 ReturnsLists {A} {W} {F = F} calls f lists inner =
     (x : A) (w : W) (g : F) → Called calls f (x, tt) w g → (g ≡ f) × lists w (inner x)
 
--- `becomes w ys` says that w, a value returned by f, becomes a source that yields the list ys.
--- `flat_map` yields the lists of the sources that f returns, one after another.
+-- `flat_map` yields the lists of the sources that f returns, one after another. `becomes w ys` says
+-- that w, a value returned by f, becomes a source that yields the list ys.
 abbrev pub SpreadsLists : {U A W B V F : Type 0} → Mut F (A × Unit {0}) W → F
     → (U → List A → Type 0) → (W → List B → Type 0) → (V → List B → Type 0) → U → V → Type 0
 SpreadsLists {A = A} {B = B} calls f lists becomes gives u v = EachList lists u (λ xs.

@@ -27,8 +27,8 @@ ReadsEach reads whole (u ∷ us) (ys ∷ yss) = reads (whole || ltb 0 (length us
     × ReadsEach reads whole us yss
 
 module _ {U A : Type 0} (reads : Bool → U → List A → Type 0) where
-  -- Each item of the source is itself a source, and `inner` states the lists that it may yield.
-  -- zs are the lists of the source's items, one after the other.
+  -- zs are the lists of the source's items, one after the other. Each item is itself a source, and
+  -- `inner` states the lists that it may yield.
   pub record IsFlattened {B : Type 0} (inner : Bool → A → List B → Type 0) (source : U)
       (whole : Bool) (zs : List B) : Type 0 where
     pub sources : List A

@@ -23,9 +23,8 @@ and_held rs (Some x) = rs ++ (x ∷ []) ∷ []
 
 module _ {U A K F : Type 0} (reads : Bool → U → List A → Type 0)
     (calls : Mut F (Bor A × Unit {0}) K) (eq : K → K → Bool) where
-  -- f was called for the items in order, and returned their keys. If `whole` is true, the source
-  -- has ended.
-  -- The items taken from the source are divided by their keys into the runs rs and a held item.
+  -- The items taken from the source are divided by their keys into the runs rs and a held item. f
+  -- was called for each in order, and returned its key. If `whole` is true, the source has ended.
   pub record HasRuns (whole : Bool) (source : U) (f : F) (rs : List (List A)) : Type 0 where
     pub drawn : List (A × K)
     pub closure : F
@@ -38,8 +37,8 @@ module _ {U A K F : Type 0} (reads : Bool → U → List A → Type 0)
     pub holds : MatchOption held ((ended ≡ true) ⊎ (drawn ≡ [])) (λ _. rs ≢ [])
     pub over : whole ≡ true → (ended ≡ true) × (held ≡ None)
 
-  -- An `Err` may be yielded in place of a run. Nothing is yielded after the `Err`.
-  -- `group_by` yields the runs of the source's items by the keys that f returned, each in `Ok`.
+  -- `group_by` yields the runs of the source's items by the keys that f returned, each in `Ok`. An
+  -- `Err` may be yielded in place of a run, and nothing after it.
   abbrev pub GroupByGives : {V E : Type 0} → (Bool → V → List (Result (List A) E) → Type 0) → U → F
       → V → Type 0
   GroupByGives {E = E} grouped source f result

@@ -7,7 +7,8 @@ use Rattle.std.specs.Iterator.{Yields}
 use Rattle.ne_vec.specs.Divisions.{concat}
 use Rattle.ne_iter.specs.Keys.{items_of}
 use Rattle.ne_iter.specs.GroupingRuns.{IsOver, StandsAt, HasRead, GivesRun}
-use Rattle.ne_iter.specs.Grouping.{Grouping, Unread, Ended}
+use Rattle.ne_iter.specs.Grouping.{Grouping}
+use Rattle.ne_iter.specs.declared.iter.group_by.State.TheVariants.{Unread, Ended}
 use Rattle.ne_iter.specs.Sources.{HasFirst}
 
 pub nil_mapped : {A B : Type 0} (f : A → B) (xs : List A) → [] ≡ map f xs → xs ≡ []
@@ -17,7 +18,7 @@ nil_mapped f (x ∷ xs) e = cc
 module _ {S K A F : Type 0} (steps : S → Option A → S → Type 0) (calls : Mut F (Bor A × Unit {0}) K)
     (eq : K → K → Bool) where
   -- a grouping that has taken nothing has returned no runs
-  pub fresh_grouping : (g : Grouping S K A F) → g.ahead ≡ Unread
+  pub fresh_grouping : (g : Grouping S K A F) → g.state ≡ Unread
       → HasRead steps calls eq g.source g.closure [] g
   fresh_grouping g e = record {
     drawn = [];
@@ -40,7 +41,7 @@ module _ {S K A F : Type 0} (steps : S → Option A → S → Type 0) (calls : M
       in
       (h.source, subst (λ q. steps q None h.source) (sym begun) ended.0.2)
 
-  pub HasFirst-grouped : (g : Grouping S K A F) → g.ahead ≡ Unread → HasFirst steps g.source
+  pub HasFirst-grouped : (g : Grouping S K A F) → g.state ≡ Unread → HasFirst steps g.source
       → HasFirst (GivesRun steps calls eq) g
   HasFirst-grouped g unread has t step =
       let end = over_at_once g.source g.closure t

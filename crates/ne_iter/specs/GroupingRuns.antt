@@ -11,32 +11,37 @@ use Rattle.ne_vec.specs.Divisions.{IsDivision, by_first}
 use Rattle.ne_vec.specs.Lists.{Naming}
 use Rattle.ne_iter.specs.Calls.{CallsEachAt}
 use Rattle.ne_iter.specs.Keys.{items_of, same_key, IsDividedBy}
-use Rattle.ne_iter.specs.Grouping.{Grouping, Ahead, Unread, Held, Ended}
+use Rattle.ne_iter.specs.declared.iter.group_by.State.{State}
+use Rattle.ne_iter.specs.declared.iter.group_by.State.TheVariants.{Unread, Held, Ended}
+use Rattle.ne_iter.specs.Grouping.{Grouping}
+
+-- The grouping g has read nothing.
+abbrev pub IsUnread : {S K A F : Type 0} → Grouping S K A F → Type 0
+IsUnread g = g.state ≡ Unread
 
 -- The grouping g returns `None` from now on.
 abbrev pub IsOver : {S K A F : Type 0} → Grouping S K A F → Type 0
-IsOver g = g.ahead ≡ Ended
+IsOver g = g.state ≡ Ended
 
 module _ {S K A F : Type 0} (steps : S → Option A → S → Type 0) (calls : Mut F (Bor A × Unit {0}) K)
     (eq : K → K → Bool) where
-  -- If nothing was taken, there are no runs. If an item is held, the runs and one of only this item
-  -- are the division of the items. If the source has ended, the runs are the division of the items.
-  -- The items taken, each with its key, took the source from s to t.
-  abbrev pub StandsAt : Ahead K A → S → List (A × K) → S → List (List (A × K)) → Type 0
+  -- The items taken, each with its key, took the source from s to t, and are divided into the runs
+  -- and, if an item is held, one of only this item. If nothing was taken, there are no runs.
+  abbrev pub StandsAt : State K A → S → List (A × K) → S → List (List (A × K)) → Type 0
   StandsAt Unread s drawn t runs = (drawn ≡ []) × (runs ≡ []) × (s ≡ t)
   StandsAt (Held k x) s drawn t runs = (runs ≢ []) × Yields steps s (items_of drawn) t
       × IsDivision (by_first (same_key eq)) drawn (runs ++ ((x, k) ∷ []) ∷ [])
   StandsAt Ended s drawn t runs = YieldsThen steps s (items_of drawn) None t
       × IsDivision (by_first (same_key eq)) drawn runs
 
-  -- The closure was called for each item taken, once and in order, and returned the keys.
   -- A grouping that began with the source s and the closure f returned the runs rs, and is now g.
+  -- The closure was called for each item taken, once and in order, and returned the keys.
   pub record HasRead (s : S) (f : F) (rs : List (List A)) (g : Grouping S K A F) : Type 0 where
     pub drawn : List (A × K)
     pub runs : List (List (A × K))
     pub returned : rs ≡ map items_of runs
     pub called : CallsEachAt calls f drawn g.closure
-    pub stands : StandsAt g.ahead s drawn g.source runs
+    pub stands : StandsAt g.state s drawn g.source runs
 
   -- One call of `next` returns r, and takes the grouping from g to h.
   pub record GivesRun (g : Grouping S K A F) (r : Option (Result (List A) AllocError))
@@ -49,9 +54,8 @@ module _ {S K A F : Type 0} (steps : S → Option A → S → Type 0) (calls : M
     pub reads : (s : S) (f : F) (rs : List (List A)) → HasRead s f rs g
         → MatchOption r (HasRead s f rs h) (λ x. IfOk x (λ run. HasRead s f (rs ++ run ∷ []) h))
 
-  -- The results after rs are none, or begin with `None`, or begin with an `Err`, before which the
-  -- grouping was k. After `None` and after an `Err`, each result is `None`.
-  -- A grouping returned the runs rs, and then results other than runs, and is now h.
+  -- A grouping returned the runs rs, and then no result, or `None`, or an `Err`, before which it
+  -- was k, and is now h. After `None` and after an `Err`, each result is `None`.
   abbrev pub ReturnsThen : S → F → List (List A) → List (Option (Result (List A) AllocError))
       → Grouping S K A F → Type 0
   ReturnsThen s f rs [] h = HasRead s f rs h
@@ -70,26 +74,26 @@ module _ {S K A F : Type 0} (steps : S → Option A → S → Type 0) (calls : M
     pub are_all : results ≡ map (λ run. Some (Ok run)) runs ++ later
     pub ended : ReturnsThen s f (done ++ runs) later h
 
--- Unless g is over, its source can be read and ends, and its closure can be called with each item.
--- The grouping g can be read.
+-- The grouping g can be read: unless it is over, its source can, and ends, and its closure can be
+-- called with each item.
 abbrev pub CanRead : {S K A F : Type 0} → (S → Type 0) → (S → Count) → (S → F → Type 0)
     → Grouping S K A F → Type 0
 CanRead can left callable g =
     (IsOver g → ⊥) → can g.source × IsFinite (left g.source) × callable g.source g.closure
 
--- A grouping has at most as many runs left as items ahead.
--- The number of items ahead: those that the source has left, and the one that is held.
-abbrev pub items_ahead : {K A : Type 0} → Ahead K A → ℕ → ℕ
+-- The number of items ahead, those that the source has left and the one that is held: a grouping
+-- has at most as many runs left.
+abbrev pub items_ahead : {K A : Type 0} → State K A → ℕ → ℕ
 items_ahead Unread left = left
 items_ahead (Held k x) left = left + 1
 items_ahead Ended left = 0
 
 -- A bound on how many runs are left: one for each item that is left, and one for an item held.
 abbrev pub runs_left : {S K A F : Type 0} → (S → Count) → Grouping S K A F → Count
-runs_left left g = at_most (items_ahead g.ahead (size (left g.source)))
+runs_left left g = at_most (items_ahead g.state (size (left g.source)))
 
--- If g, which has read nothing, yields runs to its end, each in `Ok`, its source ends too.
--- If the closure acts as a function h, g yields the runs of its source's items by h.
+-- A grouping g that has read nothing yields the runs of its source's items by h, if its closure
+-- acts as a function h. If g yields runs to its end, each in `Ok`, its source ends too.
 abbrev pub GroupsRuns : {S K A F : Type 0} → (S → Option A → S → Type 0)
     → Mut F (Bor A × Unit {0}) K → (K → K → Bool) → Grouping S K A F → Type 0
 GroupsRuns {K = K} {A = A} steps calls eq g = EachRunFrom (GivesRun steps calls eq) g (λ p.

@@ -29,8 +29,8 @@ intersperse_rest s = s.rest
 abbrev pub intersperse_separator : {S X : Type 0} → Intersperse S X → X
 intersperse_separator s = s.separator
 
--- `clones` holds for each result of cloning the separator. zs end at the first clone that failed.
--- zs are the items xs, each in `Ok`, with a result of cloning the separator between each two.
+-- zs are the items xs, each in `Ok`, with a result of cloning the separator, of which `clones`
+-- holds, between each two. They end at the first clone that failed.
 abbrev pub Interspersed : {A E : Type 0} → (Result A E → Type 0) → List A → List (Result A E)
     → Type 0
 Interspersed clones [] zs = zs ≡ []
@@ -44,14 +44,13 @@ Interspersed {A} {E} clones (x ∷ y ∷ xs) zs = (c : Result A E) × (more : Li
 abbrev pub interspersed : {A : Type 0} → A → List A → List A
 interspersed s xs = join_by (λ x. x ∷ []) (s ∷ []) xs
 
--- f makes a list of each item of xs and of each s between two items. If f gives the bytes of texts,
--- these lists, one after the other, are the text that std's `join` makes of the items.
--- For the automatic proof: the lists of the items with separators are std's `join` of the items.
+-- For the automatic proof: the lists that f makes of the items and of the separators, one after the
+-- other, are std's `join` of the items, for an f that gives the bytes of texts.
 abbrev pub JoinsLists : {A : Type 0} → A → List A → Type 0
 JoinsLists {A} s xs = (f : A → List ℕ) → flat_map f (interspersed s xs) ≡ join_by f (f s) xs
 
--- If `map Ok values` equals `map Ok (interspersed s xs)`, `values` equals `interspersed s xs`.
--- For the automatic proof: xs with s between each two items, each in `Ok`, has only its values.
+-- For the automatic proof: if `map Ok values` equals `map Ok (interspersed s xs)`, `values` equals
+-- `interspersed s xs`.
 abbrev pub OnlyItsValues : {A : Type 0} → Type 0 → A → List A → Type 0
 OnlyItsValues {A} E s xs = (values : List A)
     → map {B = Result A E} Ok (interspersed s xs) ≡ map Ok values
@@ -80,9 +79,8 @@ interspersed_left left s = count_unless (is_over s)
 
 module _ {S A E : Type 0} (steps : S → Option A → S → Type 0) (tries : A → Result A E → Type 0)
   where
-    -- `DrawsNext` is a call when no item is held. If there is no next item, the result is `None`.
-    -- Otherwise the next item is held after the call, unless the clone failed.
-    -- The next item is taken, and the result is that of cloning the separator.
+    -- A call when no item is held: the next item is taken, and held unless the clone of the
+    -- separator failed. The result is that of the clone, or `None` if there is no next item.
     abbrev pub DrawsNext : RawIntersperse S A → Option (Result A E) → RawIntersperse S A → Type 0
     DrawsNext s r t = (o : Option A) × steps (drawn_from s) o (drawn_from t)
         × MatchOption o ((r ≡ None) × (in_hand t ≡ None) × (is_over t ≡ false))
@@ -98,18 +96,17 @@ module _ {S A E : Type 0} (steps : S → Option A → S → Type 0) (tries : A �
       pub in_hand_then : in_hand t ≡ None
       pub is_on : is_over t ≡ false
 
-    -- After a failed clone, the call returns `None`. If no item is held, the call is `DrawsNext`.
-    -- One call of `next` returns the item that is held, or the result of cloning the separator.
+    -- One call of `next` returns the item that is held, or, if none is, what `DrawsNext` says.
+    -- After a failed clone it returns `None`.
     abbrev pub InterspersesNext : RawIntersperse S A → Option (Result A E) → RawIntersperse S A
         → Type 0
     InterspersesNext s r t = (clones_of t ≡ clones_of s)
         × MatchBool (is_over s) ((r ≡ None) × (t ≡ s))
         (MatchOption (in_hand s) (DrawsNext s r t) (GivesHeld s r t))
 
--- If clones of the separator s equal it and cannot fail, a whole run yields x and the items of
--- `rest`, with s between each two, each in `Ok`. If the items of the run equal some values, each in
--- `Ok`, then these values are that list.
--- Each run of `it` has a run of `rest`, whose items are yielded after x.
+-- Each run of `it` has a run of `rest`, whose items are yielded after x. If clones of the separator
+-- s equal it and cannot fail, a whole run yields x and those items, with s between each two, each
+-- in `Ok`, and no other list of values, each in `Ok`, equals its items.
 abbrev pub IntersperseRuns : {S A : Type 0} → (S → Option A → S → Type 0) → (A → A → Type 0)
     → (A → Type 0) → A → A → S → RawIntersperse S A → Type 0
 IntersperseRuns {S} {A} steps clones infallible s x rest it =
@@ -122,9 +119,9 @@ IntersperseRuns {S} {A} steps clones infallible s x rest it =
     (λ _. values ≡ interspersed s (x ∷ q.items)))))
 
 module _ {U A : Type 0} (reads : Bool → U → List A → Type 0) where
-  -- zs are a prefix of the interspersed items, and all of them if `whole` is true. The source has
-  -- then ended too, unless a clone failed.
-  -- zs are the items, each in `Ok`, with a result of cloning the separator between each two.
+  -- zs are the items, each in `Ok`, with a result of cloning the separator between each two: a
+  -- prefix of them, and all if `whole` is true. The source has then ended too, unless a clone
+  -- failed.
   pub record IsInterspersed {E : Type 0} (tries : A → Result A E → Type 0) (source : U)
       (separator : A) (whole : Bool) (zs : List (Result A E)) : Type 0 where
     pub items : List A

@@ -15,8 +15,8 @@ abbrev pub DividesByKey : {A K : Type 0} → (K → K → Bool) → List (A × K
 DividesByKey {A} {K} eq ps rs = (runs : List (List (A × K)))
     × IsDivision (by_first (same_key eq)) ps runs × (rs ≡ map items_of runs)
 
--- A key is compared with that of its run's first item. `grind` does not unfold `IsDividedBy`.
--- rs are the runs of xs by the keys that h gives for the items.
+-- rs are the runs of xs by the keys that h gives for the items, each compared with that of its
+-- run's first item. `grind` does not unfold `IsDividedBy`.
 unfoldable pub IsDividedBy : {A K : Type 0} → (A → K) → (K → K → Bool) → List A → List (List A)
     → Type 0
 IsDividedBy h eq xs rs = IsDivision (by_first (λ x y. eq (h x) (h y))) xs rs

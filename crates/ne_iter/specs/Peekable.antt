@@ -24,8 +24,8 @@ abbrev pub with_head : {A : Type 0} → A → List A → List A
 with_head x [] = []
 with_head x (y ∷ xs) = x ∷ xs
 
--- w is the item last written to the first place, or the first item itself.
--- `peekable` yields the source's items, the first one as it was last written.
+-- `peekable` yields the source's items, with w, the item last written to the first place or the
+-- first item itself, as the first.
 abbrev pub PeekableGives : {U I A : Type 0} → (Bool → U → List A → Type 0)
     → (Bool → Peekable I A → List A → Type 0) → U → Peekable I A → Type 0
 PeekableGives {A = A} reads peeked source result = (w : A) (whole : Bool) (zs : List A)
@@ -37,8 +37,8 @@ abbrev pub PutsFirst : {I A : Type 0} → A → I → Chain (Once A) I → Type 
 PutsFirst x rest it = (once_item (chain_first it) ≡ Some x) × (chain_second it ≡ rest)
     × (chain_first_done it ≡ false) × (chain_second_done it ≡ false)
 
--- The one item of the chain takes the place of the first item of xs.
--- For the automatic proof: a whole run of a chain of one item and `rest` yields xs with that item.
+-- For the automatic proof: a whole run of a chain of one item and `rest` yields xs, with that item
+-- in place of the first.
 abbrev pub YieldsRest : {I A : Type 0} → (I → Option A → I → Type 0) → I → List A → Type 0
 YieldsRest steps rest xs = (p : Run (chain_steps once_steps steps)) → Trigger p.len
     → chain_second p.from ≡ rest → chain_first_done p.from ≡ false

@@ -20,8 +20,8 @@ abbrev pub scan_callee : {I S F : Type 0} → Scan I S F → F
 scan_callee s = s.f
 
 module _ {U A : Type 0} (reads : Bool → U → List A → Type 0) where
-  -- The state is init at the first call. Each later call takes the state that the call before left.
-  -- ys are the results of f, called with the source's items in order and a `&mut` to a state.
+  -- ys are the results of f, called with the source's items in order and a `&mut` to a state: init
+  -- at the first call, and at each later one what the call before left.
   pub record IsScanned {S B F : Type 0}
       (calls : Mut F (MutBor S × (A × Unit {0})) (B × (MutBor S × Unit {0}))) (source : U)
       (init : S) (f : F) (whole : Bool) (ys : List B) : Type 0 where

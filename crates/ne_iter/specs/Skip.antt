@@ -10,8 +10,7 @@ FailsFirst calls f [] = ⊤
 FailsFirst {F} calls f (y ∷ ys) = (g : F) × CalledAt calls f y false g
 
 module _ {U A : Type 0} (reads : Bool → U → List A → Type 0) where
-  -- f is not called after the first item for which it returns false.
-  -- ys are the source's items from the first one for which f returns false.
+  -- ys are the source's items from the first for which f returns false, which is its last call.
   pub record IsSkippedWhile {F : Type 0} (calls : Mut F (Bor A × Unit {0}) Bool) (source : U)
       (f : F) (whole : Bool) (ys : List A) : Type 0 where
     -- the items before the first one for which f returns false

@@ -9,8 +9,7 @@ use Rattle.ne_vec.specs.KeyOrder.{KeysAscend, KeepsTies}
 use Rattle.ne_vec.specs.Lists.{View}
 
 module _ {A K F : Type 0} (calls : Mut F (Bor A × Unit {0}) K) (f : F) where
-  -- `AscendsByKey` is about an f that acts as a function h of the items through `view`.
-  -- The keys that f returns for ys ascend.
+  -- The keys that f returns for ys ascend, if f acts as a function h of the items through `view`.
   abbrev pub AscendsByKey : (K → K → Ordering) → View A → List A → Type 0
   AscendsByKey cmp view ys = (h : view.Target → K) → ActsAsAt calls f (λ x. h (view.of x))
       → KeysAscend h cmp (map view.of ys)

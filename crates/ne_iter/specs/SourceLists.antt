@@ -8,15 +8,15 @@ use Rattle.std.specs.Bool.{OnFalse}
 use Rattle.std.specs.Option.{option_map}
 use Rattle.ne_vec.specs.Lists.{EachList, IsPrefixRunThrough, Lists, View, YieldsPrefixes, itself}
 
--- `MeetsPrefix` has the form of a clause of std's iterators.
--- The items of a run, through `view`, are a prefix of xs, and all of xs if the run is whole.
+-- The items of a run, through `view`, are a prefix of xs, and all of xs if the run is whole. The
+-- form is that of a clause of std's iterators.
 abbrev pub MeetsPrefix : {S A B : Type 0} {steps : S → Option A → S → Type 0} → Run steps → (A → B)
     → List B → Type 0
 MeetsPrefix {B = B} p view xs = (p.len ≤ length xs) × (p.whole ≡ true → p.len ≡ length xs)
     × ((k : ℕ) (d : B) → k < p.len → option_map view (p.at k) ≡ Some (slice_index_or xs k d))
 
--- `MeetsList` is for sources whose list is stated by no clause of this crate, such as a `Vec`.
--- The source yields xs through `view`, according to a clause of its iterator.
+-- The source yields xs through `view`, according to a clause of its iterator. It is for sources
+-- whose list is stated by no clause of this crate, such as a `Vec`.
 abbrev pub MeetsList : {U S A : Type 0} → (U → S → Type 0) → (S → Option A → S → Type 0)
     → (view : View A) → U → List view.Target → Type 0
 MeetsList {S = S} becomes steps view u xs =
@@ -28,8 +28,8 @@ abbrev pub BecomesList : {W V T A : Type 0} → (W → V → Type 0) → (V → 
 BecomesList {V = V} makes becomes steps view w xs =
     (v : V) → makes w v → Lists becomes steps view.of v xs
 
--- The list of a whole run is stated for std's own adapters, which may be called on the iterator.
--- For the automatic proof: the facts about an iterator of std that yields xs through `view`.
+-- For the automatic proof: the facts about an iterator of std that yields xs through `view`. The
+-- list of a whole run is stated for std's own adapters, which may be called on it.
 abbrev pub StdYields : {S A : Type 0} → (S → Option A → S → Type 0) → (view : View A)
     → List view.Target → S → Type 0
 StdYields steps view xs it = EachRunFrom steps it (λ p.

@@ -1,10 +1,10 @@
--- The lists that a source of items may yield, and the two laws of sources.
+-- The lists that a source of items may yield, and the two laws of sources. `becomes` is the
+-- `into_iter_gives` of a source, and `steps` the `next_gives` of its iterator.
 use Rattle.std.specs.Prelude.{◌≡◌, Bool, true, List, Option, Some, None, map, ◌+◌, ◌∷◌}
 use Rattle.std.specs.Iterator.{Count, DrainsIf, MakesProgress}
 use Rattle.std.specs.Iterator.Runs.{EachRunFrom, Run, SomeRun, WholeRun}
 use Rattle.ne_vec.specs.Lists.{IsPrefix}
 
--- `becomes` is the `into_iter_gives` of the source, and `steps` the `next_gives` of its iterator.
 -- The source u may yield the items xs first, in this order. If `whole` is true, u may then end.
 pub record Reads {U S A : Type 0} (becomes : U → S → Type 0) (steps : S → Option A → S → Type 0)
     (whole : Bool) (u : U) (xs : List A) : Type 0 where
@@ -33,8 +33,8 @@ SameLists {U} {V = V} {A = A} becomes steps makes becomes' steps' = (u : U) (who
     → (Reads becomes steps whole u xs → (v : V) × makes u v × Reads becomes' steps' whole v xs)
     × ((v : V) → makes u v → Reads becomes' steps' whole v xs → Reads becomes steps whole u xs)
 
--- `rest` may be called if the iterator could be, and has fewer items left if the iterator ends.
--- The source u becomes an iterator that first yields x, and is then `rest`.
+-- The source u becomes an iterator that first yields x, and is then `rest`, which may be called if
+-- the iterator could be, and has fewer items left if the iterator ends.
 abbrev pub DrawsFirst : {U S A : Type 0} → (U → S → Type 0) → (S → Option A → S → Type 0)
     → (S → Type 0) → (S → Count) → U → A → S → Type 0
 DrawsFirst {S = S} becomes steps can left u x rest = (it : S) × becomes u it
@@ -59,8 +59,7 @@ abbrev pub BeginsRuns : {S A : Type 0} → (S → Option A → S → Type 0) →
 BeginsRuns steps x rest it = EachRunFrom steps rest (λ p.
     SomeRun steps it (λ q. (q.whole ≡ p.whole) × (q.len ≡ p.len + 1) × (q.items ≡ x ∷ p.items)))
 
--- The items that u has yielded so far are a prefix of xs, and at its end all of xs.
--- The source u yields the list xs and no other.
+-- The source u yields the list xs and no other: a prefix of xs so far, and at its end all of xs.
 abbrev pub ReadsList : {U A : Type 0} → (Bool → U → List A → Type 0) → U → List A → Type 0
 ReadsList {A = A} reads u xs = (whole : Bool) (ys : List A) → reads whole u ys
     → IsPrefix whole xs ys

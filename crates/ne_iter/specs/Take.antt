@@ -14,8 +14,7 @@ take_source s = s.iter
 abbrev pub take_count : {I : Type 0} → Take I → ℕ
 take_count s = non_zero_usize_get s.n
 
--- If xs are fewer than n and `whole` is true, the source has ended.
--- xs are the first items of the source, at most n.
+-- xs are the first items of the source, at most n; if fewer and `whole` is true, all of them.
 abbrev pub IsTaken : {U A : Type 0} → (Bool → U → List A → Type 0) → ℕ → U → Bool → List A → Type 0
 IsTaken reads n source whole xs = reads (whole && ltb (length xs) n) source xs × (length xs ≤ n)
 

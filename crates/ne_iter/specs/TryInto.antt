@@ -11,16 +11,16 @@ use Rattle.ne_iter.specs.Sources.{RunsSome, RunsWhole}
 abbrev pub peeked_iterator : {I : Type 0} {looks : Ghosts I} → NonEmptyIterAdapter I looks → I
 peeked_iterator s = s.inner
 
--- If the result is `None`, the source may end at once.
--- A result in `Some` is a source of the source's items, of which there is at least one.
+-- A result in `Some` is a source of the source's items, of which there is at least one. If the
+-- result is `None`, the source may end at once.
 abbrev pub PeeksWhole : {U V A : Type 0} → (Bool → U → List A → Type 0)
     → (Bool → V → List A → Type 0) → U → Option V → Type 0
 PeeksWhole {A = A} reads looked source result = MatchOption result (reads true source [])
     (λ v. ((x : A) × reads false source (x ∷ []))
     × ((whole : Bool) (xs : List A) → looked whole v xs → reads whole source xs))
 
--- If the result is `None`, a run of the source ended at once. Otherwise one yielded an item.
--- Each run of the returned iterator has a run of the source with the same items.
+-- Each run of the returned iterator has a run of the source with the same items, of which one
+-- yields an item. If the result is `None`, a run of the source ended at once.
 abbrev pub PeeksRuns : {U V S T A : Type 0} → (U → S → Type 0) → (S → Option A → S → Type 0)
     → (T → Option A → T → Type 0) → (V → T) → U → Option V → Type 0
 PeeksRuns becomes steps peeked_steps iterator_of source result = MatchOption result

@@ -32,8 +32,8 @@ module _ {U A : Type 0} (reads : Bool → U → List A → Type 0) where
     pub as_many : length items ≡ length other_items
     pub one_ended : whole ≡ true → IsTrue (ended || other_ended)
 
--- The second list is stated for the second source itself, or for the source that it becomes.
--- `zip` yields the pairs of the items of two lists.
+-- `zip` yields the pairs of the items of two lists. The second is stated for the second source
+-- itself, or for the source that it becomes.
 abbrev pub PairsOf : {U W A B : Type 0} → (U → List A → Type 0) → (W → List B → Type 0)
     → (W → List B → Type 0) → U → W → (List (A × B) → Type 0) → Type 0
 PairsOf {A = A} {B = B} lists others becomes u w gives =

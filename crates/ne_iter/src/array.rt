@@ -49,10 +49,7 @@ where
     ghost items = { λ a. a };
 
     fn as_nonempty_slice(&self) -> NESlice<'_, T> {
-        match NESlice::try_from_slice(self) {
-            Some(items) => items,
-            None => unreachable!(),
-        }
+        NESlice::try_from_slice(self).unwrap()
     }
 
     fn nonzero_len(&self) -> NonZeroUsize {
@@ -61,10 +58,7 @@ where
 
     fn into_nonempty_vec(self, alloc: Global) -> Result<NEVec<T>, AllocError> {
         let items = Vec::from_array(alloc, self)?;
-        match NEVec::try_from_vec(items) {
-            Some(v) => Ok(v),
-            None => unreachable!(),
-        }
+        Ok(NEVec::try_from_vec(items).unwrap())
     }
 }
 
@@ -165,10 +159,7 @@ where
         )) };
 
     fn into_nonempty_iter(self) -> slice::Iter<'a, T> {
-        match NESlice::try_from_slice(self) {
-            Some(items) => slice::Iter::from(items),
-            None => unreachable!(),
-        }
+        slice::Iter::from(NESlice::try_from_slice(self).unwrap())
     }
 }
 

@@ -38,7 +38,7 @@ pub use non_empty::NonEmptyIterator;
 pub use one_item::Once;
 pub use peekable::Peekable;
 pub use scan::{Scan, ScanIter};
-pub use sources::{IntoNonEmptyIterator, Source};
+pub use sources::{IntoNonEmptyIterator, ItemSource};
 pub use take::Take;
 pub use try_into::{IntoIteratorExt, NonEmptyIterAdapter, PeeksAhead};
 pub use zip::Zip;
@@ -50,7 +50,7 @@ pub use zip::Zip;
 /// ```
 pub fn once<T: Drop>(value: T) -> Once<T>
     ensures holds { once_item result ≡ value }
-    ensures lists { ⟦<Once<T> as Source>⟧.yields_items result (value ∷ []) }
+    ensures lists { ⟦<Once<T> as ItemSource>⟧.yields_items result (value ∷ []) }
 {
     Once { item: value }
 }

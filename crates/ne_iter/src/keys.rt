@@ -3,7 +3,7 @@
 ghost use Rattle.std.specs.Prelude.{◌<◌, length};
 ghost use Rattle.std.specs.BTreeMap.{IsOrdered};
 ghost use Rattle.std.specs.BTreeSet.{IsOrdered as AreOrdered};
-ghost use Rattle.ne_iter.specs.Collected.{IsMapOf, IsSetOf};
+ghost use Rattle.ne_iter.specs.Collected.{IsMapOfPairs, IsSetOf};
 
 use crate::iter::{FromNonEmptyIterator, IntoNonEmptyIterator, NonEmptyIterator};
 use std::alloc::{AllocError, Global};
@@ -19,7 +19,7 @@ use std::hash::{BuildHasher, Hash};
 /// ```
 impl<K: Eq + Hash + Drop, V: Drop, S: BuildHasher + Default + Drop> FromNonEmptyIterator<(K, V)>
     for HashMap<K, V, S> {
-    ghost collected = { λ xs m. IsMapOf K.eq xs m.entries × (0 < length m.entries) };
+    ghost collected = { λ xs m. IsMapOfPairs K.eq xs m.entries × (0 < length m.entries) };
 
     fn from_nonempty_iter<I: IntoNonEmptyIterator<Item = (K, V)>>(
         alloc: Global,
@@ -37,7 +37,7 @@ impl<K: Eq + Hash + Drop, V: Drop, S: BuildHasher + Default + Drop> FromNonEmpty
 /// let map: BTreeMap<u32, u32> = items.map(|x| (x / 2, x)).collect(alloc)?; // {1: 2, 2: 4}
 /// ```
 impl<K: Ord + Drop, V: Drop> FromNonEmptyIterator<(K, V)> for BTreeMap<K, V> {
-    ghost collected = { λ xs m. IsMapOf K.eq xs m.entries × IsOrdered K.cmp m
+    ghost collected = { λ xs m. IsMapOfPairs K.eq xs m.entries × IsOrdered K.cmp m
         × (0 < length m.entries) };
 
     fn from_nonempty_iter<I: IntoNonEmptyIterator<Item = (K, V)>>(

@@ -15,17 +15,11 @@ impl<T: Drop> FromNonEmptyIterator<T> for NEVec<T> {
         iter: I,
     ) -> Result<NEVec<T>, AllocError> {
         let items: Vec<T> = iter.into_nonempty_iter().into_iter().collect(alloc)?;
-        match NEVec::try_from_vec(items) {
-            Some(v) => Ok(v),
-            None => unreachable!(),
-        }
+        Ok(NEVec::try_from_vec(items).unwrap())
     }
 
     fn from_drained(alloc: Global, items: &mut Vec<T>) -> Result<NEVec<T>, AllocError> {
-        match NEVec::try_from_vec(mem::replace(items, Vec::new(alloc))) {
-            Some(items) => Ok(items),
-            None => unreachable!(),
-        }
+        Ok(NEVec::try_from_vec(mem::replace(items, Vec::new(alloc))).unwrap())
     }
 }
 

@@ -1,8 +1,7 @@
 //! The first runs of a non-empty iterator, and the reader after them.
 ghost use Rattle.std.specs.Prelude.{◌≡◌, ◌<◌, ◌≤◌, IfOk, length};
 ghost use Rattle.std.specs.Iterator.{IsFiniteIterable, CallableOnAllAt};
-ghost use Rattle.nonempty_collections.specs.GroupingRuns.{HasRead, IsOver};
-ghost use Rattle.nonempty_collections.specs.Grouping.{Unread};
+ghost use Rattle.nonempty_collections.specs.GroupingRuns.{HasRead, IsOver, IsUnread};
 
 use nonempty_collections::iter::GroupBy;
 use nonempty_collections::laws::groupings_stand_at_any_moment;
@@ -46,7 +45,7 @@ where
         × HasRead I.IntoIter.next_gives F.FnMut K.eq it key taken.0.items taken.1) }
     ensures count { IfOk result (λ taken. length taken.0.items ≤ k) }
     ensures fewer { IfOk result (λ taken. length taken.0.items < k → IsOver taken.1) }
-    ensures unread { IfOk result (λ taken. k ≡ 0 → taken.1.ahead ≡ Unread) }
+    ensures unread { IfOk result (λ taken. k ≡ 0 → IsUnread taken.1) }
 {
     groupings_stand_at_any_moment::<I::IntoIter, K, F>();
     let mut reader = iter.group_by(alloc, key).into_iter();

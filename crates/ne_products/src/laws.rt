@@ -11,7 +11,7 @@ ghost use Rattle.ne_products.specs.Sides.{MatchSide};
 
 use crate::products::Product;
 use crate::sides::NEEither;
-use ne_iter::iter::Source;
+use ne_iter::iter::ItemSource;
 use ne_iter::{IntoNonEmptyIterator, NonEmptyIterator};
 
 /// `cartesian_product` yields each item of its source with each item of the other, each pair in
@@ -28,27 +28,27 @@ where
     U::Item: Drop,
     <U::IntoNEIter as IntoIterator>::IntoIter: Clone,
     ensures { (product : _) (xs : List S.Item) (ys : List U.Item)
-        → YieldsPairs (⟦<S as Source>⟧.reads)
+        → YieldsPairs (⟦<S as ItemSource>⟧.reads)
         (ClonesAgain U.IntoNEIter.into_iter_gives U.IntoNEIter.IntoIter.remaining
         U.IntoNEIter.IntoIter.is_clone (product_second product))
         (U.IntoNEIter.into_iter_gives (product_second product))
-        (ReadsList (⟦<<U::IntoNEIter as IntoIterator>::IntoIter as Source>⟧.reads))
+        (ReadsList (⟦<<U::IntoNEIter as IntoIterator>::IntoIter as ItemSource>⟧.reads))
         (ClonesYield U.IntoNEIter.into_iter_gives U.IntoNEIter.IntoIter.is_clone
-        (ReadsList (⟦<<U::IntoNEIter as IntoIterator>::IntoIter as Source>⟧.reads))
+        (ReadsList (⟦<<U::IntoNEIter as IntoIterator>::IntoIter as ItemSource>⟧.reads))
         (product_second product))
         S.Item.is_clone S.Item.is_infallible
         (CanRefuse U.IntoNEIter.into_iter_gives U.IntoNEIter.IntoIter.is_infallible
         (product_second product))
-        (⟦<Product<S, U::IntoNEIter> as Source>⟧.reads) source.now product
+        (⟦<Product<S, U::IntoNEIter> as ItemSource>⟧.reads) source.now product
         → U.into_nonempty_iter_gives other.now (product_second product)
         → ClonesAgain U.IntoNEIter.into_iter_gives U.IntoNEIter.IntoIter.remaining
         U.IntoNEIter.IntoIter.is_clone (product_second product)
         → NeverRefuses U.IntoNEIter.into_iter_gives U.IntoNEIter.IntoIter.is_infallible
         (product_second product)
         → HasExactClones S.Item.is_clone S.Item.is_infallible xs
-        → ReadsList (⟦<S as Source>⟧.reads) source.now xs
-        → ReadsList (⟦<U as Source>⟧.reads) other.now ys
-        → ReadsList (⟦<Product<S, U::IntoNEIter> as Source>⟧.reads) product
+        → ReadsList (⟦<S as ItemSource>⟧.reads) source.now xs
+        → ReadsList (⟦<U as ItemSource>⟧.reads) other.now ys
+        → ReadsList (⟦<Product<S, U::IntoNEIter> as ItemSource>⟧.reads) product
         (map Ok (cartesian_product xs ys)) }
 {}
 
@@ -72,11 +72,11 @@ where
     S::Item: Clone + Drop,
     U::Item: Drop,
     U::IntoIter: Clone,
-    ensures { (product : _) → ⟦<S as Source>⟧.ends (product_first product)
-        → ⟦<U as Source>⟧.ends (product_second product)
+    ensures { (product : _) → ⟦<S as ItemSource>⟧.ends (product_first product)
+        → ⟦<U as ItemSource>⟧.ends (product_second product)
         → ClonesAgain U.into_iter_gives U.IntoIter.remaining U.IntoIter.is_clone
         (product_second product)
-        → ⟦<Product<S, U> as Source>⟧.ends product }
+        → ⟦<Product<S, U> as ItemSource>⟧.ends product }
 {}
 
 /// A source that is one of two yields what the source of its side yields, also if a closure with
@@ -84,21 +84,21 @@ where
 pub fn either_gives_its_side<L: NonEmptyIterator, R: NonEmptyIterator<Item = L::Item>>(
     source: &NEEither<L, R>,
 )
-    ensures reads { EachReading (⟦<NEEither<L, R> as Source>⟧.reads) source.now
+    ensures reads { EachReading (⟦<NEEither<L, R> as ItemSource>⟧.reads) source.now
         (λ whole xs. MatchSide source.now
-        (λ s. ⟦<L as Source>⟧.reads whole s xs)
-        (λ t. ⟦<R as Source>⟧.reads whole t xs)) }
+        (λ s. ⟦<L as ItemSource>⟧.reads whole s xs)
+        (λ t. ⟦<R as ItemSource>⟧.reads whole t xs)) }
     ensures lists { MatchSide source.now
-        (λ s. EachList (⟦<L as Source>⟧.lists itself) s
-        (⟦<NEEither<L, R> as Source>⟧.lists itself source.now))
-        (λ t. EachList (⟦<R as Source>⟧.lists itself) t
-        (⟦<NEEither<L, R> as Source>⟧.lists itself source.now)) }
+        (λ s. EachList (⟦<L as ItemSource>⟧.lists itself) s
+        (⟦<NEEither<L, R> as ItemSource>⟧.lists itself source.now))
+        (λ t. EachList (⟦<R as ItemSource>⟧.lists itself) t
+        (⟦<NEEither<L, R> as ItemSource>⟧.lists itself source.now)) }
 {}
 
 /// A source that is one of two ends if the side that is there ends.
 pub fn either_ends<L: NonEmptyIterator, R: NonEmptyIterator<Item = L::Item>>()
-    ensures left { (s : _) → ⟦<L as Source>⟧.ends s
-        → ⟦<NEEither<L, R> as Source>⟧.ends (NEEither.Left s) }
-    ensures right { (t : _) → ⟦<R as Source>⟧.ends t
-        → ⟦<NEEither<L, R> as Source>⟧.ends (NEEither.Right t) }
+    ensures left { (s : _) → ⟦<L as ItemSource>⟧.ends s
+        → ⟦<NEEither<L, R> as ItemSource>⟧.ends (NEEither.Left s) }
+    ensures right { (t : _) → ⟦<R as ItemSource>⟧.ends t
+        → ⟦<NEEither<L, R> as ItemSource>⟧.ends (NEEither.Right t) }
 {}

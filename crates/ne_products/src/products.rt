@@ -12,7 +12,7 @@ ghost use Rattle.ne_products.specs.Restarts.{ClonesAgain, ClonesYield, HasExactC
 ghost use Rattle.ne_products.specs.Restarts.{NeverRefuses, PairsListed, PairsLists, YieldsPairs};
 ghost use Rattle.ne_products.specs.Unique.{ChecksDistinct, ChecksUnique};
 
-use ne_iter::iter::Source;
+use ne_iter::iter::ItemSource;
 use ne_iter::{IntoNonEmptyIterator, NonEmptyIterator};
 use std::alloc::{AllocError, Global};
 use std::collections::HashSet;
@@ -51,25 +51,25 @@ pub trait NonEmptyItertools: NonEmptyIterator {
         <J::IntoNEIter as IntoIterator>::IntoIter: Clone,
         ensures holds { (product_first result ≡ self)
             × J.into_nonempty_iter_gives other (product_second result) }
-        ensures ends { ⟦<Self as Source>⟧.ends self
-            → ⟦<J::IntoNEIter as Source>⟧.ends (product_second result)
+        ensures ends { ⟦<Self as ItemSource>⟧.ends self
+            → ⟦<J::IntoNEIter as ItemSource>⟧.ends (product_second result)
             → ClonesAgain J.IntoNEIter.into_iter_gives J.IntoNEIter.IntoIter.remaining
             J.IntoNEIter.IntoIter.is_clone (product_second result)
-            → ⟦<Product<Self, J::IntoNEIter> as Source>⟧.ends result }
-        ensures gives { YieldsPairs (⟦<Self as Source>⟧.reads)
+            → ⟦<Product<Self, J::IntoNEIter> as ItemSource>⟧.ends result }
+        ensures gives { YieldsPairs (⟦<Self as ItemSource>⟧.reads)
             (ClonesAgain J.IntoNEIter.into_iter_gives J.IntoNEIter.IntoIter.remaining
             J.IntoNEIter.IntoIter.is_clone (product_second result))
             (J.IntoNEIter.into_iter_gives (product_second result))
-            (ReadsList (⟦<<J::IntoNEIter as IntoIterator>::IntoIter as Source>⟧.reads))
+            (ReadsList (⟦<<J::IntoNEIter as IntoIterator>::IntoIter as ItemSource>⟧.reads))
             (ClonesYield J.IntoNEIter.into_iter_gives J.IntoNEIter.IntoIter.is_clone
-            (ReadsList (⟦<<J::IntoNEIter as IntoIterator>::IntoIter as Source>⟧.reads))
+            (ReadsList (⟦<<J::IntoNEIter as IntoIterator>::IntoIter as ItemSource>⟧.reads))
             (product_second result))
             Self.Item.is_clone Self.Item.is_infallible
             (CanRefuse J.IntoNEIter.into_iter_gives J.IntoNEIter.IntoIter.is_infallible
             (product_second result))
-            (⟦<Product<Self, J::IntoNEIter> as Source>⟧.reads) self result }
-        ensures lists { PairsLists (⟦<Self as Source>⟧.lists itself)
-            (⟦<J as Source>⟧.lists itself)
+            (⟦<Product<Self, J::IntoNEIter> as ItemSource>⟧.reads) self result }
+        ensures lists { PairsLists (⟦<Self as ItemSource>⟧.lists itself)
+            (⟦<J as ItemSource>⟧.lists itself)
             (BecomesList J.into_nonempty_iter_gives J.IntoNEIter.into_iter_gives
             J.IntoNEIter.IntoIter.next_gives itself)
             (PairsListed (⟦<Product<Self, J::IntoNEIter> as IntoIterator>⟧.into_iter_gives)
@@ -103,10 +103,10 @@ pub trait NonEmptyItertools: NonEmptyIterator {
     where
         Self: Sized,
         Self::Item: Eq + Hash + Drop,
-        requires { ⟦<Self as Source>⟧.ends self }
+        requires { ⟦<Self as ItemSource>⟧.ends self }
         ensures gives { IfOk result
-            (ChecksUnique (⟦<Self as Source>⟧.reads) Self.Item.eq self) }
-        ensures lists { IfOk result (λ unique. EachList (⟦<Self as Source>⟧.lists itself) self
+            (ChecksUnique (⟦<Self as ItemSource>⟧.reads) Self.Item.eq self) }
+        ensures lists { IfOk result (λ unique. EachList (⟦<Self as ItemSource>⟧.lists itself) self
             (λ xs.
             ChecksDistinct Self.Item.eq xs unique)) }
     {

@@ -6,7 +6,7 @@ ghost use Rattle.ne_iter.specs.Sources.{EachReading};
 ghost use Rattle.ne_products.specs.Sides.{MakesSide, MatchSide, SideLists};
 
 use either::Either;
-use ne_iter::iter::Source;
+use ne_iter::iter::ItemSource;
 use ne_iter::{IntoNonEmptyIterator, NonEmptyIterator};
 
 /// One of two values.
@@ -36,27 +36,27 @@ impl<L: IntoNonEmptyIterator, R: IntoNonEmptyIterator<Item = L::Item>> NEEither<
     pub fn into_nonempty_iter(self) -> NEEither<L::IntoNEIter, R::IntoNEIter>
         ensures makes { MakesSide L.into_nonempty_iter_gives R.into_nonempty_iter_gives
             self result }
-        ensures gives { EachReading (⟦<NEEither<L::IntoNEIter, R::IntoNEIter> as Source>⟧.reads)
+        ensures gives { EachReading (⟦<NEEither<L::IntoNEIter, R::IntoNEIter> as ItemSource>⟧.reads)
             result (λ whole xs. MatchSide result
-            (λ s. ⟦<L::IntoNEIter as Source>⟧.reads whole s xs)
-            (λ t. ⟦<R::IntoNEIter as Source>⟧.reads whole t xs)) }
+            (λ s. ⟦<L::IntoNEIter as ItemSource>⟧.reads whole s xs)
+            (λ t. ⟦<R::IntoNEIter as ItemSource>⟧.reads whole t xs)) }
         ensures ends { MatchSide result
-            (λ s. ⟦<L::IntoNEIter as Source>⟧.ends s
-            → ⟦<NEEither<L::IntoNEIter, R::IntoNEIter> as Source>⟧.ends result)
-            (λ t. ⟦<R::IntoNEIter as Source>⟧.ends t
-            → ⟦<NEEither<L::IntoNEIter, R::IntoNEIter> as Source>⟧.ends result) }
+            (λ s. ⟦<L::IntoNEIter as ItemSource>⟧.ends s
+            → ⟦<NEEither<L::IntoNEIter, R::IntoNEIter> as ItemSource>⟧.ends result)
+            (λ t. ⟦<R::IntoNEIter as ItemSource>⟧.ends t
+            → ⟦<NEEither<L::IntoNEIter, R::IntoNEIter> as ItemSource>⟧.ends result) }
         ensures lists { MatchSide result
-            (λ s. EachList (⟦<L::IntoNEIter as Source>⟧.lists itself) s
-            (⟦<NEEither<L::IntoNEIter, R::IntoNEIter> as Source>⟧.lists itself result))
-            (λ t. EachList (⟦<R::IntoNEIter as Source>⟧.lists itself) t
-            (⟦<NEEither<L::IntoNEIter, R::IntoNEIter> as Source>⟧.lists itself result)) }
+            (λ s. EachList (⟦<L::IntoNEIter as ItemSource>⟧.lists itself) s
+            (⟦<NEEither<L::IntoNEIter, R::IntoNEIter> as ItemSource>⟧.lists itself result))
+            (λ t. EachList (⟦<R::IntoNEIter as ItemSource>⟧.lists itself) t
+            (⟦<NEEither<L::IntoNEIter, R::IntoNEIter> as ItemSource>⟧.lists itself result)) }
         ensures side { SideLists
             (BecomesList L.into_nonempty_iter_gives L.IntoNEIter.into_iter_gives
             L.IntoNEIter.IntoIter.next_gives itself)
             (BecomesList R.into_nonempty_iter_gives R.IntoNEIter.into_iter_gives
             R.IntoNEIter.IntoIter.next_gives itself)
             (λ xs. (list_trigger result xs ≡ 0)
-            × ⟦<NEEither<L::IntoNEIter, R::IntoNEIter> as Source>⟧.lists itself result xs)
+            × ⟦<NEEither<L::IntoNEIter, R::IntoNEIter> as ItemSource>⟧.lists itself result xs)
             self }
     {
         match self {

@@ -10,7 +10,7 @@ ghost use Rattle.ne_runs.specs.Modes.{row_text, AreRows, IsText, IsLeast, IsGrea
 ghost use Rattle.ne_runs.specs.declared.mode.Mode.{Mode};
 
 use crate::mode::Mode;
-use nonempty_collections::iter::Source;
+use nonempty_collections::iter::ItemSource;
 use nonempty_collections::laws::{
     has_one_division, numbers_have_one_greatest, numbers_have_one_least,
     slice_runs_are_the_division,
@@ -150,7 +150,7 @@ fn text_of_runs<'a, R: NonEmptyIterator<Item = NESlice<'a, u32>>>(
     runs: R,
 ) -> Result<String, AllocError>
     requires { IsFiniteIterable R.into_iter_gives R.IntoIter.can_next R.IntoIter.remaining runs }
-    ensures { IfOk result (λ text. IsText (⟦<R as Source>⟧.reads true runs) (string_bytes text)) }
+    ensures { IfOk result (λ text. IsText (⟦<R as ItemSource>⟧.reads true runs) (string_bytes text)) }
 {
     let mut text = String::new(alloc);
     for run in runs {

@@ -9,7 +9,7 @@ use Rattle.std.specs.Map.{lookup}
 use Rattle.std.specs.Set.{is_member}
 use Rattle.std.proofs.lemmas.Map.Keys.{IsDistinct-from_sorted}
 use Rattle.std.specs.BTreeSet.{BTreeSet, IsOrdered as AreOrdered}
-use Rattle.ne_iter.specs.Collected.{IsMapOf, IsSetOf}
+use Rattle.ne_iter.specs.Collected.{IsMapOfPairs, IsSetOf}
 use Rattle.ne_iter.specs.CollectedLaws.{map_of-inserts, map_of-more, nonempty-inserts}
 use Rattle.ne_iter.specs.CollectedLaws.{set_of-inserts, set_of-more, nonempty_set-inserts}
 use Rattle.ne_tree.specs.ValidTreeMap.{IsValid}
@@ -24,25 +24,25 @@ module _ {K : Type 0} {eq : K → K → Bool} {cmp : K → K → Ordering} (tota
   module _ {V : Type 0} where
     -- Pairs inserted one after the other.
     pub map_of-inserts_all : (m n : BTreeMap K V) (xs : List (K × V)) → InsertsAll cmp m xs n
-        → IsOrdered cmp m → IsMapOf eq (m.entries ++ xs) n.entries
+        → IsOrdered cmp m → IsMapOfPairs eq (m.entries ++ xs) n.entries
     map_of-inserts_all m n xs x o =
-        subst (λ (e : K → K → Bool). IsMapOf e (m.entries ++ xs) n.entries) by_cmp
+        subst (λ (e : K → K → Bool). IsMapOfPairs e (m.entries ++ xs) n.entries) by_cmp
         (map_of-inserts (eq_by_cmp_equiv total) m.entries n.entries xs x.0
         (IsDistinct-from_sorted cmp _ o) (IsDistinct-from_sorted cmp _ x.1))
 
     -- The map after one more pair.
     pub map_of-put : (xs : List (K × V)) (m n : BTreeMap K V) (p : K × V) → IsOrdered cmp n
-        → Updates cmp m n p.0 (Some p.1) → IsMapOf eq xs m.entries
-        → IsMapOf eq (xs ++ p ∷ []) n.entries
+        → Updates cmp m n p.0 (Some p.1) → IsMapOfPairs eq xs m.entries
+        → IsMapOfPairs eq (xs ++ p ∷ []) n.entries
     map_of-put xs m n p o put h =
-        subst (λ (e : K → K → Bool). IsMapOf e (xs ++ p ∷ []) n.entries) by_cmp
+        subst (λ (e : K → K → Bool). IsMapOfPairs e (xs ++ p ∷ []) n.entries) by_cmp
         (map_of-more (eq_by_cmp_equiv total) xs m.entries n.entries p
         (IsDistinct-from_sorted cmp _ o) put.0
-        (subst (λ (e : K → K → Bool). IsMapOf e xs m.entries) (sym by_cmp) h))
+        (subst (λ (e : K → K → Bool). IsMapOfPairs e xs m.entries) (sym by_cmp) h))
 
     -- The same pairs make the same map.
-    pub one_map : (ps : List (K × V)) (m n : BTreeMap K V) → IsMapOf eq ps m.entries
-        → IsMapOf eq ps n.entries → (q : K) → get cmp m q ≡ get cmp n q
+    pub one_map : (ps : List (K × V)) (m n : BTreeMap K V) → IsMapOfPairs eq ps m.entries
+        → IsMapOfPairs eq ps n.entries → (q : K) → get cmp m q ≡ get cmp n q
     one_map ps m n a b q =
         subst (λ (e : K → K → Bool). lookup (e q) m.entries ≡ lookup (e q) n.entries) (sym by_cmp)
         (a.1 q ∙ sym (b.1 q))

@@ -4,7 +4,7 @@ use Rattle.std.specs.Prelude.{List}
 use Rattle.std.specs.List.Sorted.{IsStrictlySortedBy}
 use Rattle.std.specs.Map.{keys_of}
 use Rattle.std.specs.declared.cmp.Ordering.{Ordering}
-use Rattle.ne_iter.specs.KeyIterators.{KnownByValue}
+use Rattle.ne_iter.specs.Keyed.Iterators.{KnownByValue}
 
 -- What is known of entries by value, as of any map, and that the keys ascend.
 abbrev pub EntriesInOrder : {K V : Type 0} → (K → K → Ordering) → List (K × V) → Type 0

@@ -33,12 +33,12 @@ ghost use Rattle.std.specs.Map.Calls.{CallableOnEachPair, CalledAtPair, RetainsP
 ghost use Rattle.std.specs.declared.cmp.Ordering.TheVariants.{Equal};
 ghost use Rattle.ne_vec.specs.Lists.{itself};
 ghost use Rattle.ne_vec.specs.Taken.{TakesFoundUnlessLast, TakesUnlessLast};
-ghost use Rattle.ne_iter.specs.Collected.{IsMapOf};
-ghost use Rattle.ne_iter.specs.ExtendLists.{ExtendsByList};
-ghost use Rattle.ne_iter.specs.KeyIterators.{ListsEntries, KnownByValue, ListsEntriesByValue};
+ghost use Rattle.ne_iter.specs.Collected.{IsMapOfPairs};
+ghost use Rattle.ne_iter.specs.Keyed.Extends.{ExtendsByList};
+ghost use Rattle.ne_iter.specs.Keyed.Iterators.{ListsEntries, KnownByValue, ListsEntriesByValue};
 ghost use Rattle.ne_iter.specs.SourceLists.{MeetsList};
-ghost use Rattle.ne_iter.specs.KeyClones.{KeepsEntries};
-ghost use Rattle.ne_iter.specs.KeptEntries.{either_way, kept_entries, ActsAsAtEntry};
+ghost use Rattle.ne_iter.specs.Keyed.Clones.{KeepsEntries};
+ghost use Rattle.ne_iter.specs.Keyed.KeptEntries.{either_way, kept_entries, ActsAsAtEntry};
 ghost use Rattle.ne_tree.specs.TreeLends.{std_iterator, std_values_iterator, LendsValue};
 ghost use Rattle.ne_tree.specs.TreeLends.{LendsValues, LendsValuesInside};
 ghost use Rattle.ne_tree.specs.ValidTreeMap.{IsValid};
@@ -47,7 +47,7 @@ mod iter;
 mod traits;
 
 pub use iter::{Held, IntoIter, IntoKeys, IntoValues, Iter, IterMut, Keys, Values, ValuesMut};
-use ne_iter::iter::{NonEmptyIter, Source};
+use ne_iter::iter::{ItemSource, NonEmptyIter};
 use std::alloc::{AllocError, Global};
 use std::collections::{BTreeMap, btree_map};
 use std::marker::Model;
@@ -649,12 +649,12 @@ impl<K: Ord, V> NEBTreeMap<K, V> {
             iter }
         // The map of the old pairs and those that were drawn: at `Ok`, all of the source.
         ensures ran { ExtendsWithItems I.into_iter_gives I.IntoIter.next_gives
-            (λ old pairs new. IsMapOf K.eq (old.entries ++ pairs) new.entries)
+            (λ old pairs new. IsMapOfPairs K.eq (old.entries ++ pairs) new.entries)
             iter self.old self.new result }
         // The same at `Ok`, by the list of the source.
-        ensures lists { OnOk result (ExtendsByList (⟦<I as Source>⟧.lists itself)
+        ensures lists { OnOk result (ExtendsByList (⟦<I as ItemSource>⟧.lists itself)
             (MeetsList I.into_iter_gives I.IntoIter.next_gives itself) iter self.old.entries
-            (λ all. IsMapOf K.eq all self.new.entries)) }
+            (λ all. IsMapOfPairs K.eq all self.new.entries)) }
         ensures valid { IsValid K.cmp self.new }
     {
         self.inner.extend(iter)

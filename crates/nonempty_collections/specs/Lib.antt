@@ -22,12 +22,12 @@ pub use Rattle.ne_iter.specs.GroupBy
 pub use Rattle.ne_iter.specs.Grouping
 pub use Rattle.ne_iter.specs.GroupingRuns
 pub use Rattle.ne_iter.specs.Intersperse
-pub use Rattle.ne_iter.specs.KeyList
-pub use Rattle.ne_iter.specs.KeptEntries
+pub use Rattle.ne_iter.specs.Keyed.KeyList
+pub use Rattle.ne_iter.specs.Keyed.KeptEntries
 pub use Rattle.ne_iter.specs.Keys
 pub use Rattle.ne_iter.specs.Map
 pub use Rattle.ne_iter.specs.Peekable
-pub use Rattle.ne_iter.specs.SameMap
+pub use Rattle.ne_iter.specs.Keyed.SameMap
 pub use Rattle.ne_iter.specs.Scan
 pub use Rattle.ne_iter.specs.Skip
 pub use Rattle.ne_iter.specs.SortedByKey

@@ -4,7 +4,7 @@
 //! one path for each arm to follow, and no values to drop where the arms join.
 ghost use Rattle.std.specs.Iterator.{IsFiniteIterable};
 
-use nonempty_collections::iter::Source;
+use nonempty_collections::iter::ItemSource;
 use nonempty_collections::{Error, NEVec, NonEmptyIterator};
 use std::alloc::{AllocError, Global};
 use std::fmt::Debug;
@@ -72,7 +72,7 @@ impl Transcript {
         &mut self,
         source: S,
     ) -> Written
-        requires { ⟦<S as Source>⟧.ends source }
+        requires { ⟦<S as ItemSource>⟧.ends source }
     {
         let items: NEVec<T> = source.collect(self.alloc)?;
         self.result(items)

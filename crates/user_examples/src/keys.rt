@@ -1,6 +1,6 @@
 //! The examples of collecting std's maps and sets.
 ghost use Rattle.std.specs.Prelude.{◌≡◌, ◌/◌, ◌∷◌, [], List, ℕ, IfOk, Some, map, nat_eq};
-ghost use Rattle.nonempty_collections.specs.Collected.{IsMapOf, IsSetOf, last_value};
+ghost use Rattle.nonempty_collections.specs.Collected.{IsMapOfPairs, IsSetOf, last_value};
 
 use nonempty_collections::{IntoNonEmptyIterator, NonEmptyIterator, nev};
 use std::alloc::{AllocError, Global};
@@ -21,7 +21,7 @@ pub fn hash_map(alloc: Global) -> Result<Option<u32>, AllocError>
 /// The list of the entries is only run.
 pub fn tree_map(alloc: Global) -> Result<BTreeMap<u32, u32>, AllocError>
     ensures { IfOk result (λ m. (xs : List ℕ) → xs ≡ 4 ∷ 3 ∷ 2 ∷ []
-        → IsMapOf nat_eq (map (λ x. (x / 2, x)) xs) m.entries) }
+        → IsMapOfPairs nat_eq (map (λ x. (x / 2, x)) xs) m.entries) }
 {
     let items = nev![alloc; 4, 3, 2]?.into_nonempty_iter();
     let map: BTreeMap<u32, u32> = items.map(|x| (x / 2, x)).collect(alloc)?;

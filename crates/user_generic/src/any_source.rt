@@ -3,9 +3,9 @@
 ghost use Rattle.std.specs.Prelude.{◌≡◌, ◌/◌, ◌++◌, ◌≤◌, ℕ, List, IfOk, ltb, map, filter, take};
 ghost use Rattle.std.specs.Int.NonZero.{non_zero_usize_get};
 ghost use Rattle.std.specs.List.{All, Contains};
-ghost use Rattle.nonempty_collections.specs.Lists.{Listed};
+ghost use Rattle.nonempty_collections.specs.Lists.{referenced};
 
-use nonempty_collections::iter::{NonEmptyIterator, Source};
+use nonempty_collections::iter::{ItemSource, NonEmptyIterator};
 use nonempty_collections::{IntoNonEmptyIterator, NEVec};
 use std::alloc::{AllocError, Global};
 use std::num::NonZeroUsize;
@@ -15,9 +15,9 @@ pub fn halves<S: NonEmptyIterator<Item = u32>>(
     alloc: Global,
     source: S,
 ) -> Result<NEVec<u32>, AllocError>
-    requires { ⟦<S as Source>⟧.ends source }
+    requires { ⟦<S as ItemSource>⟧.ends source }
     ensures { IfOk result (λ v. (xs : List ℕ)
-        → Listed S.into_iter_gives S.IntoIter.next_gives (λ x. x) source xs
+        → ⟦<S as ItemSource>⟧.listed source xs
         → v ≡ map (λ x. x / 2) xs) }
 {
     source.map(|x| x / 2).collect(alloc)
@@ -29,9 +29,9 @@ pub fn first_items<T: Drop, S: NonEmptyIterator<Item = T>>(
     source: S,
     n: NonZeroUsize,
 ) -> Result<NEVec<T>, AllocError>
-    requires { ⟦<S as Source>⟧.starts source }
+    requires { ⟦<S as ItemSource>⟧.starts source }
     ensures { IfOk result (λ v. (xs : List T)
-        → Listed S.into_iter_gives S.IntoIter.next_gives (λ x. x) source xs
+        → ⟦<S as ItemSource>⟧.listed source xs
         → v ≡ take (non_zero_usize_get n) xs) }
 {
     source.take(n).collect(alloc)
@@ -43,11 +43,11 @@ pub fn joined<T: Drop, S: NonEmptyIterator<Item = T>, U: IntoIterator<Item = T>>
     source: S,
     other: U,
 ) -> Result<NEVec<T>, AllocError>
-    requires ends { ⟦<S as Source>⟧.ends source }
-    requires other_ends { ⟦<U as Source>⟧.ends other }
+    requires ends { ⟦<S as ItemSource>⟧.ends source }
+    requires other_ends { ⟦<U as ItemSource>⟧.ends other }
     ensures { IfOk result (λ v. (xs ys : List T)
-        → Listed S.into_iter_gives S.IntoIter.next_gives (λ x. x) source xs
-        → Listed U.into_iter_gives U.IntoIter.next_gives (λ x. x) other ys → v ≡ xs ++ ys) }
+        → ⟦<S as ItemSource>⟧.listed source xs
+        → ⟦<U as ItemSource>⟧.listed other ys → v ≡ xs ++ ys) }
 {
     source.chain(other).collect(alloc)
 }
@@ -57,9 +57,9 @@ pub fn small<S: NonEmptyIterator<Item = u32>>(
     alloc: Global,
     source: S,
 ) -> Result<Vec<u32>, AllocError>
-    requires { ⟦<S as Source>⟧.ends source }
+    requires { ⟦<S as ItemSource>⟧.ends source }
     ensures { IfOk result (λ v. (xs : List ℕ)
-        → Listed S.into_iter_gives S.IntoIter.next_gives (λ x. x) source xs
+        → ⟦<S as ItemSource>⟧.listed source xs
         → v.items ≡ filter (λ x. ltb x 10) xs) }
 {
     source.filter(|x| *x < 10).collect(alloc)
@@ -67,12 +67,12 @@ pub fn small<S: NonEmptyIterator<Item = u32>>(
 
 /// Returns the greatest of the numbers that a source references.
 pub fn greatest<'a, S: NonEmptyIterator<Item = &'a u32>>(source: S) -> u32
-    requires { ⟦<S as Source>⟧.ends source }
+    requires { ⟦<S as ItemSource>⟧.ends source }
     ensures among { (xs : List ℕ)
-        → Listed S.into_iter_gives S.IntoIter.next_gives (λ y. y.now) source xs
+        → ⟦<S as ItemSource>⟧.listed_through referenced source xs
         → Contains xs result }
     ensures bound { (xs : List ℕ)
-        → Listed S.into_iter_gives S.IntoIter.next_gives (λ y. y.now) source xs
+        → ⟦<S as ItemSource>⟧.listed_through referenced source xs
         → All (λ x. x ≤ result) xs }
 {
     source.copied().max()

@@ -7,7 +7,7 @@ ghost use Rattle.user_generic.specs.OwnSources.{counted_down, start_of};
 ghost use Rattle.user_generic.specs.InnerSources.{IsSpread, IsSpreadOfPairs};
 
 use crate::Countdown;
-use nonempty_collections::iter::{FromNonEmptyIterator, NonEmptyIterator, Source};
+use nonempty_collections::iter::{FromNonEmptyIterator, ItemSource, NonEmptyIterator};
 use nonempty_collections::laws::{
     arrays_give_their_items, calls_of_a_function, first_items_stay_first, lists_follow_one_another,
     sources_give_what_is_left,
@@ -32,8 +32,8 @@ pub fn spread<
     requires inner_ends { (inner : W) (it : W.IntoIter) → W.into_iter_gives inner it
         → W.IntoIter.can_next it × IsFinite (W.IntoIter.remaining it)
         × (size (W.IntoIter.remaining it) < 2 ^ 64) }
-    ensures { IfOk result (IsSpread (⟦<S as Source>⟧.reads) F.FnMut
-        (⟦<W as Source>⟧.reads) B.is_complete B.collected source f (non_zero_usize_get n)) }
+    ensures { IfOk result (IsSpread (⟦<S as ItemSource>⟧.reads) F.FnMut
+        (⟦<W as ItemSource>⟧.reads) B.is_complete B.collected source f (non_zero_usize_get n)) }
 {
     source
         .flat_map(f)
@@ -63,8 +63,8 @@ where
     requires inner_ends { (inner : W) (it : W.IntoIter) → W.into_iter_gives inner it
         → W.IntoIter.can_next it × IsFinite (W.IntoIter.remaining it)
         × (size (W.IntoIter.remaining it) < 2 ^ 64) }
-    ensures { IfOk result (IsSpreadOfPairs (⟦<S as Source>⟧.reads) (⟦<O as Source>⟧.reads)
-        F.FnMut (⟦<W as Source>⟧.reads) B.is_complete B.collected source other f
+    ensures { IfOk result (IsSpreadOfPairs (⟦<S as ItemSource>⟧.reads) (⟦<O as ItemSource>⟧.reads)
+        F.FnMut (⟦<W as ItemSource>⟧.reads) B.is_complete B.collected source other f
         (non_zero_usize_get n)) }
 {
     spread(alloc, source.zip(other), f, n)

@@ -4,7 +4,7 @@ ghost use Rattle.std.specs.Iterator.{IsFinite, IsFiniteIterable, size};
 ghost use Rattle.std.specs.List.{scan};
 ghost use Rattle.user_generic.specs.Nested.{IsScanOfAll};
 
-use nonempty_collections::iter::{Flatten, FromNonEmptyIterator, NonEmptyIterator, Source};
+use nonempty_collections::iter::{Flatten, FromNonEmptyIterator, ItemSource, NonEmptyIterator};
 use nonempty_collections::laws::always_callable_is_callable_in_scan;
 use nonempty_collections::{IntoNonEmptyIterator, NEVec};
 use std::alloc::{AllocError, Global};
@@ -26,7 +26,7 @@ pub fn scan_of_all<
         → U.IntoIter.can_next it × IsFinite (U.IntoIter.remaining it)
         × (size (U.IntoIter.remaining it) < 2 ^ 64) }
     requires callable { F.IsAlwaysCallable f }
-    ensures { IfOk result (IsScanOfAll (⟦<S as Source>⟧.reads) (⟦<U as Source>⟧.reads)
+    ensures { IfOk result (IsScanOfAll (⟦<S as ItemSource>⟧.reads) (⟦<U as ItemSource>⟧.reads)
         F.FnMut B.is_complete B.collected source init f) }
 {
     always_callable_is_callable_in_scan::<St, <Flatten<S> as IntoIterator>::IntoIter, D, F>();

@@ -5,7 +5,7 @@ ghost use Rattle.std.specs.Int.NonZero.{non_zero_usize_get};
 ghost use Rattle.std.specs.List.{enumerate_from};
 ghost use Rattle.user_generic.specs.Numbering.{IsNumbered};
 
-use nonempty_collections::iter::{FromNonEmptyIterator, NonEmptyIterator, Source};
+use nonempty_collections::iter::{FromNonEmptyIterator, ItemSource, NonEmptyIterator};
 use nonempty_collections::laws::{
     calls_of_a_function, first_items_stay_first, std_vectors_give_their_items,
     vectors_give_their_items,
@@ -34,8 +34,8 @@ pub fn numbered<
         (O.IntoIter.remaining rest) < 2 ^ 64 }
     requires callable { (it : S.IntoIter) → S.into_iter_gives source it
         → CallableOnAll S.IntoIter.next_gives F.FnMut it f }
-    ensures { IfOk result (IsNumbered (⟦<S as Source>⟧.reads) F.FnMut
-        (⟦<O as Source>⟧.reads) B.is_complete B.collected source f other
+    ensures { IfOk result (IsNumbered (⟦<S as ItemSource>⟧.reads) F.FnMut
+        (⟦<O as ItemSource>⟧.reads) B.is_complete B.collected source f other
         (non_zero_usize_get n)) }
 {
     source

@@ -7,7 +7,7 @@ ghost use Rattle.nonempty_collections.specs.SliceRuns.{ActsAsAtPair, CallableAtP
 ghost use Rattle.nonempty_collections.specs.GroupBy.{HasRuns};
 ghost use Rattle.user_generic.specs.RunsOfResults.{AreRunsOfResults};
 
-use nonempty_collections::iter::{Map, NEGroupBy, NonEmptyIterator, Source, Take};
+use nonempty_collections::iter::{ItemSource, Map, NEGroupBy, NonEmptyIterator, Take};
 use nonempty_collections::laws::{
     always_callable_is_callable_on_all_items, calls_of_a_function, first_items_stay_first,
     results_are_read_whole, slice_runs_are_the_division,
@@ -33,7 +33,7 @@ where
     requires callable { (it : S.IntoIter) → S.into_iter_gives source it
         → CallableOnAll S.IntoIter.next_gives F.FnMut it f }
     requires key_callable { G.IsAlwaysCallable key }
-    ensures { IfOk result (AreRunsOfResults (⟦<S as Source>⟧.reads) F.FnMut G.FnMut K.eq source
+    ensures { IfOk result (AreRunsOfResults (⟦<S as ItemSource>⟧.reads) F.FnMut G.FnMut K.eq source
         f key) }
 {
     results_are_read_whole::<NEVec<T>, AllocError, NEGroupBy<Map<S, F>, G>>();
@@ -54,7 +54,7 @@ where
     requires ends { IsFiniteIterable S.into_iter_gives S.IntoIter.can_next S.IntoIter.remaining
         source }
     requires key_callable { G.IsAlwaysCallable key }
-    ensures runs { IfOk result (λ rs. HasRuns (⟦<S as Source>⟧.reads) G.FnMut K.eq
+    ensures runs { IfOk result (λ rs. HasRuns (⟦<S as ItemSource>⟧.reads) G.FnMut K.eq
         (ltb (length rs) (non_zero_usize_get n)) source key rs) }
     ensures count { IfOk result (λ rs. length rs ≤ non_zero_usize_get n) }
 {

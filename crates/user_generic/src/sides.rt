@@ -5,7 +5,7 @@ ghost use Rattle.nonempty_collections.specs.Calls.{Calls};
 ghost use Rattle.nonempty_collections.specs.Sides.{MatchSide};
 
 use nonempty_collections::either::NEEither;
-use nonempty_collections::iter::Source;
+use nonempty_collections::iter::ItemSource;
 use nonempty_collections::laws::either_gives_its_side;
 use nonempty_collections::{NEVec, NonEmptyIterator};
 use std::alloc::{AllocError, Global};
@@ -17,14 +17,14 @@ pub fn mapped_side<
     T: Drop,
     F: FnMut(L::Item) -> T,
 >(alloc: Global, source: NEEither<L, R>, f: F) -> Result<NEVec<T>, AllocError>
-    requires ends { ⟦<NEEither<L, R> as Source>⟧.ends source }
+    requires ends { ⟦<NEEither<L, R> as ItemSource>⟧.ends source }
     requires callable { (it : _) → ⟦<NEEither<L, R> as IntoIterator>⟧.into_iter_gives source it
         → CallableOnAll (⟦<<NEEither<L, R> as IntoIterator>::IntoIter as Iterator>⟧.next_gives)
         F.FnMut it f }
     ensures { IfOk result (λ ys. (xs : List L.Item) × (g : F) × Calls F.FnMut f xs ys g
         × MatchSide source
-        (λ s. ⟦<L as Source>⟧.reads true s xs)
-        (λ t. ⟦<R as Source>⟧.reads true t xs)) }
+        (λ s. ⟦<L as ItemSource>⟧.reads true s xs)
+        (λ t. ⟦<R as ItemSource>⟧.reads true t xs)) }
 {
     either_gives_its_side(&source);
     source.map(f).collect(alloc)

@@ -4,7 +4,7 @@ ghost use Rattle.std.specs.Iterator.{IsFiniteIterable, CallableOnAll};
 ghost use Rattle.std.specs.Int.NonZero.{non_zero_usize_get};
 ghost use Rattle.user_generic.specs.TwoCollections.{IsParted};
 
-use nonempty_collections::iter::{NonEmptyIterator, Source};
+use nonempty_collections::iter::{ItemSource, NonEmptyIterator};
 use nonempty_collections::{IntoNonEmptyIterator, Singleton};
 use std::alloc::{AllocError, Global};
 use std::num::NonZeroUsize;
@@ -26,8 +26,8 @@ pub fn parted<
         O.IntoIter.remaining other }
     requires callable { (it : S.IntoIter) → S.into_iter_gives source it
         → CallableOnAll S.IntoIter.next_gives F.FnMut it f }
-    ensures { IfOk result (IsParted (⟦<S as Source>⟧.reads) F.FnMut
-        (⟦<O as Source>⟧.reads) R.collected Q.collected source f other
+    ensures { IfOk result (IsParted (⟦<S as ItemSource>⟧.reads) F.FnMut
+        (⟦<O as ItemSource>⟧.reads) R.collected Q.collected source f other
         (non_zero_usize_get n)) }
 {
     source.map(f).zip(other).take(n).unzip(alloc)

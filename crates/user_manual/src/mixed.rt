@@ -3,7 +3,7 @@ ghost use Rattle.std.specs.Prelude.{◌≡◌, ◌+◌, ◌++◌, ◌∷◌, map
 ghost use Rattle.std.specs.Prelude.{IfOk, ltb};
 ghost use Rattle.std.specs.List.{zip};
 ghost use Rattle.std.specs.Int.NonZero.{non_zero_usize_get};
-ghost use Rattle.nonempty_collections.specs.Collected.{IsMapOf};
+ghost use Rattle.nonempty_collections.specs.Collected.{IsMapOfPairs};
 
 use nonempty_collections::{IntoNonEmptyIterator, NEVec, NonEmptyIterator};
 use std::alloc::{AllocError, Global};
@@ -81,7 +81,7 @@ pub fn table_of_first(
     values: NEVec<u32>,
     n: NonZeroUsize,
 ) -> Result<BTreeMap<u32, u32>, AllocError>
-    ensures { IfOk result (λ m. IsMapOf nat_eq
+    ensures { IfOk result (λ m. IsMapOfPairs nat_eq
         (take (non_zero_usize_get n) (zip keys.now values)) m.entries) }
 {
     keys.into_nonempty_iter()

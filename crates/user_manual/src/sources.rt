@@ -6,7 +6,7 @@ ghost use Rattle.nonempty_collections.specs.Pairs.{cartesian_product};
 ghost use Rattle.nonempty_collections.specs.Restarts.{ClonesAgain, NeverRefuses};
 ghost use Rattle.nonempty_collections.specs.Sides.{by_side};
 
-use nonempty_collections::iter::Source;
+use nonempty_collections::iter::ItemSource;
 use nonempty_collections::{
     IntoNonEmptyIterator, NEEither, NESlice, NEVec, NonEmptyIterator, NonEmptyItertools, iter, laws,
 };
@@ -57,14 +57,14 @@ where
     S: NonEmptyIterator<Item = u32>,
     U: NonEmptyIterator<Item = u32>,
     U::IntoIter: Clone,
-    requires rows_end { ⟦<S as Source>⟧.ends rows }
-    requires columns_end { ⟦<U as Source>⟧.ends columns }
+    requires rows_end { ⟦<S as ItemSource>⟧.ends rows }
+    requires columns_end { ⟦<U as ItemSource>⟧.ends columns }
     requires again { ClonesAgain U.into_iter_gives U.IntoIter.remaining U.IntoIter.is_clone
         columns }
     requires certain { NeverRefuses U.into_iter_gives U.IntoIter.is_infallible columns }
     ensures { IfOk result (λ v. (xs ys : List ℕ)
-        → ReadsList (⟦<S as Source>⟧.reads) rows xs
-        → ReadsList (⟦<U as Source>⟧.reads) columns ys
+        → ReadsList (⟦<S as ItemSource>⟧.reads) rows xs
+        → ReadsList (⟦<U as ItemSource>⟧.reads) columns ys
         → v ≡ map Ok (cartesian_product xs ys)) }
 {
     laws::list_of_cartesian_product(&rows, &columns);

@@ -10,7 +10,7 @@ ghost use Rattle.std.specs.List.{reduce as list_reduce, filter_map};
 ghost use Rattle.std.specs.Cmp.Lexicographic.{pointwise, slice_cmp};
 ghost use Rattle.std.specs.Ordering.{is_lt, nat_cmp};
 ghost use Rattle.std.specs.String.{string_bytes};
-ghost use Rattle.nonempty_collections.specs.Collected.{IsMapOf, IsSetOf, values_or_first_err};
+ghost use Rattle.nonempty_collections.specs.Collected.{IsMapOfPairs, IsSetOf, values_or_first_err};
 ghost use Rattle.nonempty_collections.specs.Keys.{IsDividedBy};
 
 use nonempty_collections::{IntoIteratorExt, IntoNonEmptyIterator, NEVec, NonEmptyIterator};
@@ -262,7 +262,7 @@ pub fn table<'a>(
     alloc: Global,
     texts: NEVec<&'a str>,
 ) -> Result<BTreeMap<&'a str, usize>, AllocError>
-    ensures { IfOk result (λ m. IsMapOf (λ s t. pointwise nat_eq s.now t.now)
+    ensures { IfOk result (λ m. IsMapOfPairs (λ s t. pointwise nat_eq s.now t.now)
         (map (λ t. (t, length t.now)) texts.entry) m.entries) }
 {
     texts

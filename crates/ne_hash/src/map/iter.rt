@@ -6,9 +6,9 @@ ghost use Rattle.std.specs.HashMap.IterMut.{iter_mut_name, iter_mut_rest, values
 ghost use Rattle.std.specs.HashMap.IterMut.{IterMutCanStep};
 ghost use Rattle.std.specs.Map.Iter.{deref, deref_pair};
 ghost use Rattle.ne_vec.specs.Lists.{view_by};
-ghost use Rattle.ne_iter.specs.KeyIterators.{IteratesEntries, IteratesEntriesByValue};
-ghost use Rattle.ne_iter.specs.KeyIterators.{KnownByReference, KnownByValue};
-ghost use Rattle.ne_iter.specs.KeyIteratorLaws.{HasFirst-entries};
+ghost use Rattle.ne_iter.specs.Keyed.Iterators.{IteratesEntries, IteratesEntriesByValue};
+ghost use Rattle.ne_iter.specs.Keyed.Iterators.{KnownByReference, KnownByValue};
+ghost use Rattle.ne_iter.specs.Keyed.IteratorLaws.{HasFirst-entries};
 
 use super::NEMap;
 use ne_iter::IntoNonEmptyIterator;
@@ -19,8 +19,8 @@ use std::hash::{BuildHasher, Hash};
 impl<K: Eq + Hash + Drop, V: Drop, S: BuildHasher + Drop> IntoNonEmptyIterator for NEMap<K, V, S> {
     ghost use Rattle.std.specs.Prelude.{◌≡◌};
     ghost use Rattle.std.specs.HashMap.{IsUnique};
-    ghost use Rattle.ne_iter.specs.KeyIterators.{ListsEntriesByValue, KnownByValue};
-    ghost use Rattle.ne_iter.specs.KeyIteratorLaws.{SameLists-entries};
+    ghost use Rattle.ne_iter.specs.Keyed.Iterators.{ListsEntriesByValue, KnownByValue};
+    ghost use Rattle.ne_iter.specs.Keyed.IteratorLaws.{SameLists-entries};
 
     type IntoNEIter = IntoIter<K, V>;
 
@@ -38,8 +38,8 @@ impl<'a, K: Eq + Hash, V, S: BuildHasher> IntoNonEmptyIterator for &'a NEMap<K, 
     ghost use Rattle.std.specs.Prelude.{◌≡◌};
     ghost use Rattle.std.specs.HashMap.{IsUnique};
     ghost use Rattle.std.specs.Map.Iter.{deref_pair};
-    ghost use Rattle.ne_iter.specs.KeyIterators.{ListsEntries, KnownByReference};
-    ghost use Rattle.ne_iter.specs.KeyIteratorLaws.{SameLists-entries};
+    ghost use Rattle.ne_iter.specs.Keyed.Iterators.{ListsEntries, KnownByReference};
+    ghost use Rattle.ne_iter.specs.Keyed.IteratorLaws.{SameLists-entries};
 
     type IntoNEIter = Iter<'a, K, V>;
 
@@ -136,7 +136,7 @@ pub struct IterMut<'a, K, V> {
 
 impl<'a, K, V> NonEmptyIterator for IterMut<'a, K, V> {
     ghost use Rattle.std.specs.HashMap.IterMut.{iter_mut_rest};
-    ghost use Rattle.ne_iter.specs.KeyIteratorLaws.{HasFirst-lent};
+    ghost use Rattle.ne_iter.specs.Keyed.IteratorLaws.{HasFirst-lent};
 
     ghost not_empty = { λ w it made. HasFirst-lent iter_mut_rest it made.0 };
 }

@@ -1,9 +1,9 @@
 //! The traits of an [`NEMap`]: conversions, clones, equality as a map, collecting, printing.
 ghost use Rattle.std.specs.Prelude.{◌≡◌, ◌↔◌, ◌++◌, IsTrue, MatchResult};
 ghost use Rattle.std.specs.HashMap.{get, hash_map_eq, IsClone, IsEmpty};
-ghost use Rattle.ne_iter.specs.Collected.{IsMapOf};
-ghost use Rattle.ne_iter.specs.KeyClones.{KeepsEntries};
-ghost use Rattle.ne_iter.specs.SameMap.{IsSameMap};
+ghost use Rattle.ne_iter.specs.Collected.{IsMapOfPairs};
+ghost use Rattle.ne_iter.specs.Keyed.Clones.{KeepsEntries};
+ghost use Rattle.ne_iter.specs.Keyed.SameMap.{IsSameMap};
 ghost use Rattle.ne_hash.specs.ValidHashMap.{IsValid};
 
 use super::NEMap;
@@ -97,7 +97,7 @@ impl<K: Eq + Hash + Clone, V: Clone, S: BuildHasher + Clone> Clone for NEMap<K, 
 /// Collects pairs into a map that holds each key once, with the value of its last pair.
 impl<K: Eq + Hash + Drop, V: Drop, S: BuildHasher + Default + Drop> FromNonEmptyIterator<(K, V)>
     for NEMap<K, V, S> {
-    ghost collected = { λ pairs m. IsMapOf K.eq pairs m.entries };
+    ghost collected = { λ pairs m. IsMapOfPairs K.eq pairs m.entries };
 
     fn from_nonempty_iter<I: IntoNonEmptyIterator<Item = (K, V)>>(
         alloc: Global,
@@ -119,7 +119,7 @@ impl<K: Eq + Hash + Debug, V: Debug, S: BuildHasher> Debug for NEMap<K, V, S> {
 impl<K: Eq + Hash + Drop, V: Drop> Singleton for NEMap<K, V> {
     type Item = (K, V);
 
-    ghost collected = { λ pairs m. IsMapOf K.eq pairs m.entries };
+    ghost collected = { λ pairs m. IsMapOfPairs K.eq pairs m.entries };
 
     fn singleton(alloc: Global, item: (K, V)) -> Result<NEMap<K, V>, AllocError> {
         let (k, v) = item;
@@ -135,7 +135,7 @@ impl<K: Eq + Hash + Drop, V: Drop> Singleton for NEMap<K, V> {
 
 /// Calls the inherent method `extend`.
 impl<K: Eq + Hash + Drop, V: Drop, S: BuildHasher> Extend<(K, V)> for NEMap<K, V, S> {
-    ghost extend_gives = { λ m pairs n. IsMapOf K.eq (m.entries ++ pairs) n.entries
+    ghost extend_gives = { λ m pairs n. IsMapOfPairs K.eq (m.entries ++ pairs) n.entries
         × IsValid K.eq n };
 
     fn extend<I: IntoIterator<Item = (K, V)>>(&mut self, iter: I) -> Result<(), AllocError> {

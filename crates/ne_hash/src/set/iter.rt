@@ -4,9 +4,9 @@ ghost use Rattle.std.specs.Prelude.{◌≡◌, length};
 ghost use Rattle.std.specs.HashSet.{IsUnique};
 ghost use Rattle.std.specs.Map.Iter.{deref};
 ghost use Rattle.ne_vec.specs.Lists.{view_by};
-ghost use Rattle.ne_iter.specs.KeyIterators.{IteratesEntries, IteratesEntriesByValue};
-ghost use Rattle.ne_iter.specs.KeyIterators.{KnownByReference, KnownByValue};
-ghost use Rattle.ne_iter.specs.KeyIteratorLaws.{HasFirst-entries};
+ghost use Rattle.ne_iter.specs.Keyed.Iterators.{IteratesEntries, IteratesEntriesByValue};
+ghost use Rattle.ne_iter.specs.Keyed.Iterators.{KnownByReference, KnownByValue};
+ghost use Rattle.ne_iter.specs.Keyed.IteratorLaws.{HasFirst-entries};
 
 use super::NESet;
 use ne_iter::IntoNonEmptyIterator;
@@ -17,8 +17,8 @@ use std::hash::{BuildHasher, Hash};
 impl<T: Eq + Hash + Drop, S: BuildHasher + Drop> IntoNonEmptyIterator for NESet<T, S> {
     ghost use Rattle.std.specs.Prelude.{◌≡◌};
     ghost use Rattle.std.specs.HashSet.{IsUnique};
-    ghost use Rattle.ne_iter.specs.KeyIterators.{ListsEntriesByValue, KnownByValue};
-    ghost use Rattle.ne_iter.specs.KeyIteratorLaws.{SameLists-entries};
+    ghost use Rattle.ne_iter.specs.Keyed.Iterators.{ListsEntriesByValue, KnownByValue};
+    ghost use Rattle.ne_iter.specs.Keyed.IteratorLaws.{SameLists-entries};
 
     type IntoNEIter = IntoIter<T>;
 
@@ -36,8 +36,8 @@ impl<'a, T: Eq + Hash, S: BuildHasher> IntoNonEmptyIterator for &'a NESet<T, S> 
     ghost use Rattle.std.specs.Prelude.{◌≡◌};
     ghost use Rattle.std.specs.HashSet.{IsUnique};
     ghost use Rattle.std.specs.Map.Iter.{deref};
-    ghost use Rattle.ne_iter.specs.KeyIterators.{ListsEntries, KnownByReference};
-    ghost use Rattle.ne_iter.specs.KeyIteratorLaws.{SameLists-entries};
+    ghost use Rattle.ne_iter.specs.Keyed.Iterators.{ListsEntries, KnownByReference};
+    ghost use Rattle.ne_iter.specs.Keyed.IteratorLaws.{SameLists-entries};
 
     type IntoNEIter = Iter<'a, T>;
 

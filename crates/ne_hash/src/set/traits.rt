@@ -3,7 +3,7 @@ ghost use Rattle.std.specs.Prelude.{◌≡◌, ◌↔◌, ◌++◌, IsTrue, Matc
 ghost use Rattle.std.specs.HashSet.{hash_set_eq, IsEmpty, IsSameSet};
 ghost use Rattle.std.specs.HashSet.{IsClone};
 ghost use Rattle.ne_iter.specs.Collected.{IsSetOf};
-ghost use Rattle.ne_iter.specs.KeyClones.{KeepsItems};
+ghost use Rattle.ne_iter.specs.Keyed.Clones.{KeepsItems};
 ghost use Rattle.ne_hash.specs.ValidHashSet.{IsValid};
 
 use super::NESet;

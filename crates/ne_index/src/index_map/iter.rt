@@ -4,9 +4,9 @@ ghost use Rattle.std.specs.Prelude.{◌≡◌, length};
 ghost use Rattle.std.specs.Map.Iter.{deref, deref_pair};
 ghost use Rattle.ne_vec.specs.Lists.{view_by};
 ghost use Rattle.indexmap.specs.IndexMap.{IsUnique};
-ghost use Rattle.ne_iter.specs.KeyIterators.{IteratesEntries, IteratesEntriesByValue};
-ghost use Rattle.ne_iter.specs.KeyIterators.{KnownByReference, KnownByValue};
-ghost use Rattle.ne_iter.specs.KeyIteratorLaws.{HasFirst-entries};
+ghost use Rattle.ne_iter.specs.Keyed.Iterators.{IteratesEntries, IteratesEntriesByValue};
+ghost use Rattle.ne_iter.specs.Keyed.Iterators.{KnownByReference, KnownByValue};
+ghost use Rattle.ne_iter.specs.Keyed.IteratorLaws.{HasFirst-entries};
 
 use super::NEIndexMap;
 use indexmap::map;
@@ -18,8 +18,8 @@ impl<K: Eq + Hash + Drop, V: Drop, S: BuildHasher + Drop> IntoNonEmptyIterator
     for NEIndexMap<K, V, S> {
     ghost use Rattle.std.specs.Prelude.{◌≡◌};
     ghost use Rattle.indexmap.specs.IndexMap.{IsUnique};
-    ghost use Rattle.ne_iter.specs.KeyIterators.{ListsEntriesByValue, KnownByValue};
-    ghost use Rattle.ne_iter.specs.KeyIteratorLaws.{SameLists-entries};
+    ghost use Rattle.ne_iter.specs.Keyed.Iterators.{ListsEntriesByValue, KnownByValue};
+    ghost use Rattle.ne_iter.specs.Keyed.IteratorLaws.{SameLists-entries};
 
     type IntoNEIter = IntoIter<K, V>;
 
@@ -37,8 +37,8 @@ impl<'a, K: Eq + Hash, V, S: BuildHasher> IntoNonEmptyIterator for &'a NEIndexMa
     ghost use Rattle.std.specs.Prelude.{◌≡◌};
     ghost use Rattle.std.specs.Map.Iter.{deref_pair};
     ghost use Rattle.indexmap.specs.IndexMap.{IsUnique};
-    ghost use Rattle.ne_iter.specs.KeyIterators.{ListsEntries, KnownByReference};
-    ghost use Rattle.ne_iter.specs.KeyIteratorLaws.{SameLists-entries};
+    ghost use Rattle.ne_iter.specs.Keyed.Iterators.{ListsEntries, KnownByReference};
+    ghost use Rattle.ne_iter.specs.Keyed.IteratorLaws.{SameLists-entries};
 
     type IntoNEIter = Iter<'a, K, V>;
 

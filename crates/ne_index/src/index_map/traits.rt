@@ -6,15 +6,15 @@ ghost use Rattle.std.specs.HashMap.Eq.{hash_map_eq_refl, hash_map_eq_symm, hash_
 ghost use Rattle.std.specs.Iterator.{IsFiniteIterable};
 ghost use Rattle.indexmap.specs.IndexMap.{hasher_of, index_map_eq, index_map_len, values};
 ghost use Rattle.indexmap.specs.IndexMap.{IsClone, get};
-ghost use Rattle.ne_iter.specs.KeyClones.{KeepsEntries};
-ghost use Rattle.ne_iter.specs.KeyList.{IsKeyListMapOf};
-ghost use Rattle.ne_iter.specs.SameMap.{IsSameMap};
+ghost use Rattle.ne_iter.specs.Keyed.Clones.{KeepsEntries};
+ghost use Rattle.ne_iter.specs.Keyed.KeyList.{IsKeyListMapOf};
+ghost use Rattle.ne_iter.specs.Keyed.SameMap.{IsSameMap};
 ghost use Rattle.std.specs.Cmp;
 ghost use Rattle.ne_index.specs.ValidIndexMap.{IsValid};
 
 use super::NEIndexMap;
 use indexmap::IndexMap;
-use ne_iter::iter::Source;
+use ne_iter::iter::ItemSource;
 use ne_iter::{FromNonEmptyIterator, IntoNonEmptyIterator, NonEmptyIterator, Singleton};
 use std::alloc::{AllocError, Global};
 use std::fmt;
@@ -104,7 +104,7 @@ fn collected<
     requires { (source : I.IntoNEIter) → I.into_nonempty_iter_gives iter source
         → IsFiniteIterable I.IntoNEIter.into_iter_gives I.IntoNEIter.IntoIter.can_next
         I.IntoNEIter.IntoIter.remaining source }
-    ensures { IfOk result (λ m. (pairs : List (K × V)) × ⟦<I as Source>⟧.reads true iter pairs
+    ensures { IfOk result (λ m. (pairs : List (K × V)) × ⟦<I as ItemSource>⟧.reads true iter pairs
         × (IsKeyListMapOf K.eq pairs m.entries × (0 < index_map_len m))) }
 {
     iter.into_nonempty_iter().into_iter().collect(alloc)

@@ -5,13 +5,13 @@ ghost use Rattle.std.specs.Cmp.{partial_equiv_from_equiv};
 ghost use Rattle.std.specs.Iterator.{IsFiniteIterable};
 ghost use Rattle.indexmap.specs.IndexSet.{hasher_of, index_set_eq, index_set_len, IsEmpty, IsClone};
 ghost use Rattle.indexmap.specs.IndexSet.{IsSameSet};
-ghost use Rattle.ne_iter.specs.KeyClones.{KeepsItems};
+ghost use Rattle.ne_iter.specs.Keyed.Clones.{KeepsItems};
 ghost use Rattle.ne_index.specs.KeyListSets.{IsKeyListSetOf};
 ghost use Rattle.ne_index.specs.ValidIndexSet.{IsValid};
 
 use super::NEIndexSet;
 use indexmap::IndexSet;
-use ne_iter::iter::Source;
+use ne_iter::iter::ItemSource;
 use ne_iter::{Error, FromNonEmptyIterator, IntoNonEmptyIterator, NonEmptyIterator, Singleton};
 use std::alloc::{AllocError, Global};
 use std::fmt;
@@ -108,7 +108,7 @@ fn collected<
     requires { (source : I.IntoNEIter) → I.into_nonempty_iter_gives iter source
         → IsFiniteIterable I.IntoNEIter.into_iter_gives I.IntoNEIter.IntoIter.can_next
         I.IntoNEIter.IntoIter.remaining source }
-    ensures { IfOk result (λ s. (items : List T) × ⟦<I as Source>⟧.reads true iter items
+    ensures { IfOk result (λ s. (items : List T) × ⟦<I as ItemSource>⟧.reads true iter items
         × (IsKeyListSetOf T.eq items s.keys × (0 < index_set_len s))) }
 {
     iter.into_nonempty_iter().into_iter().collect(alloc)

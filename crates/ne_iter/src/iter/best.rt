@@ -8,7 +8,7 @@ ghost use Rattle.ne_iter.specs.Consumers.{CallableOnTwo, KeepsBetter};
 ghost use Rattle.ne_iter.specs.Calls.{CallsEachAt};
 
 use super::NonEmptyIterator;
-use super::sources::Source;
+use super::sources::ItemSource;
 
 /// Returns the item that is kept: the first one, until `better` returns `true` for a later one,
 /// which then replaces it.
@@ -20,11 +20,11 @@ pub(super) fn best<S: NonEmptyIterator, F: Fn(&S::Item, &S::Item) -> bool>(
 ) -> S::Item
 where
     S::Item: Drop,
-    requires ends { ⟦<S as Source>⟧.ends source }
+    requires ends { ⟦<S as ItemSource>⟧.ends source }
     requires callable { (it : S.IntoIter) → S.into_iter_gives source it
         → CallableOnTwo S.IntoIter.next_gives F.Fn it better }
     ensures { (x : S.Item) × (xs : List S.Item)
-        × ⟦<S as Source>⟧.reads true source (x ∷ xs)
+        × ⟦<S as ItemSource>⟧.reads true source (x ∷ xs)
         × FoldsTo (KeepsBetter (λ y. y) F.Fn better) x xs result }
 {
     let (first, rest) = source.next();
@@ -48,12 +48,12 @@ pub(super) fn best_by_key<
 >(source: S, mut key: F, better: G) -> S::Item
 where
     S::Item: Drop,
-    requires ends { ⟦<S as Source>⟧.ends source }
+    requires ends { ⟦<S as ItemSource>⟧.ends source }
     requires keyed { (it : S.IntoIter) → S.into_iter_gives source it
         → CallableOnAllAt S.IntoIter.next_gives F.FnMut it key }
     requires callable { G.IsAlwaysCallable better }
     ensures { (p : S.Item × B) × (ps : List (S.Item × B)) × (k : B) × (g : F)
-        × ⟦<S as Source>⟧.reads true source (map (λ q. q.0) (p ∷ ps))
+        × ⟦<S as ItemSource>⟧.reads true source (map (λ q. q.0) (p ∷ ps))
         × CallsEachAt F.FnMut key (p ∷ ps) g
         × FoldsTo (KeepsBetter (λ q. q.1) G.Fn better) p ps (result, k) }
 {

@@ -1,7 +1,7 @@
 //! The adapter that appends the items of a second source.
 ghost use Rattle.ne_iter.specs.Chain.{chain_first, chain_second};
 
-use super::{NonEmptyIterator, Source};
+use super::{ItemSource, NonEmptyIterator};
 use std::iter;
 
 /// A source of the items of two sources, one after the other: see [`NonEmptyIterator::chain`].
@@ -45,7 +45,7 @@ impl<A: NonEmptyIterator, B: IntoIterator<Item = A::Item>> NonEmptyIterator for 
 
 /// `chain` ends if both its sources do.
 pub fn chain_ends<S: IntoIterator, U: IntoIterator<Item = S::Item>>()
-    ensures { (chained : _) → ⟦<S as Source>⟧.ends (chain_first chained)
-        → ⟦<U as Source>⟧.ends (chain_second chained)
-        → ⟦<Chain<S, U> as Source>⟧.ends chained }
+    ensures { (chained : _) → ⟦<S as ItemSource>⟧.ends (chain_first chained)
+        → ⟦<U as ItemSource>⟧.ends (chain_second chained)
+        → ⟦<Chain<S, U> as ItemSource>⟧.ends chained }
 {}

@@ -1,7 +1,7 @@
 //! The adapter over references that clones the referenced items.
 ghost use Rattle.ne_iter.specs.Cloned.{cloned_source};
 
-use super::{NonEmptyIterator, Source};
+use super::{ItemSource, NonEmptyIterator};
 use std::alloc::AllocError;
 
 /// A source of clones of the items that a source references: see [`NonEmptyIterator::cloned`].
@@ -70,6 +70,6 @@ impl<'a, T: Clone + 'a, I: Iterator<Item = &'a T>> Iterator for ClonedIter<I> {
 
 /// `cloned` ends if its source does.
 pub fn cloned_ends<'a, T: Clone + 'a, S: IntoIterator<Item = &'a T>>()
-    ensures { (cloned : _) → ⟦<S as Source>⟧.ends (cloned_source cloned)
-        → ⟦<Cloned<S> as Source>⟧.ends cloned }
+    ensures { (cloned : _) → ⟦<S as ItemSource>⟧.ends (cloned_source cloned)
+        → ⟦<Cloned<S> as ItemSource>⟧.ends cloned }
 {}

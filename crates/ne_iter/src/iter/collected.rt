@@ -8,7 +8,7 @@ ghost use Rattle.ne_iter.specs.Collected.{PrefixMakes, ResultsMake};
 
 mod texts;
 
-use super::{IntoNonEmptyIterator, NonEmptyIterator, Source};
+use super::{IntoNonEmptyIterator, ItemSource, NonEmptyIterator};
 use ne_vec::NEVec;
 use std::alloc::{AllocError, Global};
 use std::mem;
@@ -43,7 +43,7 @@ pub trait FromNonEmptyIterator<T>: Sized {
             → IsFiniteIterable I.IntoNEIter.into_iter_gives I.IntoNEIter.IntoIter.can_next
             I.IntoNEIter.IntoIter.remaining source }
         ensures { IfOk result (λ c. (xs : List T)
-            × ⟦<I as Source>⟧.reads (is_complete c) iter xs × collected xs c) };
+            × ⟦<I as ItemSource>⟧.reads (is_complete c) iter xs × collected xs c) };
 
     /// Collects the items of a vector, which must have one, and leaves it empty. If vectors are
     /// collected, they keep its memory, and nothing is allocated. The Rust crate lacks this method.
@@ -62,10 +62,8 @@ pub trait FromNonEmptyIterator<T>: Sized {
         ensures made { IfOk result (PrefixMakes collected is_complete items.old.items) }
         ensures drained { items.new.items ≡ [] }
     {
-        match NEVec::try_from_vec(mem::replace(items, Vec::new(alloc))) {
-            Some(items) => Self::from_nonempty_iter(alloc, items),
-            None => unreachable!(),
-        }
+        let items = NEVec::try_from_vec(mem::replace(items, Vec::new(alloc))).unwrap();
+        Self::from_nonempty_iter(alloc, items)
     }
 }
 

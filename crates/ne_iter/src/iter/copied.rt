@@ -1,7 +1,7 @@
 //! The adapter over references that copies the referenced items.
 ghost use Rattle.ne_iter.specs.Copied.{copied_source};
 
-use super::{NonEmptyIterator, Source};
+use super::{ItemSource, NonEmptyIterator};
 use std::iter;
 
 /// A source of copies of the items that a source references: see [`NonEmptyIterator::copied`].
@@ -37,6 +37,6 @@ impl<'a, T: Copy + 'a, I: NonEmptyIterator<Item = &'a T>> NonEmptyIterator for C
 
 /// `copied` ends if its source does.
 pub fn copied_ends<'a, T: Copy + 'a, S: IntoIterator<Item = &'a T>>()
-    ensures { (copied : _) → ⟦<S as Source>⟧.ends (copied_source copied)
-        → ⟦<Copied<S> as Source>⟧.ends copied }
+    ensures { (copied : _) → ⟦<S as ItemSource>⟧.ends (copied_source copied)
+        → ⟦<Copied<S> as ItemSource>⟧.ends copied }
 {}

@@ -2,7 +2,7 @@
 ghost use Rattle.std.specs.Iterator.Runs.{CountFits};
 ghost use Rattle.ne_iter.specs.Enumerate.{enumerate_source};
 
-use super::{NonEmptyIterator, Source};
+use super::{ItemSource, NonEmptyIterator};
 use std::iter;
 
 /// A source of the items of a source with their indices: see [`NonEmptyIterator::enumerate`].
@@ -43,8 +43,8 @@ impl<I: NonEmptyIterator> NonEmptyIterator for Enumerate<I> {
 
 /// `enumerate` ends if its source does and the indices fit in a `usize`.
 pub fn enumerate_ends<S: IntoIterator>()
-    ensures { (numbered : _) → ⟦<S as Source>⟧.ends (enumerate_source numbered)
+    ensures { (numbered : _) → ⟦<S as ItemSource>⟧.ends (enumerate_source numbered)
         → ((it : S.IntoIter) → S.into_iter_gives (enumerate_source numbered) it
         → CountFits S.IntoIter.next_gives S.IntoIter.remaining 0 it)
-        → ⟦<Enumerate<S> as Source>⟧.ends numbered }
+        → ⟦<Enumerate<S> as ItemSource>⟧.ends numbered }
 {}

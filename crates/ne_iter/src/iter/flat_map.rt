@@ -7,7 +7,7 @@ ghost use Rattle.std.specs.Iterator.Adapters.{map_source as std_map_source};
 ghost use Rattle.std.specs.Iterator.Adapters.{map_callee as std_map_callee};
 ghost use Rattle.ne_iter.specs.FlatMap.{flat_map_source, flat_map_callee};
 
-use super::{IntoNonEmptyIterator, NonEmptyIterator, Source};
+use super::{IntoNonEmptyIterator, ItemSource, NonEmptyIterator};
 use std::iter;
 use std::marker::PhantomData;
 
@@ -65,12 +65,12 @@ impl<U: IntoNonEmptyIterator, I: NonEmptyIterator, F: FnMut(I::Item) -> U> NonEm
 /// `flat_map` ends if its source does, its closure can be called with each item that comes, and the
 /// sources that it returns for them end.
 pub fn flat_map_ends<S: IntoIterator, U: IntoNonEmptyIterator, F: FnMut(S::Item) -> U>()
-    ensures { (spread : _) → ⟦<S as Source>⟧.ends (flat_map_source spread)
+    ensures { (spread : _) → ⟦<S as ItemSource>⟧.ends (flat_map_source spread)
         → ((it : S.IntoIter) → S.into_iter_gives (flat_map_source spread) it
         → CallableOnAll S.IntoIter.next_gives F.FnMut it (flat_map_callee spread))
         → ((mapped : _) → S.into_iter_gives (flat_map_source spread) (std_map_source mapped)
         → std_map_callee mapped ≡ flat_map_callee spread
         → InnersAreFinite (⟦<iter::Map<S::IntoIter, F> as Iterator>⟧.next_gives)
         U.into_iter_gives U.IntoIter.can_next U.IntoIter.remaining mapped)
-        → ⟦<FlatMap<S, U, F> as Source>⟧.ends spread }
+        → ⟦<FlatMap<S, U, F> as ItemSource>⟧.ends spread }
 {}

@@ -3,7 +3,7 @@
 ghost use Rattle.std.specs.Iterator.Adapters.{InnersAreFinite};
 ghost use Rattle.ne_iter.specs.Flatten.{flatten_source};
 
-use super::{IntoNonEmptyIterator, NonEmptyIterator, Source};
+use super::{IntoNonEmptyIterator, ItemSource, NonEmptyIterator};
 use std::iter;
 
 /// A source of the items of a source's items, which are sources: see [`NonEmptyIterator::flatten`].
@@ -46,9 +46,9 @@ impl<U: IntoNonEmptyIterator, I: NonEmptyIterator<Item = U>> NonEmptyIterator fo
 
 /// `flatten` ends if its source does and so do the inner sources that come.
 pub fn flatten_ends<U: IntoNonEmptyIterator, S: IntoIterator<Item = U>>()
-    ensures { (flat : _) → ⟦<S as Source>⟧.ends (flatten_source flat)
+    ensures { (flat : _) → ⟦<S as ItemSource>⟧.ends (flatten_source flat)
         → ((it : S.IntoIter) → S.into_iter_gives (flatten_source flat) it
         → InnersAreFinite S.IntoIter.next_gives U.into_iter_gives U.IntoIter.can_next
         U.IntoIter.remaining it)
-        → ⟦<Flatten<S> as Source>⟧.ends flat }
+        → ⟦<Flatten<S> as ItemSource>⟧.ends flat }
 {}

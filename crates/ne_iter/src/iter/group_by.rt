@@ -1,9 +1,9 @@
 //! The adapter that divides the items of a source into runs of equal keys.
 ghost use Rattle.std.specs.Iterator.{CallableOnAllAt};
-ghost use Rattle.ne_iter.specs.GroupingRuns.{CanRead, GivesRun, GroupsRuns, runs_left};
+ghost use Rattle.ne_iter.specs.GroupingRuns.{CanRead, GivesRun, GroupsRuns, IsUnread, runs_left};
 ghost use Rattle.ne_iter.specs.GroupBy.{group_by_source, group_by_callee};
 
-use super::{NonEmptyIterator, Source};
+use super::{ItemSource, NonEmptyIterator};
 use crate::laws::runs_by_a_function;
 use ne_vec::{NEVec, laws};
 use std::alloc::{AllocError, Global};
@@ -24,7 +24,6 @@ where
     I::Item: Drop,
 {
     ghost use Rattle.std.specs.Prelude.{◌≡◌};
-    ghost use Rattle.ne_iter.specs.Grouping.{Unread};
     ghost use Rattle.ne_iter.specs.GroupBy.{group_by_source, group_by_callee};
 
     type Item = Result<NEVec<I::Item>, AllocError>;
@@ -32,7 +31,7 @@ where
     type IntoIter = GroupBy<I::IntoIter, K, I::Item, F>;
 
     ghost into_iter_gives = { λ s g. I.into_iter_gives (group_by_source s) g.source
-        × (g.closure ≡ group_by_callee s) × (g.ahead ≡ Unread)
+        × (g.closure ≡ group_by_callee s) × IsUnread g
         × GroupsRuns I.IntoIter.next_gives F.FnMut K.eq g };
 
     fn into_iter(self) -> GroupBy<I::IntoIter, K, I::Item, F> {
@@ -83,11 +82,10 @@ enum State<K, V> {
 
 impl<I, K, V, F> Model for GroupBy<I, K, V, F> {
     ghost use Rattle.ne_iter.specs.Grouping.{Grouping};
-    ghost use Rattle.ne_iter.specs.HeldItems.{ahead_of};
 
     ghost Value = { Grouping I K V F };
 
-    ghost view = { λ g. record { source = g.iter; closure = g.key; ahead = ahead_of g.state } };
+    ghost view = { λ g. record { source = g.iter; closure = g.key; state = g.state } };
 }
 
 impl<I: Iterator, K: PartialEq + Drop, F: FnMut(&I::Item) -> K + Drop> Iterator
@@ -136,8 +134,8 @@ where
 pub fn group_by_ends<K: PartialEq + Drop, S: IntoIterator, F: FnMut(&S::Item) -> K + Drop>()
 where
     S::Item: Drop,
-    ensures { (grouped : _) → ⟦<S as Source>⟧.ends (group_by_source grouped)
+    ensures { (grouped : _) → ⟦<S as ItemSource>⟧.ends (group_by_source grouped)
         → ((it : S.IntoIter) → S.into_iter_gives (group_by_source grouped) it
         → CallableOnAllAt S.IntoIter.next_gives F.FnMut it (group_by_callee grouped))
-        → ⟦<NEGroupBy<S, F> as Source>⟧.ends grouped }
+        → ⟦<NEGroupBy<S, F> as ItemSource>⟧.ends grouped }
 {}

@@ -2,7 +2,7 @@
 ghost use Rattle.std.specs.Iterator.{CallableOnAll};
 ghost use Rattle.ne_iter.specs.Map.{map_source, map_callee};
 
-use super::{NonEmptyIterator, Source};
+use super::{ItemSource, NonEmptyIterator};
 use std::iter;
 
 /// A source of what a closure returns for the items of a source: see [`NonEmptyIterator::map`].
@@ -41,8 +41,8 @@ impl<U, I: NonEmptyIterator, F: FnMut(I::Item) -> U> NonEmptyIterator for Map<I,
 
 /// `map` ends if its source does and its closure can be called with each item.
 pub fn map_ends<S: IntoIterator, B, F: FnMut(S::Item) -> B>()
-    ensures { (mapped : _) → ⟦<S as Source>⟧.ends (map_source mapped)
+    ensures { (mapped : _) → ⟦<S as ItemSource>⟧.ends (map_source mapped)
         → ((it : S.IntoIter) → S.into_iter_gives (map_source mapped) it
         → CallableOnAll S.IntoIter.next_gives F.FnMut it (map_callee mapped))
-        → ⟦<Map<S, F> as Source>⟧.ends mapped }
+        → ⟦<Map<S, F> as ItemSource>⟧.ends mapped }
 {}

@@ -64,7 +64,7 @@ ghost use Rattle.ne_iter.specs.Peekable.{peekable_first, peekable_rest, Peekable
 
 use super::best::{best, best_by_key};
 use super::collected::FromNonEmptyIterator;
-use super::sources::{IntoNonEmptyIterator, Source};
+use super::sources::{IntoNonEmptyIterator, ItemSource};
 use super::{
     Chain, Cloned, Copied, Enumerate, FlatMap, Flatten, GroupBy, Intersperse, Map, NEGroupBy,
     Peekable, Scan, Take, Zip,
@@ -108,17 +108,15 @@ pub trait NonEmptyIterator: IntoIterator {
     fn next(self) -> (Self::Item, Self::IntoIter)
     where
         Self: Sized,
-        requires { ⟦<Self as Source>⟧.starts self }
+        requires { ⟦<Self as ItemSource>⟧.starts self }
         ensures first { DrawsFirst Self.into_iter_gives Self.IntoIter.next_gives
             Self.IntoIter.can_next Self.IntoIter.remaining self result.0 result.1 }
-        ensures lists { BeginsList (⟦<Self as Source>⟧.lists itself) Self.IntoIter.next_gives
+        ensures lists { BeginsList (⟦<Self as ItemSource>⟧.lists itself) Self.IntoIter.next_gives
             self result.0 result.1 }
     {
         let mut it = self.into_iter();
-        match it.next() {
-            Some(x) => (x, it),
-            None => unreachable!(),
-        }
+        let first = it.next().unwrap();
+        (first, it)
     }
 
     /// Returns a source of the same items whose first item can be read and changed. The first item
@@ -132,14 +130,14 @@ pub trait NonEmptyIterator: IntoIterator {
     where
         Self: Sized,
         Self::Item: Drop,
-        requires { ⟦<Self as Source>⟧.starts self }
+        requires { ⟦<Self as ItemSource>⟧.starts self }
         ensures drawn { DrawsFirst Self.into_iter_gives Self.IntoIter.next_gives
             Self.IntoIter.can_next Self.IntoIter.remaining self
             (peekable_first result) (peekable_rest result) }
-        ensures gives { PeekableGives (⟦<Self as Source>⟧.reads)
-            (⟦<Peekable<Self::IntoIter> as Source>⟧.reads) self result }
-        ensures lists { EachList (⟦<Self as Source>⟧.lists itself) self (λ xs.
-            ⟦<Peekable<Self::IntoIter> as Source>⟧.yields_items result xs
+        ensures gives { PeekableGives (⟦<Self as ItemSource>⟧.reads)
+            (⟦<Peekable<Self::IntoIter> as ItemSource>⟧.reads) self result }
+        ensures lists { EachList (⟦<Self as ItemSource>⟧.lists itself) self (λ xs.
+            ⟦<Peekable<Self::IntoIter> as ItemSource>⟧.yields_items result xs
             × YieldsRest Self.IntoIter.next_gives (peekable_rest result) xs) }
     {
         let (first, rest) = self.next();
@@ -155,12 +153,12 @@ pub trait NonEmptyIterator: IntoIterator {
     final fn all<F: FnMut(Self::Item) -> bool>(self, f: F) -> bool
     where
         Self: Sized,
-        requires ends { ⟦<Self as Source>⟧.ends self }
+        requires ends { ⟦<Self as ItemSource>⟧.ends self }
         requires callable { (it : Self.IntoIter) → Self.into_iter_gives self it
             → CallableWhile Self.IntoIter.next_gives F.FnMut true it f }
         ensures gives { Becomes Self.into_iter_gives self (λ it. (t : Self.IntoIter)
             × ChecksAll Self.IntoIter.next_gives F.FnMut it f result t) }
-        ensures lists { EachView item_view (⟦<Self as Source>⟧.lists) self (λ view xs.
+        ensures lists { EachView item_view (⟦<Self as ItemSource>⟧.lists) self (λ view xs.
             (test : view.Target → Bool)
             → ActsAs F.FnMut f (λ x. test (view.of x))
             → result ≡ list_all test xs) }
@@ -179,12 +177,12 @@ pub trait NonEmptyIterator: IntoIterator {
     final fn any<F: FnMut(Self::Item) -> bool>(self, f: F) -> bool
     where
         Self: Sized,
-        requires ends { ⟦<Self as Source>⟧.ends self }
+        requires ends { ⟦<Self as ItemSource>⟧.ends self }
         requires callable { (it : Self.IntoIter) → Self.into_iter_gives self it
             → CallableWhile Self.IntoIter.next_gives F.FnMut false it f }
         ensures gives { Becomes Self.into_iter_gives self (λ it. (t : Self.IntoIter)
             × ChecksAny Self.IntoIter.next_gives F.FnMut it f result t) }
-        ensures lists { EachView item_view (⟦<Self as Source>⟧.lists) self (λ view xs.
+        ensures lists { EachView item_view (⟦<Self as ItemSource>⟧.lists) self (λ view xs.
             (test : view.Target → Bool)
             → ActsAs F.FnMut f (λ x. test (view.of x))
             → result ≡ list_any test xs) }
@@ -208,12 +206,12 @@ pub trait NonEmptyIterator: IntoIterator {
     where
         Self: Sized,
         ensures holds { (chain_first result ≡ self) × (chain_second result ≡ other) }
-        ensures gives { EachReading (⟦<Chain<Self, U> as Source>⟧.reads) result
-            (IsChained (⟦<Self as Source>⟧.reads) (⟦<U as Source>⟧.reads) self other) }
-        ensures lists { EachView item_view (⟦<Self as Source>⟧.lists) self (λ view xs.
-            ChainsLists (⟦<U as Source>⟧.lists view)
+        ensures gives { EachReading (⟦<Chain<Self, U> as ItemSource>⟧.reads) result
+            (IsChained (⟦<Self as ItemSource>⟧.reads) (⟦<U as ItemSource>⟧.reads) self other) }
+        ensures lists { EachView item_view (⟦<Self as ItemSource>⟧.lists) self (λ view xs.
+            ChainsLists (⟦<U as ItemSource>⟧.lists view)
             (MeetsList U.into_iter_gives U.IntoIter.next_gives view) other xs
-            (⟦<Chain<Self, U> as Source>⟧.yields_through view result)) }
+            (⟦<Chain<Self, U> as ItemSource>⟧.yields_through view result)) }
     {
         Chain { a: self, b: other }
     }
@@ -232,12 +230,12 @@ pub trait NonEmptyIterator: IntoIterator {
     where
         Self: Sized + IntoIterator<Item = &'a T>,
         ensures holds { cloned_source result ≡ self }
-        ensures gives { EachReading (⟦<Cloned<Self> as Source>⟧.reads) result
-            (IsCloned (⟦<Self as Source>⟧.reads) (TriesClone T.is_clone T.is_infallible) self) }
-        ensures lists { EachList (⟦<Self as Source>⟧.lists referenced) self (λ xs.
+        ensures gives { EachReading (⟦<Cloned<Self> as ItemSource>⟧.reads) result
+            (IsCloned (⟦<Self as ItemSource>⟧.reads) (TriesClone T.is_clone T.is_infallible) self) }
+        ensures lists { EachList (⟦<Self as ItemSource>⟧.lists referenced) self (λ xs.
             ((x : T) → T.is_infallible x) → ((x y : T) → T.is_clone x y → y ≡ x)
             → (values_or_first_err {E = AllocError} (map Ok xs) ≡ Ok xs)
-            × ⟦<Cloned<Self> as Source>⟧.yields_items result (map Ok xs)) }
+            × ⟦<Cloned<Self> as ItemSource>⟧.yields_items result (map Ok xs)) }
     {
         Cloned { iter: self }
     }
@@ -256,10 +254,10 @@ pub trait NonEmptyIterator: IntoIterator {
     ) -> Result<B, AllocError>
     where
         Self: Sized,
-        requires { ⟦<Self as Source>⟧.ends self }
+        requires { ⟦<Self as ItemSource>⟧.ends self }
         ensures gives { IfOk result (λ c. (xs : List Self.Item)
-            × ⟦<Self as Source>⟧.reads (B.is_complete c) self xs × B.collected xs c) }
-        ensures lists { IfOk result (λ c. EachList (⟦<Self as Source>⟧.lists itself) self
+            × ⟦<Self as ItemSource>⟧.reads (B.is_complete c) self xs × B.collected xs c) }
+        ensures lists { IfOk result (λ c. EachList (⟦<Self as ItemSource>⟧.lists itself) self
             (λ xs. PrefixMakes B.collected B.is_complete xs c)) }
         ensures runs { IfOk result (λ c.
             RunsSome Self.into_iter_gives Self.IntoIter.next_gives self (λ p.
@@ -281,10 +279,10 @@ pub trait NonEmptyIterator: IntoIterator {
     where
         Self: Sized + IntoIterator<Item = &'a T>,
         ensures holds { copied_source result ≡ self }
-        ensures gives { EachReading (⟦<Copied<Self> as Source>⟧.reads) result
-            (IsCopied (⟦<Self as Source>⟧.reads) self) }
-        ensures lists { EachList (⟦<Self as Source>⟧.lists referenced) self (λ xs.
-            ⟦<Copied<Self> as Source>⟧.yields_items result xs) }
+        ensures gives { EachReading (⟦<Copied<Self> as ItemSource>⟧.reads) result
+            (IsCopied (⟦<Self as ItemSource>⟧.reads) self) }
+        ensures lists { EachList (⟦<Self as ItemSource>⟧.lists referenced) self (λ xs.
+            ⟦<Copied<Self> as ItemSource>⟧.yields_items result xs) }
     {
         Copied { iter: self }
     }
@@ -301,17 +299,14 @@ pub trait NonEmptyIterator: IntoIterator {
         requires { (it : Self.IntoIter) → Self.into_iter_gives self it → Self.IntoIter.can_next it
             × IsFinite (Self.IntoIter.remaining it)
             × CountFits Self.IntoIter.next_gives Self.IntoIter.remaining 0 it }
-        ensures gives { (xs : List Self.Item) × ⟦<Self as Source>⟧.reads true self xs
+        ensures gives { (xs : List Self.Item) × ⟦<Self as ItemSource>⟧.reads true self xs
             × (non_zero_usize_get result ≡ length xs) }
-        ensures lists { EachView item_view (⟦<Self as Source>⟧.lists) self (λ view xs.
+        ensures lists { EachView item_view (⟦<Self as ItemSource>⟧.lists) self (λ view xs.
             non_zero_usize_get result ≡ length xs) }
         ensures runs { RunsWhole Self.into_iter_gives Self.IntoIter.next_gives self (λ p.
             non_zero_usize_get result ≡ p.len) }
     {
-        match NonZeroUsize::new(self.into_iter().count()) {
-            Some(n) => n,
-            None => unreachable!(),
-        }
+        NonZeroUsize::new(self.into_iter().count()).unwrap()
     }
 
     /// Returns a source of pairs of an index, from 0, and the item at that index.
@@ -323,11 +318,11 @@ pub trait NonEmptyIterator: IntoIterator {
     where
         Self: Sized,
         ensures holds { enumerate_source result ≡ self }
-        ensures gives { EachReading (⟦<Enumerate<Self> as Source>⟧.reads) result
-            (IsEnumerated (⟦<Self as Source>⟧.reads) self) }
-        ensures lists { NumbersLists item_view (⟦<Self as Source>⟧.lists)
-            (⟦<Enumerate<Self> as Source>⟧.yields_items)
-            (⟦<Enumerate<Self> as Source>⟧.yields_through)
+        ensures gives { EachReading (⟦<Enumerate<Self> as ItemSource>⟧.reads) result
+            (IsEnumerated (⟦<Self as ItemSource>⟧.reads) self) }
+        ensures lists { NumbersLists item_view (⟦<Self as ItemSource>⟧.lists)
+            (⟦<Enumerate<Self> as ItemSource>⟧.yields_items)
+            (⟦<Enumerate<Self> as ItemSource>⟧.yields_through)
             (⟦<Enumerate<Self> as IntoIterator>⟧.into_iter_gives)
             (enumerate_steps Self.IntoIter.next_gives) self result }
     {
@@ -350,9 +345,9 @@ pub trait NonEmptyIterator: IntoIterator {
         Self::Item: Drop,
         ensures holds { Self.into_iter_gives self (filter_source result)
             × (filter_callee result ≡ predicate) }
-        ensures gives { EachReading (⟦<iter::Filter<Self::IntoIter, P> as Source>⟧.reads) result
-            (IsFiltered (⟦<Self as Source>⟧.reads) P.FnMut self predicate) }
-        ensures lists { EachKept item_view (⟦<Self as Source>⟧.lists) self
+        ensures gives { EachReading (⟦<iter::Filter<Self::IntoIter, P> as ItemSource>⟧.reads) result
+            (IsFiltered (⟦<Self as ItemSource>⟧.reads) P.FnMut self predicate) }
+        ensures lists { EachKept item_view (⟦<Self as ItemSource>⟧.lists) self
             (filter_steps Self.IntoIter.next_gives P.FnMut) result (λ view xs gives.
             (test : view.Target → Bool) → ActsAsAt P.FnMut predicate (λ x. test (view.of x))
             → Naming (list_filter test xs) gives) }
@@ -378,9 +373,9 @@ pub trait NonEmptyIterator: IntoIterator {
         Self: Sized,
         ensures holds { Self.into_iter_gives self (filter_map_source result)
             × (filter_map_callee result ≡ f) }
-        ensures gives { EachReading (⟦<iter::FilterMap<Self::IntoIter, F> as Source>⟧.reads) result
-            (IsFilterMapped (⟦<Self as Source>⟧.reads) F.FnMut self f) }
-        ensures lists { EachView item_view (⟦<Self as Source>⟧.lists) self (λ view xs.
+        ensures gives { EachReading (⟦<iter::FilterMap<Self::IntoIter, F> as ItemSource>⟧.reads) result
+            (IsFilterMapped (⟦<Self as ItemSource>⟧.reads) F.FnMut self f) }
+        ensures lists { EachView item_view (⟦<Self as ItemSource>⟧.lists) self (λ view xs.
             (h : view.Target → Option B) → ActsAs F.FnMut f (λ x. h (view.of x))
             → Naming (list_filter_map h xs) (λ ys.
             YieldsPrefixes (filter_map_steps Self.IntoIter.next_gives F.FnMut) ys result)) }
@@ -401,12 +396,12 @@ pub trait NonEmptyIterator: IntoIterator {
     where
         Self: Sized,
         Self::Item: Drop,
-        requires ends { ⟦<Self as Source>⟧.ends self }
+        requires ends { ⟦<Self as ItemSource>⟧.ends self }
         requires callable { (it : Self.IntoIter) → Self.into_iter_gives self it
             → CallableWhileAt Self.IntoIter.next_gives P.FnMut false it predicate }
         ensures gives { Becomes Self.into_iter_gives self (λ it. (t : Self.IntoIter)
             × FindsItem Self.IntoIter.next_gives P.FnMut it predicate result t) }
-        ensures lists { EachView item_view (⟦<Self as Source>⟧.lists) self (λ view xs.
+        ensures lists { EachView item_view (⟦<Self as ItemSource>⟧.lists) self (λ view xs.
             (test : view.Target → Bool)
             → ActsAsAt P.FnMut predicate (λ x. test (view.of x))
             → option_map view.of result ≡ list_find test xs) }
@@ -436,12 +431,12 @@ pub trait NonEmptyIterator: IntoIterator {
     where
         Self: Sized,
         ensures holds { (flat_map_source result ≡ self) × (flat_map_callee result ≡ f) }
-        ensures gives { EachReading (⟦<FlatMap<Self, U, F> as Source>⟧.reads) result
-            (IsFlatMapped (⟦<Self as Source>⟧.reads) (⟦<U as Source>⟧.reads) F.FnMut self f) }
-        ensures lists { SpreadsLists F.FnMut f (⟦<Self as Source>⟧.lists itself)
+        ensures gives { EachReading (⟦<FlatMap<Self, U, F> as ItemSource>⟧.reads) result
+            (IsFlatMapped (⟦<Self as ItemSource>⟧.reads) (⟦<U as ItemSource>⟧.reads) F.FnMut self f) }
+        ensures lists { SpreadsLists F.FnMut f (⟦<Self as ItemSource>⟧.lists itself)
             (BecomesList U.into_nonempty_iter_gives U.IntoNEIter.into_iter_gives
             U.IntoNEIter.IntoIter.next_gives itself)
-            (⟦<FlatMap<Self, U, F> as Source>⟧.yields_items) self result }
+            (⟦<FlatMap<Self, U, F> as ItemSource>⟧.yields_items) self result }
     {
         FlatMap {
             iter: self,
@@ -466,12 +461,12 @@ pub trait NonEmptyIterator: IntoIterator {
         Self: Sized,
         Self::Item: IntoNonEmptyIterator,
         ensures holds { flatten_source result ≡ self }
-        ensures gives { EachReading (⟦<Flatten<Self> as Source>⟧.reads) result
-            (IsFlattened (⟦<Self as Source>⟧.reads) (⟦<Self::Item as Source>⟧.reads) self) }
-        ensures lists { FlattensLists (⟦<Self as Source>⟧.lists itself)
+        ensures gives { EachReading (⟦<Flatten<Self> as ItemSource>⟧.reads) result
+            (IsFlattened (⟦<Self as ItemSource>⟧.reads) (⟦<Self::Item as ItemSource>⟧.reads) self) }
+        ensures lists { FlattensLists (⟦<Self as ItemSource>⟧.lists itself)
             (BecomesList Self.Item.into_nonempty_iter_gives Self.Item.IntoNEIter.into_iter_gives
             Self.Item.IntoNEIter.IntoIter.next_gives itself)
-            (⟦<Flatten<Self> as Source>⟧.yields_items) self result }
+            (⟦<Flatten<Self> as ItemSource>⟧.yields_items) self result }
     {
         Flatten { iter: self }
     }
@@ -486,12 +481,12 @@ pub trait NonEmptyIterator: IntoIterator {
     final fn fold<B, F: FnMut(B, Self::Item) -> B>(self, init: B, f: F) -> B
     where
         Self: Sized,
-        requires ends { ⟦<Self as Source>⟧.ends self }
+        requires ends { ⟦<Self as ItemSource>⟧.ends self }
         requires callable { (it : Self.IntoIter) → Self.into_iter_gives self it
             → CallableInFold Self.IntoIter.next_gives F.FnMut it f init }
         ensures gives { Becomes Self.into_iter_gives self
             (λ it. FoldsItems Self.IntoIter.next_gives F.FnMut it f init result) }
-        ensures lists { EachView item_view (⟦<Self as Source>⟧.lists) self (λ view xs.
+        ensures lists { EachView item_view (⟦<Self as ItemSource>⟧.lists) self (λ view xs.
             (h : B → view.Target → B)
             → ActsAsOnTwo F.FnMut f (λ total x. h total (view.of x))
             → result ≡ list_fold h init xs) }
@@ -529,12 +524,12 @@ pub trait NonEmptyIterator: IntoIterator {
         Self: Sized,
         Self::Item: Drop,
         ensures holds { (group_by_source result ≡ self) × (group_by_callee result ≡ f) }
-        ensures ends { ⟦<Self as Source>⟧.ends self
+        ensures ends { ⟦<Self as ItemSource>⟧.ends self
             → ((it : Self.IntoIter) → Self.into_iter_gives self it
             → CallableOnAllAt Self.IntoIter.next_gives F.FnMut it f)
-            → ⟦<NEGroupBy<Self, F> as Source>⟧.ends result }
-        ensures gives { GroupByGives (⟦<Self as Source>⟧.reads) F.FnMut K.eq
-            (⟦<NEGroupBy<Self, F> as Source>⟧.reads) self f result }
+            → ⟦<NEGroupBy<Self, F> as ItemSource>⟧.ends result }
+        ensures gives { GroupByGives (⟦<Self as ItemSource>⟧.reads) F.FnMut K.eq
+            (⟦<NEGroupBy<Self, F> as ItemSource>⟧.reads) self f result }
     {
         NEGroupBy {
             iter: self,
@@ -559,17 +554,17 @@ pub trait NonEmptyIterator: IntoIterator {
     where
         Self: Sized,
         Self::Item: Clone + Drop,
-        requires { ⟦<Self as Source>⟧.starts self }
+        requires { ⟦<Self as ItemSource>⟧.starts self }
         ensures holds { (intersperse_separator result ≡ separator)
             × DrawsFirst Self.into_iter_gives Self.IntoIter.next_gives Self.IntoIter.can_next
             Self.IntoIter.remaining self (intersperse_first result) (intersperse_rest result) }
-        ensures gives { EachReading (⟦<Intersperse<Self::IntoIter> as Source>⟧.reads) result
-            (IsInterspersed (⟦<Self as Source>⟧.reads) (TriesClone Self.Item.is_clone
+        ensures gives { EachReading (⟦<Intersperse<Self::IntoIter> as ItemSource>⟧.reads) result
+            (IsInterspersed (⟦<Self as ItemSource>⟧.reads) (TriesClone Self.Item.is_clone
             Self.Item.is_infallible) self separator) }
-        ensures lists { EachList (⟦<Self as Source>⟧.lists itself) self (λ xs.
+        ensures lists { EachList (⟦<Self as ItemSource>⟧.lists itself) self (λ xs.
             (Self.Item.is_infallible separator
             → ((y : Self.Item) → Self.Item.is_clone separator y → y ≡ separator)
-            → ⟦<Intersperse<Self::IntoIter> as Source>⟧.yields_items result
+            → ⟦<Intersperse<Self::IntoIter> as ItemSource>⟧.yields_items result
             (map Ok (interspersed separator xs)))
             × JoinsLists separator xs × OnlyItsValues AllocError separator xs) }
         ensures runs { Becomes Self.into_iter_gives self (BeginsRuns Self.IntoIter.next_gives
@@ -593,11 +588,11 @@ pub trait NonEmptyIterator: IntoIterator {
     where
         Self: Sized,
         ensures holds { (map_source result ≡ self) × (map_callee result ≡ f) }
-        ensures gives { EachReading (⟦<Map<Self, F> as Source>⟧.reads) result
-            (IsMapped (⟦<Self as Source>⟧.reads) F.FnMut self f) }
-        ensures lists { EachView item_view (⟦<Self as Source>⟧.lists) self (λ view xs.
+        ensures gives { EachReading (⟦<Map<Self, F> as ItemSource>⟧.reads) result
+            (IsMapped (⟦<Self as ItemSource>⟧.reads) F.FnMut self f) }
+        ensures lists { EachView item_view (⟦<Self as ItemSource>⟧.lists) self (λ view xs.
             (h : view.Target → U) → ActsAs F.FnMut f (λ x. h (view.of x))
-            → Naming (map h xs) (⟦<Map<Self, F> as Source>⟧.yields_items result)) }
+            → Naming (map h xs) (⟦<Map<Self, F> as ItemSource>⟧.yields_items result)) }
     {
         Map { iter: self, f }
     }
@@ -612,10 +607,10 @@ pub trait NonEmptyIterator: IntoIterator {
     where
         Self: Sized,
         Self::Item: Ord + Drop,
-        requires { ⟦<Self as Source>⟧.ends self }
-        ensures gives { (xs : List Self.Item) × ⟦<Self as Source>⟧.reads true self xs
+        requires { ⟦<Self as ItemSource>⟧.ends self }
+        ensures gives { (xs : List Self.Item) × ⟦<Self as ItemSource>⟧.reads true self xs
             × IsFirstGreatest (less_by Self.Item.cmp) xs result }
-        ensures lists { EachList (⟦<Self as Source>⟧.lists itself) self (λ xs.
+        ensures lists { EachList (⟦<Self as ItemSource>⟧.lists itself) self (λ xs.
             IsBestOfList (λ x m. less_by Self.Item.cmp m x) xs result) }
         ensures runs { RunsWhole Self.into_iter_gives Self.IntoIter.next_gives self (λ p.
             IsBestOfRun p (λ x m. less_by Self.Item.cmp m x) result) }
@@ -638,12 +633,12 @@ pub trait NonEmptyIterator: IntoIterator {
     where
         Self: Sized,
         Self::Item: Drop,
-        requires ends { ⟦<Self as Source>⟧.ends self }
+        requires ends { ⟦<Self as ItemSource>⟧.ends self }
         requires callable { (it : Self.IntoIter) → Self.into_iter_gives self it
             → CallableOnTwo Self.IntoIter.next_gives F.Fn it compare }
-        ensures gives { (xs : List Self.Item) × ⟦<Self as Source>⟧.reads true self xs
+        ensures gives { (xs : List Self.Item) × ⟦<Self as ItemSource>⟧.reads true self xs
             × PicksGreatest F.Fn compare itself xs result }
-        ensures lists { EachView item_view (⟦<Self as Source>⟧.lists) self (λ view xs.
+        ensures lists { EachView item_view (⟦<Self as ItemSource>⟧.lists) self (λ view xs.
             PicksGreatest F.Fn compare view xs result) }
     {
         best(
@@ -665,12 +660,12 @@ pub trait NonEmptyIterator: IntoIterator {
     where
         Self: Sized,
         Self::Item: Drop,
-        requires ends { ⟦<Self as Source>⟧.ends self }
+        requires ends { ⟦<Self as ItemSource>⟧.ends self }
         requires callable { (it : Self.IntoIter) → Self.into_iter_gives self it
             → CallableOnAllAt Self.IntoIter.next_gives F.FnMut it key }
-        ensures gives { PicksGreatestKey (⟦<Self as Source>⟧.reads) F.FnMut B.cmp
+        ensures gives { PicksGreatestKey (⟦<Self as ItemSource>⟧.reads) F.FnMut B.cmp
             self key result }
-        ensures lists { EachView item_view (⟦<Self as Source>⟧.lists) self (λ view xs.
+        ensures lists { EachView item_view (⟦<Self as ItemSource>⟧.lists) self (λ view xs.
             HasBestKey F.FnMut key view result (λ j k. less_by B.cmp k j) xs) }
         ensures runs { RunsWhole Self.into_iter_gives Self.IntoIter.next_gives self (λ p.
             AnyItem p (λ x. x ≡ result)
@@ -688,10 +683,10 @@ pub trait NonEmptyIterator: IntoIterator {
     where
         Self: Sized,
         Self::Item: Ord + Drop,
-        requires { ⟦<Self as Source>⟧.ends self }
-        ensures gives { (xs : List Self.Item) × ⟦<Self as Source>⟧.reads true self xs
+        requires { ⟦<Self as ItemSource>⟧.ends self }
+        ensures gives { (xs : List Self.Item) × ⟦<Self as ItemSource>⟧.reads true self xs
             × IsFirstLeast (less_by Self.Item.cmp) xs result }
-        ensures lists { EachList (⟦<Self as Source>⟧.lists itself) self (λ xs.
+        ensures lists { EachList (⟦<Self as ItemSource>⟧.lists itself) self (λ xs.
             IsBestOfList (less_by Self.Item.cmp) xs result) }
         ensures runs { RunsWhole Self.into_iter_gives Self.IntoIter.next_gives self (λ p.
             IsBestOfRun p (less_by Self.Item.cmp) result) }
@@ -713,12 +708,12 @@ pub trait NonEmptyIterator: IntoIterator {
     where
         Self: Sized,
         Self::Item: Drop,
-        requires ends { ⟦<Self as Source>⟧.ends self }
+        requires ends { ⟦<Self as ItemSource>⟧.ends self }
         requires callable { (it : Self.IntoIter) → Self.into_iter_gives self it
             → CallableOnTwo Self.IntoIter.next_gives F.Fn it compare }
-        ensures gives { (xs : List Self.Item) × ⟦<Self as Source>⟧.reads true self xs
+        ensures gives { (xs : List Self.Item) × ⟦<Self as ItemSource>⟧.reads true self xs
             × PicksLeast F.Fn compare itself xs result }
-        ensures lists { EachView item_view (⟦<Self as Source>⟧.lists) self (λ view xs.
+        ensures lists { EachView item_view (⟦<Self as ItemSource>⟧.lists) self (λ view xs.
             PicksLeast F.Fn compare view xs result) }
     {
         best(
@@ -740,12 +735,12 @@ pub trait NonEmptyIterator: IntoIterator {
     where
         Self: Sized,
         Self::Item: Drop,
-        requires ends { ⟦<Self as Source>⟧.ends self }
+        requires ends { ⟦<Self as ItemSource>⟧.ends self }
         requires callable { (it : Self.IntoIter) → Self.into_iter_gives self it
             → CallableOnAllAt Self.IntoIter.next_gives F.FnMut it key }
-        ensures gives { PicksLeastKey (⟦<Self as Source>⟧.reads) F.FnMut B.cmp
+        ensures gives { PicksLeastKey (⟦<Self as ItemSource>⟧.reads) F.FnMut B.cmp
             self key result }
-        ensures lists { EachView item_view (⟦<Self as Source>⟧.lists) self (λ view xs.
+        ensures lists { EachView item_view (⟦<Self as ItemSource>⟧.lists) self (λ view xs.
             HasBestKey F.FnMut key view result (less_by B.cmp) xs) }
         ensures runs { RunsWhole Self.into_iter_gives Self.IntoIter.next_gives self (λ p.
             AnyItem p (λ x. x ≡ result)
@@ -773,16 +768,16 @@ pub trait NonEmptyIterator: IntoIterator {
     where
         Self: Sized,
         Self::Item: Drop,
-        requires ends { ⟦<Self as Source>⟧.ends self }
+        requires ends { ⟦<Self as ItemSource>⟧.ends self }
         requires callable { F.IsAlwaysCallable f }
         ensures gives { IfOk result (λ ys. (xs : List Self.Item)
-            × ⟦<Self as Source>⟧.reads true self xs × IsPermutation xs ys
+            × ⟦<Self as ItemSource>⟧.reads true self xs × IsPermutation xs ys
             × IsSortedByKeyClosure F.FnMut K.cmp f ys
             × IsStableByKeyClosure F.FnMut K.cmp f xs ys) }
         ensures lists { IfOk result (λ ys. ListsItemsByValue Global ys ys
             × AscendsByKey F.FnMut f K.cmp itself ys
             × OnFalse item_view.is_itself (AscendsByKey F.FnMut f K.cmp item_view ys)
-            × EachView item_view (⟦<Self as Source>⟧.lists) self (λ view xs.
+            × EachView item_view (⟦<Self as ItemSource>⟧.lists) self (λ view xs.
             PermutesByKey F.FnMut f K.eq view xs ys)) }
     {
         let mut items: NEVec<Self::Item> = self.collect(alloc)?;
@@ -801,10 +796,10 @@ pub trait NonEmptyIterator: IntoIterator {
     where
         Self: Sized,
         Self::Item: Drop,
-        requires { ⟦<Self as Source>⟧.starts self }
+        requires { ⟦<Self as ItemSource>⟧.starts self }
         ensures gives { Becomes Self.into_iter_gives self (λ it. (t : Self.IntoIter)
             × SkipsThenYields Self.IntoIter.next_gives it n result t) }
-        ensures lists { EachView item_view (⟦<Self as Source>⟧.lists) self (λ view xs.
+        ensures lists { EachView item_view (⟦<Self as ItemSource>⟧.lists) self (λ view xs.
             option_map view.of result ≡ slice_get xs n) }
         ensures runs { RunsSome Self.into_iter_gives Self.IntoIter.next_gives self (λ p.
             MatchOption result (IsTrue p.whole × (p.len ≤ n))
@@ -834,18 +829,18 @@ pub trait NonEmptyIterator: IntoIterator {
         Self: Sized,
         ensures holds { (scan_source result ≡ self) × (scan_init result ≡ init)
             × (scan_callee result ≡ f) }
-        ensures ends { ⟦<Self as Source>⟧.ends self
+        ensures ends { ⟦<Self as ItemSource>⟧.ends self
             → ((it : Self.IntoIter) → Self.into_iter_gives self it
             → CallableInScan Self.IntoIter.next_gives F.FnMut it f init)
-            → ⟦<Scan<Self, St, F> as Source>⟧.ends result }
-        ensures gives { EachReading (⟦<Scan<Self, St, F> as Source>⟧.reads) result
-            (IsScanned (⟦<Self as Source>⟧.reads) F.FnMut self init f) }
-        ensures lists { EachView item_view (⟦<Self as Source>⟧.lists) self (λ view xs.
+            → ⟦<Scan<Self, St, F> as ItemSource>⟧.ends result }
+        ensures gives { EachReading (⟦<Scan<Self, St, F> as ItemSource>⟧.reads) result
+            (IsScanned (⟦<Self as ItemSource>⟧.reads) F.FnMut self init f) }
+        ensures lists { EachView item_view (⟦<Self as ItemSource>⟧.lists) self (λ view xs.
             (step : St → view.Target → St) (out : St → view.Target → B)
             → ActsAsWithState F.FnMut f (λ s x. step s (view.of x))
             (λ s x. out s (view.of x))
             → Naming (list_scan step out init xs)
-            (⟦<Scan<Self, St, F> as Source>⟧.yields_items result)) }
+            (⟦<Scan<Self, St, F> as ItemSource>⟧.yields_items result)) }
     {
         Scan {
             iter: self,
@@ -866,9 +861,9 @@ pub trait NonEmptyIterator: IntoIterator {
         Self: Sized,
         Self::Item: Drop,
         ensures holds { Self.into_iter_gives self (skip_source result) × (skip_count result ≡ n) }
-        ensures gives { EachReading (⟦<iter::Skip<Self::IntoIter> as Source>⟧.reads) result
-            (IsSkipped (⟦<Self as Source>⟧.reads) n self) }
-        ensures lists { EachView item_view (⟦<Self as Source>⟧.lists) self (λ view xs.
+        ensures gives { EachReading (⟦<iter::Skip<Self::IntoIter> as ItemSource>⟧.reads) result
+            (IsSkipped (⟦<Self as ItemSource>⟧.reads) n self) }
+        ensures lists { EachView item_view (⟦<Self as ItemSource>⟧.lists) self (λ view xs.
             StdYields (skip_steps Self.IntoIter.next_gives) view (drop n xs) result) }
         ensures runs { Becomes Self.into_iter_gives self (λ it.
             EachRunFrom (skip_steps Self.IntoIter.next_gives) result (λ p.
@@ -893,9 +888,9 @@ pub trait NonEmptyIterator: IntoIterator {
         Self::Item: Drop,
         ensures holds { Self.into_iter_gives self (skip_while_source result)
             × (skip_while_callee result ≡ pred) × (skip_while_done_skipping result ≡ false) }
-        ensures gives { EachReading (⟦<iter::SkipWhile<Self::IntoIter, P> as Source>⟧.reads) result
-            (IsSkippedWhile (⟦<Self as Source>⟧.reads) P.FnMut self pred) }
-        ensures lists { EachKept item_view (⟦<Self as Source>⟧.lists) self
+        ensures gives { EachReading (⟦<iter::SkipWhile<Self::IntoIter, P> as ItemSource>⟧.reads) result
+            (IsSkippedWhile (⟦<Self as ItemSource>⟧.reads) P.FnMut self pred) }
+        ensures lists { EachKept item_view (⟦<Self as ItemSource>⟧.lists) self
             (skip_while_steps Self.IntoIter.next_gives P.FnMut) result (λ view xs gives.
             (test : view.Target → Bool) → ActsAsAt P.FnMut pred (λ x. test (view.of x))
             → Naming (prefix_len test xs) (λ n. gives (drop n xs))) }
@@ -911,12 +906,12 @@ pub trait NonEmptyIterator: IntoIterator {
     final fn sum<S: Sum<Self::Item>>(self) -> S
     where
         Self: Sized,
-        requires ends { ⟦<Self as Source>⟧.ends self }
-        requires fits { ⟦<Self as Source>⟧.each_prefix S.can_sum self }
+        requires ends { ⟦<Self as ItemSource>⟧.ends self }
+        requires fits { ⟦<Self as ItemSource>⟧.each_prefix S.can_sum self }
         ensures gives { (xs : List Self.Item)
-            × (S.is_complete result → ⟦<Self as Source>⟧.reads true self xs)
+            × (S.is_complete result → ⟦<Self as ItemSource>⟧.reads true self xs)
             × S.sum_gives xs result }
-        ensures lists { EachList (⟦<Self as Source>⟧.lists itself) self (λ xs.
+        ensures lists { EachList (⟦<Self as ItemSource>⟧.lists itself) self (λ xs.
             S.is_complete result → S.sum_gives xs result) }
         ensures runs { Becomes Self.into_iter_gives self (λ it. S.is_complete result
             → WholeRun Self.IntoIter.next_gives it (λ p. S.sum_gives p.items result)) }
@@ -934,10 +929,10 @@ pub trait NonEmptyIterator: IntoIterator {
     where
         Self: Sized,
         ensures holds { (take_source result ≡ self) × (take_count result ≡ non_zero_usize_get n) }
-        ensures gives { EachReading (⟦<Take<Self> as Source>⟧.reads) result
-            (IsTaken (⟦<Self as Source>⟧.reads) (non_zero_usize_get n) self) }
-        ensures lists { EachView item_view (⟦<Self as Source>⟧.lists) self (λ view xs.
-            ⟦<Take<Self> as Source>⟧.yields_through view result
+        ensures gives { EachReading (⟦<Take<Self> as ItemSource>⟧.reads) result
+            (IsTaken (⟦<Self as ItemSource>⟧.reads) (non_zero_usize_get n) self) }
+        ensures lists { EachView item_view (⟦<Self as ItemSource>⟧.lists) self (λ view xs.
+            ⟦<Take<Self> as ItemSource>⟧.yields_through view result
             (take (non_zero_usize_get n) xs)) }
     {
         Take { iter: self, n }
@@ -959,9 +954,9 @@ pub trait NonEmptyIterator: IntoIterator {
         Self::Item: Drop,
         ensures holds { Self.into_iter_gives self (take_while_source result)
             × (take_while_callee result ≡ pred) × (take_while_done result ≡ false) }
-        ensures gives { EachReading (⟦<iter::TakeWhile<Self::IntoIter, P> as Source>⟧.reads) result
-            (IsTakenWhile (⟦<Self as Source>⟧.reads) P.FnMut self pred) }
-        ensures lists { EachKept item_view (⟦<Self as Source>⟧.lists) self
+        ensures gives { EachReading (⟦<iter::TakeWhile<Self::IntoIter, P> as ItemSource>⟧.reads) result
+            (IsTakenWhile (⟦<Self as ItemSource>⟧.reads) P.FnMut self pred) }
+        ensures lists { EachKept item_view (⟦<Self as ItemSource>⟧.lists) self
             (take_while_steps Self.IntoIter.next_gives P.FnMut) result (λ view xs gives.
             (test : view.Target → Bool) → ActsAsAt P.FnMut pred (λ x. test (view.of x))
             → Naming (list_take_while test xs) gives) }
@@ -978,12 +973,12 @@ pub trait NonEmptyIterator: IntoIterator {
     final fn product<P: Product<Self::Item>>(self) -> P
     where
         Self: Sized,
-        requires ends { ⟦<Self as Source>⟧.ends self }
-        requires fits { ⟦<Self as Source>⟧.each_prefix P.can_product self }
+        requires ends { ⟦<Self as ItemSource>⟧.ends self }
+        requires fits { ⟦<Self as ItemSource>⟧.each_prefix P.can_product self }
         ensures gives { (xs : List Self.Item)
-            × (P.is_complete result → ⟦<Self as Source>⟧.reads true self xs)
+            × (P.is_complete result → ⟦<Self as ItemSource>⟧.reads true self xs)
             × P.product_gives xs result }
-        ensures lists { EachList (⟦<Self as Source>⟧.lists itself) self (λ xs.
+        ensures lists { EachList (⟦<Self as ItemSource>⟧.lists itself) self (λ xs.
             P.is_complete result → P.product_gives xs result) }
         ensures runs { Becomes Self.into_iter_gives self (λ it. P.is_complete result
             → WholeRun Self.IntoIter.next_gives it (λ p. P.product_gives p.items result)) }
@@ -1007,14 +1002,14 @@ pub trait NonEmptyIterator: IntoIterator {
         Self: Sized,
         Self::Item: Drop,
         ensures holds { (zip_first result ≡ self) × (zip_second result ≡ other) }
-        ensures gives { EachReading (⟦<Zip<Self, U> as Source>⟧.reads) result
-            (IsZipped (⟦<Self as Source>⟧.reads) (⟦<U as Source>⟧.reads) self other) }
+        ensures gives { EachReading (⟦<Zip<Self, U> as ItemSource>⟧.reads) result
+            (IsZipped (⟦<Self as ItemSource>⟧.reads) (⟦<U as ItemSource>⟧.reads) self other) }
         ensures lists { ZipsLists item_view U.IntoNEIter.item_view
-            (⟦<Self as Source>⟧.lists) (⟦<U as Source>⟧.lists)
+            (⟦<Self as ItemSource>⟧.lists) (⟦<U as ItemSource>⟧.lists)
             (BecomesList U.into_nonempty_iter_gives U.IntoNEIter.into_iter_gives
             U.IntoNEIter.IntoIter.next_gives)
-            (⟦<Zip<Self, U> as Source>⟧.yields_items)
-            (⟦<Zip<Self, U> as Source>⟧.yields_through) self other result }
+            (⟦<Zip<Self, U> as ItemSource>⟧.yields_items)
+            (⟦<Zip<Self, U> as ItemSource>⟧.yields_through) self other result }
     {
         Zip { a: self, b: other }
     }
@@ -1038,11 +1033,11 @@ pub trait NonEmptyIterator: IntoIterator {
     >(self, alloc: Global) -> Result<(FromA, FromB), AllocError>
     where
         Self: Sized + IntoIterator<Item = (A, B)>,
-        requires { ⟦<Self as Source>⟧.ends self }
+        requires { ⟦<Self as ItemSource>⟧.ends self }
         ensures gives { IfOk result (λ r. (ps : List (A × B))
-            × ⟦<Self as Source>⟧.reads true self ps × FromA.collected (map (λ p. p.0) ps) r.0
+            × ⟦<Self as ItemSource>⟧.reads true self ps × FromA.collected (map (λ p. p.0) ps) r.0
             × FromB.collected (map (λ p. p.1) ps) r.1) }
-        ensures lists { IfOk result (λ r. EachList (⟦<Self as Source>⟧.lists itself) self
+        ensures lists { IfOk result (λ r. EachList (⟦<Self as ItemSource>⟧.lists itself) self
             (λ ps.
             FromA.collected (map (λ p. p.0) ps) r.0
             × FromB.collected (map (λ p. p.1) ps) r.1)) }
@@ -1072,13 +1067,13 @@ pub trait NonEmptyIterator: IntoIterator {
     final fn reduce<F: FnMut(Self::Item, Self::Item) -> Self::Item>(self, f: F) -> Self::Item
     where
         Self: Sized,
-        requires ends { ⟦<Self as Source>⟧.ends self }
+        requires ends { ⟦<Self as ItemSource>⟧.ends self }
         requires callable { (it : Self.IntoIter) → Self.into_iter_gives self it
             → AfterFirst Self.IntoIter.next_gives it
             (λ x rest. CallableInFold Self.IntoIter.next_gives F.FnMut rest f x) }
         ensures gives { Becomes Self.into_iter_gives self
             (λ it. ReducesItems Self.IntoIter.next_gives F.FnMut it f (Some result)) }
-        ensures lists { EachList (⟦<Self as Source>⟧.lists itself) self (λ xs.
+        ensures lists { EachList (⟦<Self as ItemSource>⟧.lists itself) self (λ xs.
             (h : Self.Item → Self.Item → Self.Item) → ActsAsOnTwo F.FnMut f h
             → Some result ≡ list_reduce h xs) }
         ensures runs { RunsWhole Self.into_iter_gives Self.IntoIter.next_gives self (λ p.

@@ -1,6 +1,6 @@
 //! [`Once`]: a source of one item.
 
-use super::{NonEmptyIterator, Source};
+use super::{ItemSource, NonEmptyIterator};
 use std::iter;
 
 /// A source of one item: see [`once`](super::once).
@@ -34,5 +34,5 @@ impl<T: Drop> NonEmptyIterator for Once<T> {
 
 /// A source of one item ends.
 pub fn once_ends<T: Drop>()
-    ensures { (s : _) → ⟦<Once<T> as Source>⟧.ends s }
+    ensures { (s : _) → ⟦<Once<T> as ItemSource>⟧.ends s }
 {}

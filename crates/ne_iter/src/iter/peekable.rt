@@ -2,7 +2,7 @@
 ghost use Rattle.ne_iter.specs.Peekable.{peekable_first, peekable_rest};
 ghost use Rattle.ne_iter.specs.Sources.{DrawsFirst};
 
-use super::{NonEmptyIterator, Source};
+use super::{ItemSource, NonEmptyIterator};
 use std::iter;
 
 /// A source whose first item was already taken and can be read and changed: see
@@ -88,8 +88,8 @@ where
 pub fn peekable_ends<S: IntoIterator>()
 where
     S::Item: Drop,
-    ensures { (source : S) (peeked : _) → ⟦<S as Source>⟧.ends source
+    ensures { (source : S) (peeked : _) → ⟦<S as ItemSource>⟧.ends source
         → DrawsFirst S.into_iter_gives S.IntoIter.next_gives S.IntoIter.can_next
         S.IntoIter.remaining source (peekable_first peeked) (peekable_rest peeked)
-        → ⟦<Peekable<S::IntoIter> as Source>⟧.ends peeked }
+        → ⟦<Peekable<S::IntoIter> as ItemSource>⟧.ends peeked }
 {}

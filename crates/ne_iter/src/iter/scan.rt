@@ -1,7 +1,7 @@
 //! The adapter whose closure has a state.
 ghost use Rattle.ne_iter.specs.Scan.{scan_source, scan_init, scan_callee, CallableInScan};
 
-use super::{NonEmptyIterator, Source};
+use super::{ItemSource, NonEmptyIterator};
 
 /// A source of what a closure with a state returns for the items of a source: see
 /// [`NonEmptyIterator::scan`].
@@ -79,9 +79,9 @@ impl<St: Drop, B, I: Iterator, F: FnMut(&mut St, I::Item) -> B> Iterator for Sca
 
 /// `scan` ends if its source does and its closure can be called with each item that comes.
 pub fn scan_ends<St: Drop, S: IntoIterator, B, F: FnMut(&mut St, S::Item) -> B>()
-    ensures { (scanned : _) → ⟦<S as Source>⟧.ends (scan_source scanned)
+    ensures { (scanned : _) → ⟦<S as ItemSource>⟧.ends (scan_source scanned)
         → ((it : S.IntoIter) → S.into_iter_gives (scan_source scanned) it
         → CallableInScan S.IntoIter.next_gives F.FnMut it (scan_callee scanned)
         (scan_init scanned))
-        → ⟦<Scan<S, St, F> as Source>⟧.ends scanned }
+        → ⟦<Scan<S, St, F> as ItemSource>⟧.ends scanned }
 {}

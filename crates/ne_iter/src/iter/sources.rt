@@ -1,7 +1,7 @@
 //! What a source may yield, in contracts; and values that become sources.
 ghost use Rattle.std.specs.Prelude.{◌≡◌, Bool, List};
 ghost use Rattle.std.specs.Iterator.{IsFiniteIterable};
-ghost use Rattle.ne_vec.specs.Lists.{Lists, EachPrefix, YieldsItems, YieldsThrough, View};
+ghost use Rattle.ne_vec.specs.Lists.{Listed, Lists, EachPrefix, YieldsItems, YieldsThrough, View};
 ghost use Rattle.ne_iter.specs.Sources.{Reads, SameLists};
 ghost use Rattle.ne_iter.specs.SourceLaws.{SameLists-self};
 
@@ -10,16 +10,23 @@ use super::NonEmptyIterator;
 /// Says what a source may yield; every `IntoIterator` implements it. It is used in contracts only,
 /// and has no method.
 ///
-/// `reads whole source xs` says that `source` may first yield the items `xs`, and, if `whole` is
-/// true, may end after them. `starts source` says that the first item may be taken. `ends source`
-/// says that all items may be taken, and that they come to an end.
+/// - `listed source xs` says that the items of `source` are `xs`, and no others, as far as they are
+///   taken, and `listed_through view source xs` that they are through `view`, such as `referenced`
+///   for a source of references. A function over any source says by them what its result is.
+/// - `starts source` says that the first item may be taken, and `ends source` that all items may be
+///   taken, and that they come to an end.
+/// - `reads whole source xs` says that `source` may first yield the items `xs`, and, if `whole` is
+///   true, may end after them. `each_prefix P source` says that `P` holds for the first items that
+///   come, however many are taken.
 ///
-/// `lists view source xs` says that the items of `source`, through `view`, are `xs`, and no others,
-/// as far as they are taken; through `itself` it is about the items themselves. The automatic proof
-/// does not unfold it; `yields_items` and `yields_through` add what it needs of each run of the
-/// iterator. `each_prefix P source` says that `P` holds for the first items that come, however many
-/// are taken.
-pub trait Source: IntoIterator {
+/// The clauses of adapters say `listed_through` by `lists`, which the automatic proof does not
+/// unfold, and by `yields_items` and `yields_through`, with what it needs of each run of the
+/// iterator.
+pub trait ItemSource: IntoIterator {
+    ghost listed: { Self → List Self.Item → Type 0 };
+
+    ghost listed_through: { (view : View Self.Item) → Self → List view.Target → Type 0 };
+
     ghost reads: { Bool → Self → List Self.Item → Type 0 };
 
     ghost lists: { (view : View Self.Item) → Self → List view.Target → Type 0 };
@@ -35,7 +42,11 @@ pub trait Source: IntoIterator {
     ghost ends: { Self → Type 0 };
 }
 
-impl<S: IntoIterator> Source for S {
+impl<S: IntoIterator> ItemSource for S {
+    ghost listed = { Listed S.into_iter_gives S.IntoIter.next_gives (λ x. x) };
+
+    ghost listed_through = { λ view. Listed S.into_iter_gives S.IntoIter.next_gives view.of };
+
     ghost reads = { Reads S.into_iter_gives S.IntoIter.next_gives };
 
     ghost lists = { λ view. Lists S.into_iter_gives S.IntoIter.next_gives view.of };

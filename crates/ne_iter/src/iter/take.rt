@@ -1,7 +1,7 @@
 //! The adapter that keeps the first items.
 ghost use Rattle.ne_iter.specs.Take.{take_source};
 
-use super::{NonEmptyIterator, Source};
+use super::{ItemSource, NonEmptyIterator};
 use std::iter;
 use std::num::NonZeroUsize;
 
@@ -45,6 +45,6 @@ impl<I: NonEmptyIterator> NonEmptyIterator for Take<I> {
 
 /// `take` ends if its first item may be taken, whether or not its source ends.
 pub fn take_ends<S: IntoIterator>()
-    ensures { (taken : _) → ⟦<S as Source>⟧.starts (take_source taken)
-        → ⟦<Take<S> as Source>⟧.ends taken }
+    ensures { (taken : _) → ⟦<S as ItemSource>⟧.starts (take_source taken)
+        → ⟦<Take<S> as ItemSource>⟧.ends taken }
 {}

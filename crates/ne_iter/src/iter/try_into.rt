@@ -6,7 +6,7 @@ ghost use Rattle.ne_vec.specs.Lists.{itself};
 ghost use Rattle.ne_iter.specs.Peeked.{has_peeked, HasFirst-peeked};
 ghost use Rattle.ne_iter.specs.SourceLists.{MeetsList};
 
-use super::{NonEmptyIterator, Source};
+use super::{ItemSource, NonEmptyIterator};
 use std::iter;
 
 /// An iterator that knows whether it holds an item that it has already taken. It is used in
@@ -97,12 +97,12 @@ where
 
     ghost can_peek = { λ s. (it : T.IntoIter) → T.into_iter_gives s it → T.IntoIter.can_next it };
 
-    ghost peeks = { PeeksWhole (⟦<T as Source>⟧.reads)
-        (⟦<NonEmptyIterAdapter<iter::Peekable<T::IntoIter>> as Source>⟧.reads) };
+    ghost peeks = { PeeksWhole (⟦<T as ItemSource>⟧.reads)
+        (⟦<NonEmptyIterAdapter<iter::Peekable<T::IntoIter>> as ItemSource>⟧.reads) };
 
-    ghost peeks_lists = { PeeksLists (⟦<T as Source>⟧.lists itself)
+    ghost peeks_lists = { PeeksLists (⟦<T as ItemSource>⟧.lists itself)
         (MeetsList T.into_iter_gives T.IntoIter.next_gives itself)
-        (⟦<NonEmptyIterAdapter<iter::Peekable<T::IntoIter>> as Source>⟧.yields_items) };
+        (⟦<NonEmptyIterAdapter<iter::Peekable<T::IntoIter>> as ItemSource>⟧.yields_items) };
 
     ghost peeks_runs = { PeeksRuns T.into_iter_gives T.IntoIter.next_gives
         (peekable_steps T.IntoIter.next_gives)

@@ -1,7 +1,7 @@
 //! The adapter that pairs the items of two sources.
 ghost use Rattle.ne_iter.specs.Zip.{zip_first, zip_second};
 
-use super::{IntoNonEmptyIterator, NonEmptyIterator, Source};
+use super::{IntoNonEmptyIterator, ItemSource, NonEmptyIterator};
 use std::iter;
 
 /// A source of pairs of an item of one source and an item of another: see
@@ -55,7 +55,7 @@ where
 pub fn zip_ends<S: IntoIterator, U: IntoNonEmptyIterator>()
 where
     S::Item: Drop,
-    ensures { (zipped : _) → ⟦<S as Source>⟧.ends (zip_first zipped)
-        → ⟦<U as Source>⟧.ends (zip_second zipped)
-        → ⟦<Zip<S, U> as Source>⟧.ends zipped }
+    ensures { (zipped : _) → ⟦<S as ItemSource>⟧.ends (zip_first zipped)
+        → ⟦<U as ItemSource>⟧.ends (zip_second zipped)
+        → ⟦<Zip<S, U> as ItemSource>⟧.ends zipped }
 {}

@@ -6,7 +6,7 @@ ghost use Rattle.std.specs.List.{list_all};
 ghost use Rattle.ne_iter.specs.Cloned.{TriesClone};
 ghost use Rattle.ne_iter.specs.Intersperse.{Interspersed};
 
-use crate::iter::{FromNonEmptyIterator, Source};
+use crate::iter::{FromNonEmptyIterator, ItemSource};
 use ne_vec::{NEVec, Singleton};
 use std::alloc::AllocError;
 
@@ -35,9 +35,9 @@ pub fn results_make_a_vector<T: Drop, E: Drop>()
 /// each in `Ok`, and ended. What is before the last arrow is the clause `gives` of `collect`.
 pub fn results_are_read_whole<T: Drop, E: Drop, S: IntoIterator<Item = Result<T, E>>>()
     ensures { (source : S) (result : Result (List T) E)
-        → (items : List (Result T E)) × ⟦<S as Source>⟧.reads (is_ok result) source items
+        → (items : List (Result T E)) × ⟦<S as ItemSource>⟧.reads (is_ok result) source items
         × ⟦<Result<NEVec<T>, E> as FromNonEmptyIterator<Result<T, E>>>⟧.collected items result
-        → IfOk result (λ v. ⟦<S as Source>⟧.reads true source (map Ok v)) }
+        → IfOk result (λ v. ⟦<S as ItemSource>⟧.reads true source (map Ok v)) }
 {
     results_make_a_vector::<T, E>();
 }

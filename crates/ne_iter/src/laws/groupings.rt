@@ -5,8 +5,8 @@ ghost use Rattle.std.specs.List.{AllByRecursion, FoldsTo};
 ghost use Rattle.ne_vec.specs.Divisions.{IsDivision, by_first, concat};
 ghost use Rattle.ne_iter.specs.Calls.{CallsEachAt};
 ghost use Rattle.ne_iter.specs.Keys.{items_of, DividesByKey, IsDividedBy};
-ghost use Rattle.ne_iter.specs.GroupingRuns.{IsOver, HasRead, GivesRun, ReturnsOn};
-ghost use Rattle.ne_iter.specs.Grouping.{Grouping, Unread};
+ghost use Rattle.ne_iter.specs.GroupingRuns.{IsOver, IsUnread, HasRead, GivesRun, ReturnsOn};
+ghost use Rattle.ne_iter.specs.Grouping.{Grouping};
 
 use ne_vec::laws;
 use std::alloc::AllocError;
@@ -17,7 +17,7 @@ use std::alloc::AllocError;
 /// `HasRead s f rs g` says that the grouping began with the source `s` and the closure `f`, has
 /// returned the runs `rs`, and is now `g`.
 pub fn groupings_stand_at_any_moment<I: Iterator, K: PartialEq, F: FnMut(&I::Item) -> K>()
-    ensures fresh { (g : Grouping I K I.Item F) → g.ahead ≡ Unread
+    ensures fresh { (g : Grouping I K I.Item F) → IsUnread g
         → HasRead I.next_gives F.FnMut K.eq g.source g.closure [] g }
     ensures later { (s : I) (f : F) (done : List (List I.Item)) (g h : Grouping I K I.Item F)
         (results : List (Option (Result (List I.Item) AllocError)))

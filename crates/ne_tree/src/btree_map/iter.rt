@@ -6,9 +6,9 @@ ghost use Rattle.std.specs.BTreeMap.IterMut.{iter_mut_name, iter_mut_rest, value
 ghost use Rattle.std.specs.BTreeMap.IterMut.{IterMutCanStep};
 ghost use Rattle.std.specs.Map.Iter.{deref, deref_pair};
 ghost use Rattle.ne_vec.specs.Lists.{view_by};
-ghost use Rattle.ne_iter.specs.KeyIterators.{IteratesEntries, IteratesKnown, KnownByReference};
-ghost use Rattle.ne_iter.specs.KeyIterators.{KnownByValue};
-ghost use Rattle.ne_iter.specs.KeyIteratorLaws.{HasFirst-entries};
+ghost use Rattle.ne_iter.specs.Keyed.Iterators.{IteratesEntries, IteratesKnown, KnownByReference};
+ghost use Rattle.ne_iter.specs.Keyed.Iterators.{KnownByValue};
+ghost use Rattle.ne_iter.specs.Keyed.IteratorLaws.{HasFirst-entries};
 ghost use Rattle.ne_tree.specs.InOrder.{EntriesInOrder};
 
 use super::NEBTreeMap;
@@ -19,8 +19,8 @@ use std::collections::btree_map;
 impl<K: Ord + Drop, V: Drop> IntoNonEmptyIterator for NEBTreeMap<K, V> {
     ghost use Rattle.std.specs.Prelude.{◌≡◌};
     ghost use Rattle.std.specs.BTreeMap.{IsOrdered};
-    ghost use Rattle.ne_iter.specs.KeyIterators.{ListsEntriesByValue};
-    ghost use Rattle.ne_iter.specs.KeyIteratorLaws.{SameLists-entries};
+    ghost use Rattle.ne_iter.specs.Keyed.Iterators.{ListsEntriesByValue};
+    ghost use Rattle.ne_iter.specs.Keyed.IteratorLaws.{SameLists-entries};
 
     type IntoNEIter = IntoIter<K, V>;
 
@@ -39,8 +39,8 @@ impl<'a, K: Ord, V> IntoNonEmptyIterator for &'a NEBTreeMap<K, V> {
     ghost use Rattle.std.specs.Prelude.{◌≡◌};
     ghost use Rattle.std.specs.BTreeMap.{IsOrdered};
     ghost use Rattle.std.specs.Map.Iter.{deref_pair};
-    ghost use Rattle.ne_iter.specs.KeyIterators.{ListsEntries, KnownByReference};
-    ghost use Rattle.ne_iter.specs.KeyIteratorLaws.{SameLists-entries};
+    ghost use Rattle.ne_iter.specs.Keyed.Iterators.{ListsEntries, KnownByReference};
+    ghost use Rattle.ne_iter.specs.Keyed.IteratorLaws.{SameLists-entries};
 
     type IntoNEIter = Iter<'a, K, V>;
 
@@ -139,7 +139,7 @@ pub struct IterMut<'a, K, V> {
 
 impl<'a, K, V> NonEmptyIterator for IterMut<'a, K, V> {
     ghost use Rattle.std.specs.BTreeMap.IterMut.{iter_mut_rest};
-    ghost use Rattle.ne_iter.specs.KeyIteratorLaws.{HasFirst-lent};
+    ghost use Rattle.ne_iter.specs.Keyed.IteratorLaws.{HasFirst-lent};
 
     ghost not_empty = { λ w it made. HasFirst-lent iter_mut_rest it made.0 };
 }

@@ -3,9 +3,9 @@ ghost use Rattle.std.specs.Prelude.{◌≡◌, ◌↔◌, ◌++◌, ◌&&◌, Is
 ghost use Rattle.std.specs.BTreeMap.{IsClone, IsEmpty, get};
 ghost use Rattle.std.specs.Cmp.{and_equiv, and_per, on_equiv, on_per};
 ghost use Rattle.std.specs.Cmp.Lexicographic.{lists_equiv, lists_per, pointwise};
-ghost use Rattle.ne_iter.specs.Collected.{IsMapOf};
-ghost use Rattle.ne_iter.specs.KeyClones.{KeepsEntries};
-ghost use Rattle.ne_iter.specs.SameMap.{IsSameMap};
+ghost use Rattle.ne_iter.specs.Collected.{IsMapOfPairs};
+ghost use Rattle.ne_iter.specs.Keyed.Clones.{KeepsEntries};
+ghost use Rattle.ne_iter.specs.Keyed.SameMap.{IsSameMap};
 ghost use Rattle.ne_tree.specs.ValidTreeMap.{IsValid};
 
 use super::NEBTreeMap;
@@ -89,7 +89,7 @@ impl<K: Ord + Clone, V: Clone> Clone for NEBTreeMap<K, V> {
 /// Collects pairs into a map that holds each key once, with the value of its last pair. The keys
 /// are in ascending order.
 impl<K: Ord + Drop, V: Drop> FromNonEmptyIterator<(K, V)> for NEBTreeMap<K, V> {
-    ghost collected = { λ pairs m. IsMapOf K.eq pairs m.entries };
+    ghost collected = { λ pairs m. IsMapOfPairs K.eq pairs m.entries };
 
     fn from_nonempty_iter<I: IntoNonEmptyIterator<Item = (K, V)>>(
         alloc: Global,
@@ -111,7 +111,7 @@ impl<K: Ord + Debug, V: Debug> Debug for NEBTreeMap<K, V> {
 impl<K: Ord + Drop, V: Drop> Singleton for NEBTreeMap<K, V> {
     type Item = (K, V);
 
-    ghost collected = { λ pairs m. IsMapOf K.eq pairs m.entries };
+    ghost collected = { λ pairs m. IsMapOfPairs K.eq pairs m.entries };
 
     fn singleton(alloc: Global, item: (K, V)) -> Result<NEBTreeMap<K, V>, AllocError> {
         let (k, v) = item;
@@ -127,7 +127,7 @@ impl<K: Ord + Drop, V: Drop> Singleton for NEBTreeMap<K, V> {
 
 /// Calls the inherent method `extend`.
 impl<K: Ord + Drop, V: Drop> Extend<(K, V)> for NEBTreeMap<K, V> {
-    ghost extend_gives = { λ m pairs n. IsMapOf K.eq (m.entries ++ pairs) n.entries
+    ghost extend_gives = { λ m pairs n. IsMapOfPairs K.eq (m.entries ++ pairs) n.entries
         × IsValid K.cmp n };
 
     fn extend<I: IntoIterator<Item = (K, V)>>(&mut self, iter: I) -> Result<(), AllocError> {

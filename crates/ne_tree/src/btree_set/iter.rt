@@ -4,8 +4,8 @@ ghost use Rattle.std.specs.Prelude.{◌≡◌, length};
 ghost use Rattle.std.specs.BTreeSet.{IsOrdered};
 ghost use Rattle.std.specs.Map.Iter.{deref};
 ghost use Rattle.ne_vec.specs.Lists.{view_by};
-ghost use Rattle.ne_iter.specs.KeyIterators.{IteratesEntries, IteratesKnown, KnownByReference};
-ghost use Rattle.ne_iter.specs.KeyIteratorLaws.{HasFirst-entries};
+ghost use Rattle.ne_iter.specs.Keyed.Iterators.{IteratesEntries, IteratesKnown, KnownByReference};
+ghost use Rattle.ne_iter.specs.Keyed.IteratorLaws.{HasFirst-entries};
 ghost use Rattle.ne_tree.specs.InOrder.{ItemsInOrder};
 
 use super::NEBTreeSet;
@@ -16,8 +16,8 @@ use std::collections::btree_set;
 impl<T: Ord + Drop> IntoNonEmptyIterator for NEBTreeSet<T> {
     ghost use Rattle.std.specs.Prelude.{◌≡◌};
     ghost use Rattle.std.specs.BTreeSet.{IsOrdered};
-    ghost use Rattle.ne_iter.specs.KeyIterators.{ListsEntriesByValue};
-    ghost use Rattle.ne_iter.specs.KeyIteratorLaws.{SameLists-entries};
+    ghost use Rattle.ne_iter.specs.Keyed.Iterators.{ListsEntriesByValue};
+    ghost use Rattle.ne_iter.specs.Keyed.IteratorLaws.{SameLists-entries};
 
     type IntoNEIter = IntoIter<T>;
 
@@ -36,8 +36,8 @@ impl<'a, T: Ord> IntoNonEmptyIterator for &'a NEBTreeSet<T> {
     ghost use Rattle.std.specs.Prelude.{◌≡◌};
     ghost use Rattle.std.specs.BTreeSet.{IsOrdered};
     ghost use Rattle.std.specs.Map.Iter.{deref};
-    ghost use Rattle.ne_iter.specs.KeyIterators.{ListsEntries, KnownByReference};
-    ghost use Rattle.ne_iter.specs.KeyIteratorLaws.{SameLists-entries};
+    ghost use Rattle.ne_iter.specs.Keyed.Iterators.{ListsEntries, KnownByReference};
+    ghost use Rattle.ne_iter.specs.Keyed.IteratorLaws.{SameLists-entries};
 
     type IntoNEIter = Iter<'a, T>;
 

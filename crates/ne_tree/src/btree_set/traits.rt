@@ -4,7 +4,7 @@ ghost use Rattle.std.specs.BTreeSet.{IsClone, IsEmpty, IsSameSet};
 ghost use Rattle.std.specs.Cmp.{on_equiv, on_per};
 ghost use Rattle.std.specs.Cmp.Lexicographic.{lists_equiv, lists_per, pointwise};
 ghost use Rattle.ne_iter.specs.Collected.{IsSetOf};
-ghost use Rattle.ne_iter.specs.KeyClones.{KeepsItems};
+ghost use Rattle.ne_iter.specs.Keyed.Clones.{KeepsItems};
 ghost use Rattle.ne_tree.specs.ValidTreeSet.{IsValid};
 
 use super::NEBTreeSet;

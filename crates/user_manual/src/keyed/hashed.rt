@@ -3,7 +3,7 @@ ghost use Rattle.std.specs.Prelude.{◌≡◌, ◌+◌, ◌++◌, ◌↔◌, [],
 ghost use Rattle.std.specs.Prelude.{IfSome, None, OnOk, Some};
 ghost use Rattle.std.specs.HashMap.{get, IsUnchanged};
 ghost use Rattle.std.specs.HashSet.{IsSameSet, IsUnion};
-ghost use Rattle.nonempty_collections.specs.Collected.{IsMapOf, IsSetOf};
+ghost use Rattle.nonempty_collections.specs.Collected.{IsMapOfPairs, IsSetOf};
 ghost use Rattle.nonempty_collections.specs.SameMap.{IsSameMap};
 
 use super::two;
@@ -22,14 +22,14 @@ pub fn sums(alloc: Global, m: NEMap<u16, u16>) -> Result<NEVec<u32>, AllocError>
 
 /// Returns the map of two pairs with the same key.
 pub fn pairs(alloc: Global, k: u32, first: u32, second: u32) -> Result<NEMap<u32, u32>, AllocError>
-    ensures { IfOk result (λ m. IsMapOf nat_eq ((k, first) ∷ (k, second) ∷ []) m.entries) }
+    ensures { IfOk result (λ m. IsMapOfPairs nat_eq ((k, first) ∷ (k, second) ∷ []) m.entries) }
 {
     two(alloc, (k, first), (k, second))
 }
 
 /// Adds pairs to a map.
 pub fn extended(map: &mut NEMap<u32, u32>, more: NEVec<(u32, u32)>) -> Result<(), AllocError>
-    ensures { OnOk result (IsMapOf nat_eq (map.old.entries ++ more) map.new.entries) }
+    ensures { OnOk result (IsMapOfPairs nat_eq (map.old.entries ++ more) map.new.entries) }
 {
     map.extend(more)
 }

@@ -4,7 +4,7 @@ ghost use Rattle.std.specs.Prelude.{All, Contains, IfOk, IfSome, IsSome, IsTrue,
 ghost use Rattle.std.specs.BTreeMap.{get, values, IsUnchanged};
 ghost use Rattle.std.specs.BTreeSet.{union, IsSameSet};
 ghost use Rattle.std.specs.Ordering.{nat_cmp};
-ghost use Rattle.nonempty_collections.specs.Collected.{IsMapOf, IsSetOf};
+ghost use Rattle.nonempty_collections.specs.Collected.{IsMapOfPairs, IsSetOf};
 ghost use Rattle.nonempty_collections.specs.SameMap.{IsSameMap};
 
 use super::two;
@@ -64,7 +64,7 @@ pub fn sums(alloc: Global, m: NEBTreeMap<u16, u16>) -> Result<NEVec<u32>, AllocE
 
 /// Returns a map from each item to its half.
 pub fn numbered(alloc: Global, items: NEVec<u32>) -> Result<NEBTreeMap<u32, u32>, AllocError>
-    ensures { IfOk result (λ m. IsMapOf nat_eq (map (λ x. (x, x / 2)) items) m.entries) }
+    ensures { IfOk result (λ m. IsMapOfPairs nat_eq (map (λ x. (x, x / 2)) items) m.entries) }
 {
     items
         .into_nonempty_iter()
@@ -79,14 +79,14 @@ pub fn pairs(
     first: u32,
     second: u32,
 ) -> Result<NEBTreeMap<u32, u32>, AllocError>
-    ensures { IfOk result (λ m. IsMapOf nat_eq ((k, first) ∷ (k, second) ∷ []) m.entries) }
+    ensures { IfOk result (λ m. IsMapOfPairs nat_eq ((k, first) ∷ (k, second) ∷ []) m.entries) }
 {
     two(alloc, (k, first), (k, second))
 }
 
 /// Adds pairs to a map.
 pub fn extended(map: &mut NEBTreeMap<u32, u32>, more: NEVec<(u32, u32)>) -> Result<(), AllocError>
-    ensures { OnOk result (IsMapOf nat_eq (map.old.entries ++ more) map.new.entries) }
+    ensures { OnOk result (IsMapOfPairs nat_eq (map.old.entries ++ more) map.new.entries) }
 {
     map.extend(more)
 }

@@ -1,8 +1,7 @@
 use Rattle.ne_laws.proofs.reader.take_runs.Given as goal
 use Rattle.std.proofs.Common.{◌≤◌, ◌-◌, length, vec_len, ◌≡◌}
 use Rattle.std.specs.Iterator.{CallableOnAllAt}
-use Rattle.nonempty_collections.specs.GroupingRuns.{HasRead, CanRead}
-use Rattle.nonempty_collections.specs.Grouping.{Unread}
+use Rattle.nonempty_collections.specs.GroupingRuns.{HasRead, CanRead, IsUnread}
 
 -- The reader began with the source that the first reader of the loop had.
 abbrev pub invariant-loop-reader : goal.invariant-loop-reader
@@ -12,7 +11,7 @@ invariant-loop-reader g l =
     l.initial.reader.source l.fn.key l.runs.items l.reader
     × (vec_len l.runs ≡ length l.runs.items)
     × (length l.runs.items ≤ l.k)
-    × (length l.runs.items ≡ 0 → l.reader.ahead ≡ Unread)
+    × (length l.runs.items ≡ 0 → IsUnread l.reader)
     × CanRead g.I.IntoIter.Iterator.can_next g.I.IntoIter.Iterator.remaining
     (CallableOnAllAt g.I.IntoIter.Iterator.next_gives g.F.FnMut) l.reader
 

@@ -1,5 +1,5 @@
 use Rattle.ne_hash.proofs.map.NEMap.clone.Goals as goal
-use Rattle.ne_iter.specs.KeyCloneLaws.{keeps_entries}
+use Rattle.ne_iter.specs.Keyed.CloneLaws.{keeps_entries}
 
 pub returns : goal.returns
 returns g c = let made = c.in_ok-inner.ensures.cases in record {

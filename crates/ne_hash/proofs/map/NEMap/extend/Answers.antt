@@ -1,7 +1,7 @@
 use Rattle.ne_hash.proofs.map.NEMap.extend.Goals as goal
 use Rattle.std.specs.HashMap.{InsertsAll}
-use Rattle.ne_iter.specs.Collected.{IsMapOf}
-use Rattle.ne_iter.specs.ExtendListLaws.{extends_by_list}
+use Rattle.ne_iter.specs.Collected.{IsMapOfPairs}
+use Rattle.ne_iter.specs.Keyed.ExtendLaws.{extends_by_list}
 use Rattle.ne_hash.proofs.HashInserts.{map_of-inserts_all, valid-inserts_all}
 
 pub invariant_of-self : goal.invariant_of-self
@@ -27,6 +27,6 @@ returns-clause-lists g c =
     let m = c.self.inside.inner in
     let n = c.extend.new.self in
     rw (← c.self.view_is) (extends_by_list _ _ c.args.iter (InsertsAll g.K.PartialEq.eq) m n
-    c.extend.result m.entries (λ all. IsMapOf g.K.PartialEq.eq all n.entries)
+    c.extend.result m.entries (λ all. IsMapOfPairs g.K.PartialEq.eq all n.entries)
     (λ ys made. map_of-inserts_all g.met.K.Eq.laws m n ys made c.self.invariant.1)
     c.extend.ensures.ran)

@@ -1,7 +1,7 @@
 use Rattle.ne_hash.proofs.map.NEMap.into_keys.Goals as goal
 use Rattle.std.proofs.Common.{rules}
 use Rattle.std.proofs.lemmas.Map.Made.{is_some-lookup}
-use Rattle.ne_iter.specs.KeyIteratorLaws.{lists_known}
+use Rattle.ne_iter.specs.Keyed.IteratorLaws.{lists_known}
 
 pub returns-clause-lists : goal.returns-clause-lists
 returns-clause-lists g c = lists_known _ (λ x. x) c.new.result _ (search rules)

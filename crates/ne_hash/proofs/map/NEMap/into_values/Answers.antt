@@ -3,7 +3,7 @@ use Rattle.std.proofs.Common.{rules}
 use Rattle.std.proofs.lemmas.Map.Entries.{place_from_lookup}
 use Rattle.std.proofs.lemmas.Map.Made.{Contains-values_of}
 use Rattle.std.proofs.lemmas.Option.{slice_get_within, get_or_from_slice_get}
-use Rattle.ne_iter.specs.KeyIteratorLaws.{lists_known}
+use Rattle.ne_iter.specs.Keyed.IteratorLaws.{lists_known}
 
 pub returns-clause-lists : goal.returns-clause-lists
 returns-clause-lists g c = lists_known _ (λ x. x) c.new.result _ (search rules)

@@ -1,5 +1,5 @@
 use Rattle.ne_hash.proofs.set.NESet.clone.Goals as goal
-use Rattle.ne_iter.specs.KeyCloneLaws.{keeps_items}
+use Rattle.ne_iter.specs.Keyed.CloneLaws.{keeps_items}
 
 pub returns : goal.returns
 returns g c = let made = c.in_ok-inner.ensures.cases in record {

@@ -1,7 +1,7 @@
 use Rattle.ne_index.proofs.index_map.NEIndexMap.extend.Goals as goal
 use Rattle.indexmap.specs.IndexMap.{Extends}
-use Rattle.ne_iter.specs.ExtendListLaws.{extends_by_list}
-use Rattle.ne_iter.specs.KeyList.{IsKeyListMapOf}
+use Rattle.ne_iter.specs.Keyed.ExtendLaws.{extends_by_list}
+use Rattle.ne_iter.specs.Keyed.KeyList.{IsKeyListMapOf}
 use Rattle.ne_index.proofs.IndexInserts.{key_list_map-extends, valid-extends}
 
 pub invariant_of-self : goal.invariant_of-self

@@ -3,7 +3,7 @@ use Rattle.std.proofs.Common.{ap, rules, sym, ◌∙◌}
 use Rattle.std.proofs.lemmas.Map.Made.{is_some-lookup}
 use Rattle.std.specs.Set.{is_member}
 use Rattle.std.specs.Map.Iter.{deref}
-use Rattle.ne_iter.specs.KeyIteratorLaws.{lists_known}
+use Rattle.ne_iter.specs.Keyed.IteratorLaws.{lists_known}
 
 pub returns-clause-lists : goal.returns-clause-lists
 returns-clause-lists g c = lists_known _ deref c.new.result _ (search rules)

@@ -1,5 +1,5 @@
 use Rattle.ne_index.proofs.index_map.NEIndexMap.retain.Goals as goal
-use Rattle.ne_iter.specs.KeptEntryLaws.{retains_kept}
+use Rattle.ne_iter.specs.Keyed.KeptEntryLaws.{retains_kept}
 
 pub returns-then-is_empty-clause-kept : goal.returns-then-is_empty-clause-kept
 returns-then-is_empty-clause-kept g c keeps writes acts = rw (← c.self.view_is)

@@ -1,6 +1,6 @@
 use Rattle.ne_index.proofs.index_set.NEIndexSet.extend.Goals as goal
 use Rattle.indexmap.specs.IndexSet.{Extends}
-use Rattle.ne_iter.specs.ExtendListLaws.{extends_by_list}
+use Rattle.ne_iter.specs.Keyed.ExtendLaws.{extends_by_list}
 use Rattle.ne_index.specs.KeyListSets.{IsKeyListSetOf}
 use Rattle.ne_index.proofs.IndexInserts.{key_list_set-extends, valid_set-extends}
 

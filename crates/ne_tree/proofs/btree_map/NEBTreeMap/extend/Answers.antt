@@ -1,7 +1,7 @@
 use Rattle.ne_tree.proofs.btree_map.NEBTreeMap.extend.Goals as goal
 use Rattle.std.specs.BTreeMap.{InsertsAll}
-use Rattle.ne_iter.specs.Collected.{IsMapOf}
-use Rattle.ne_iter.specs.ExtendListLaws.{extends_by_list}
+use Rattle.ne_iter.specs.Collected.{IsMapOfPairs}
+use Rattle.ne_iter.specs.Keyed.ExtendLaws.{extends_by_list}
 use Rattle.ne_tree.proofs.TreeInserts.{map_of-inserts_all, valid-inserts_all}
 
 pub invariant_of-self : goal.invariant_of-self
@@ -28,6 +28,6 @@ returns-clause-lists g c =
     let m = c.self.inside.inner in
     let n = c.extend.new.self in
     rw (← c.self.view_is) (extends_by_list _ _ c.args.iter (InsertsAll g.K.Ord.cmp) m n
-    c.extend.result m.entries (λ all. IsMapOf g.K.PartialEq.eq all n.entries)
+    c.extend.result m.entries (λ all. IsMapOfPairs g.K.PartialEq.eq all n.entries)
     (λ ys made. map_of-inserts_all g.met.K.Ord.total g.met.K.Ord.matches_eq m n ys made
     c.self.invariant.1) c.extend.ensures.ran)

@@ -1,7 +1,7 @@
 use Rattle.ne_tree.proofs.btree_set.NEBTreeSet.extend.Goals as goal
 use Rattle.std.specs.BTreeSet.{InsertsAll}
 use Rattle.ne_iter.specs.Collected.{IsSetOf}
-use Rattle.ne_iter.specs.ExtendListLaws.{extends_by_list}
+use Rattle.ne_iter.specs.Keyed.ExtendLaws.{extends_by_list}
 use Rattle.ne_tree.proofs.TreeInserts.{set_of-inserts_all, valid_set-inserts_all}
 
 pub invariant_of-self : goal.invariant_of-self

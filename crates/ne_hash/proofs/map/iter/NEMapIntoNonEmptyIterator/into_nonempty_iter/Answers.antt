@@ -1,6 +1,6 @@
 use Rattle.ne_hash.proofs.map.iter.NEMapIntoNonEmptyIterator.into_nonempty_iter.Goals as goal
 use Rattle.std.proofs.Common.{rules}
-use Rattle.ne_iter.specs.KeyIteratorLaws.{lists_known}
+use Rattle.ne_iter.specs.Keyed.IteratorLaws.{lists_known}
 
 pub returns : goal.returns
 returns g c = record {

@@ -1,7 +1,7 @@
 use Rattle.ne_index.proofs.index_map.iter.NEIndexMapIntoNonEmptyIterator.into_nonempty_iter.Goals
     as goal
 use Rattle.std.proofs.Common.{rules}
-use Rattle.ne_iter.specs.KeyIteratorLaws.{lists_known}
+use Rattle.ne_iter.specs.Keyed.IteratorLaws.{lists_known}
 
 pub returns : goal.returns
 returns g c = record {

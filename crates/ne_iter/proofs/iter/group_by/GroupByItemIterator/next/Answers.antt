@@ -1,13 +1,12 @@
 use Rattle.ne_iter.proofs.iter.group_by.GroupByItemIterator.next.Goals as goal
-use Rattle.std.proofs.Common.{arith, refl, true, false, sym, ap, subst, ◌∙◌, ◌≡◌, ◌+◌, ◌≤◌}
+use Rattle.std.proofs.Common.{arith, refl, true, false, sym, subst, ◌∙◌, ◌≡◌, ◌+◌, ◌≤◌}
 use Rattle.std.proofs.lemmas.Fn.{called_at}
 use Rattle.std.proofs.iter.Next.{served, Serves-on}
 use Rattle.std.specs.Iterator.{size, CallableOnAllAt}
 use Rattle.ne_vec.specs.Divisions.{by_first}
 use Rattle.ne_iter.specs.Keys.{same_key}
-use Rattle.ne_iter.specs.Grouping.{Grouping, Unread, Held}
-use Rattle.ne_iter.specs.HeldItems.{ahead_of}
-use Rattle.ne_iter.specs.declared.iter.group_by.State.TheVariants.{Unread as unread, Held as held}
+use Rattle.ne_iter.specs.Grouping.{Grouping}
+use Rattle.ne_iter.specs.declared.iter.group_by.State.TheVariants.{Unread, Held}
 use Rattle.ne_iter.specs.GroupingRuns.{CanRead, HasRead, runs_left}
 use Rattle.ne_iter.proofs.Groupings.{open_held, open_first, open_more, close_held, close_end}
 use Rattle.ne_iter.proofs.Groupings.{held_is_not_over, unread_is_not_over}
@@ -24,17 +23,16 @@ loop-item-init g c =
     let begun : Grouping _ _ _ _ = record {
       source = at.iter;
       closure = at.key;
-      ahead = ahead_of at.state;
+      state = at.state;
     } in
     let ready = subst (CanRead g.I.Iterator.can_next left (CallableOnAllAt steps g.F.FnMut))
     (sym c.self.view_is) c.requires in
     elim c.match-replace.branch [
       | in-Held w ↦
-          let state : at.state ≡ held w.in-Held.key w.in-Held.item = sym c.replace.ensures.value
+          let there : at.state ≡ Held w.in-Held.key w.in-Held.item = sym c.replace.ensures.value
           ∙ w.in-Held.is in
-          let there : ahead_of at.state ≡ Held w.in-Held.key w.in-Held.item = ap ahead_of state in
-          let e : c.args.self.now.ahead ≡ Held w.in-Held.key w.in-Held.item = subst
-          (λ v. v.ahead ≡ Held w.in-Held.key w.in-Held.item) c.self.view_is there in
+          let e : c.args.self.now.state ≡ Held w.in-Held.key w.in-Held.item = subst
+          (λ v. v.state ≡ Held w.in-Held.key w.in-Held.item) c.self.view_is there in
           let can = ready (held_is_not_over there) in
           rw (c.in-Ok.ensures, w.first_key-is, w.self-inside-is, c.replace.ensures.after) (
             λ s f rs h. open_held steps g.F.FnMut g.K.PartialEq.eq s f rs begun w.in-Held.item
@@ -49,9 +47,8 @@ loop-item-init g c =
                 (rw there (omega arith)),
           )
       | in-Unread+in_ok-item-in-Unread w ↦
-          let state : at.state ≡ unread = sym c.replace.ensures.value ∙ w.in-Unread.is in
-          let fresh : ahead_of at.state ≡ Unread = ap ahead_of state in
-          let e : c.args.self.now.ahead ≡ Unread = subst (λ v. v.ahead ≡ Unread) c.self.view_is
+          let fresh : at.state ≡ Unread = sym c.replace.ensures.value ∙ w.in-Unread.is in
+          let e : c.args.self.now.state ≡ Unread = subst (λ v. v.state ≡ Unread) c.self.view_is
           fresh in
           let can = ready (unread_is_not_over fresh) in
           let first = w.in_ok-item-in-Unread.ensures in
@@ -107,7 +104,7 @@ returns-clause-steps g c =
       over = λ o. absurd (i.2 o);
       stops = tt;
       reads = λ s f rs h. close_end g.I.Iterator.next_gives g.F.FnMut g.K.PartialEq.eq s f rs _ _ _
-          _ _ (i.0 s f rs h) c.in_default-next.ensures.steps refl (ap ahead_of i.1);
+          _ _ (i.0 s f rs h) c.in_default-next.ensures.steps refl i.1;
     }
 
 -- the key is computed
@@ -118,8 +115,7 @@ call_mut-requires g c =
     let at = c.self.inside in
     let ready = subst (CanRead g.I.Iterator.can_next left (CallableOnAllAt steps g.F.FnMut))
     (sym c.self.view_is) c.requires in
-    let state : at.state ≡ unread = sym c.replace.ensures.value ∙ c.in-Unread.is in
-    served (ready (unread_is_not_over (ap ahead_of state))).2 _ _
+    served (ready (unread_is_not_over (sym c.replace.ensures.value ∙ c.in-Unread.is))).2 _ _
     c.in_ok-item-in-Unread.ensures.steps _ refl
 
 pub call_mut-item_key-requires : goal.call_mut-item_key-requires

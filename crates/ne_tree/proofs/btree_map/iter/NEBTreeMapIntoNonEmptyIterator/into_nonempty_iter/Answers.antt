@@ -1,5 +1,5 @@
 use Rattle.std.proofs.Common.{rules}
-use Rattle.ne_iter.specs.KeyIteratorLaws.{lists_known}
+use Rattle.ne_iter.specs.Keyed.IteratorLaws.{lists_known}
 use Rattle.ne_tree.proofs.btree_map.iter.NEBTreeMapIntoNonEmptyIterator.into_nonempty_iter.Goals as
     goal
 

@@ -2,7 +2,7 @@
 use Rattle.std.proofs.Common.{◌≡◌, Bool, true, false, cond, List, [], ◌∷◌, refl, subst, ◌∙◌, map}
 use Rattle.std.specs.List.{filter}
 use Rattle.std.specs.Map.Calls.{RetainsPairs}
-use Rattle.ne_iter.specs.KeptEntries.{kept_entries}
+use Rattle.ne_iter.specs.Keyed.KeptEntries.{kept_entries}
 
 module _ {F K V : Type 0} (called : F → K → V → Bool → V → F → Type 0) (keeps : K → V → Bool)
     (writes : K → V → V) (f : F)

@@ -3,7 +3,7 @@
 use Rattle.std.proofs.Common.{◌<◌, List, [], ◌∷◌, length, ap₂, subst}
 use Rattle.std.proofs.lemmas.List.Elements.{length_all_zip}
 use Rattle.std.specs.List.{AllZip, each_same}
-use Rattle.ne_iter.specs.KeyClones.{KeepsEntries, KeepsItems}
+use Rattle.ne_iter.specs.Keyed.Clones.{KeepsEntries, KeepsItems}
 
 pub nonempty_clones : {X : Type 0} (of : X → X → Type 0) (xs ys : List X) → AllZip of xs ys
     → 0 < length xs → 0 < length ys

@@ -2,7 +2,7 @@
 use Rattle.std.specs.Prelude.{◌≡◌, Bool, cond, List, [], ◌∷◌, ◌++◌}
 use Rattle.std.specs.Map.{keys_of}
 use Rattle.std.specs.Set.{is_member}
-use Rattle.ne_iter.specs.Collected.{IsMapOf}
+use Rattle.ne_iter.specs.Collected.{IsMapOfPairs}
 
 module _ {K : Type 0} (eq : K → K → Bool) where
   -- The keys of a list that follows `before`, without those that equal an earlier key.
@@ -18,4 +18,4 @@ module _ {K : Type 0} (eq : K → K → Bool) where
   -- The entries are the map of the pairs, and their keys are the key list, in this order.
   abbrev pub IsKeyListMapOf : {V : Type 0} → List (K × V) → List (K × V) → Type 0
   IsKeyListMapOf pairs entries = (keys_of entries ≡ key_list (keys_of pairs))
-      × IsMapOf eq pairs entries
+      × IsMapOfPairs eq pairs entries

@@ -4,8 +4,7 @@ use Rattle.std.specs.Prelude.{◌≡◌, ◌^◌, ◌<◌, ℕ, List, length}
 use Rattle.std.specs.Map.Iter.{GivesInOrder, ShowsInOrder, TakesFirst, deref}
 use Rattle.ne_vec.specs.Lists.{Listed}
 
--- The entries are fewer than 2 ^ k. `ShowsInOrder view` serves the automatic proof.
--- The facts about an iterator whose items, through `view`, are the entries es.
+-- The facts about an iterator whose items, through `view`, are the entries es, fewer than 2 ^ k.
 abbrev pub KnownByReference : {A X : Type 0} → ℕ → (A → X) → List X → Type 0
 KnownByReference k view es = (length es < 2 ^ k) × ShowsInOrder view
 
@@ -29,8 +28,8 @@ IteratesEntriesByValue = IteratesKnown KnownByValue
 abbrev pub ListsEntries : {A X : Type 0} → (A → X) → List X → List X → Type 0
 ListsEntries view w es = Listed (IteratesEntries view) (TakesFirst view) view w es
 
--- A union may be longer than a set, so its items are fewer than 2 ^ 64, and not 2 ^ 63.
--- The iterator w over a union of two sets is a source of references to the items xs.
+-- The iterator w over a union of two sets is a source of references to the items xs. A union may be
+-- longer than a set, so they are fewer than 2 ^ 64, and not 2 ^ 63.
 abbrev pub ListsUnion : {X : Type 0} → List X → List X → Type 0
 ListsUnion w xs = Listed (IteratesKnown (KnownByReference 64 deref)) (TakesFirst deref) deref w xs
 

@@ -8,7 +8,7 @@ use Rattle.std.specs.Iterator.{Drains, ExtendsWithItems}
 use Rattle.std.specs.Option.{option_map}
 use Rattle.ne_vec.specs.Lists.{Lists, itself}
 use Rattle.ne_vec.specs.ListLaws.{triggered, of_lists}
-use Rattle.ne_iter.specs.ExtendLists.{ExtendsByList}
+use Rattle.ne_iter.specs.Keyed.Extends.{ExtendsByList}
 use Rattle.ne_iter.specs.SourceLists.{MeetsList}
 
 module _ {U S A : Type 0} (becomes : U → S → Type 0) (steps : S → Option A → S → Type 0) (u : U)

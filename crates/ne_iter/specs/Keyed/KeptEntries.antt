@@ -10,8 +10,8 @@ abbrev pub either_way : {A : Type 0} → Result A A → A
 either_way (Ok a) = a
 either_way (Err a) = a
 
--- f takes a `&` to the key k and a `&mut` to the value v of an entry.
--- Each call of f returns `keeps k v`, leaves `writes k v` in place of v, and leaves f unchanged.
+-- Each call of f with a `&` to the key k and a `&mut` to the value v of an entry returns
+-- `keeps k v`, leaves `writes k v` in place of v, and leaves f unchanged.
 abbrev pub ActsAsAtEntry : {F K V : Type 0}
     → Mut F (Bor K × (MutBor V × Unit {0})) (Bool × (MutBor V × Unit {0}))
     → F → (K → V → Bool) → (K → V → V) → Type 0

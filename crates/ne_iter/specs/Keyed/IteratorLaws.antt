@@ -4,7 +4,7 @@ use Rattle.std.proofs.Common.{arith, ap, subst, refl, ◌≡◌, ◌<◌, ◌∙
 use Rattle.std.specs.Map.Iter.{LendsFirst, TakesFirst}
 use Rattle.ne_vec.specs.Lists.{IsPrefix, Listed, Lists}
 use Rattle.ne_vec.specs.ListLaws.{triggered, viewed_prefix}
-use Rattle.ne_iter.specs.KeyIterators.{IteratesKnown}
+use Rattle.ne_iter.specs.Keyed.Iterators.{IteratesKnown}
 use Rattle.ne_iter.specs.Sources.{HasFirst, SameLists}
 use Rattle.ne_iter.specs.SourceLaws.{SameLists-through}
 

@@ -2,8 +2,8 @@
 use Rattle.std.specs.Prelude.{◌++◌, List}
 use Rattle.ne_vec.specs.Lists.{EachList, Naming}
 
--- `meets` is for a source whose list is stated by no clause of this crate.
--- The old items, followed by those that the source yields, make the new value.
+-- The old items, followed by those that the source yields, make the new value. `meets` is for a
+-- source whose list is stated by no clause of this crate.
 abbrev pub ExtendsByList : {U A : Type 0} → (U → List A → Type 0) → (U → List A → Type 0) → U
     → List A → (List A → Type 0) → Type 0
 ExtendsByList {A = A} lists meets u old makes = EachList lists u (λ xs. makes (old ++ xs))
