@@ -1,9 +1,10 @@
 //! Sets of half-open intervals. There is always an interval.
 ghost use Rattle.std.specs.Prelude.{◌≡◌, ◌<◌, ◌≤◌, ◌^◌, ◌⊎◌, ◌↔◌, [], ◌∷◌, ℕ, List, length};
 ghost use Rattle.std.specs.Prelude.{None, Some, IfOk, IfSome, IsTrue, MatchOption, OnErr, OnOk};
-ghost use Rattle.std.specs.BTreeMap.{btree_map_len, IsOrdered, IsUnchanged};
+ghost use Rattle.std.specs.BTreeMap.{IsUnchanged};
 ghost use Rattle.std.specs.Ordering.{nat_cmp};
 ghost use Rattle.nonempty_collections.specs.Taken.{TakesFoundUnlessLast};
+ghost use Rattle.nonempty_collections.specs.ValidTreeMap.{IsValid};
 ghost use Rattle.user_programs.specs.Points.{end_of, total_of, without, ArePoints, Covers};
 ghost use Rattle.user_programs.specs.Points.{IsIntervalSet, IsJoinedEnd, IsJoinedStart, IsWithin};
 
@@ -175,8 +176,7 @@ fn replace(map: &mut NEBTreeMap<u64, u64>, low: u64, high: u64) -> Result<(), Al
         → end_of map.new.entries start ≡ end_of map.old.entries start) }
     ensures above { OnOk result ((start : ℕ) → high < start
         → end_of map.new.entries start ≡ end_of map.old.entries start) }
-    ensures ordered { IsOrdered nat_cmp map.new }
-    ensures nonempty { 0 < btree_map_len map.new }
+    ensures valid { IsValid nat_cmp map.new }
     ensures unchanged { OnErr result (IsUnchanged map.old map.new) }
 {
     map.insert(low, high)?;

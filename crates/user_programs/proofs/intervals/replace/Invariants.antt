@@ -1,8 +1,9 @@
 use Rattle.user_programs.proofs.intervals.replace.Given as goal
 use Rattle.std.proofs.Common.{◌≡◌, ◌<◌, ℕ}
-use Rattle.std.specs.BTreeMap.{btree_map_len, IsOrdered}
+use Rattle.std.specs.BTreeMap.{btree_map_len}
 use Rattle.std.specs.Ordering.{nat_cmp}
 use Rattle.std.specs.Prelude.{Some}
+use Rattle.nonempty_collections.specs.ValidTreeMap.{IsValid}
 use Rattle.user_programs.specs.Points.{end_of}
 
 -- The new interval is in the set, and the intervals that start before or after it are unchanged.
@@ -13,8 +14,7 @@ invariant-loop-start l = record {
       → end_of l.map.entries start ≡ end_of l.fn.map.entries start;
   above : (start : ℕ) → l.high < start
       → end_of l.map.entries start ≡ end_of l.fn.map.entries start;
-  ordered : IsOrdered nat_cmp l.map;
-  nonempty : 0 < btree_map_len l.map;
+  valid : IsValid nat_cmp l.map;
 }
 
 abbrev pub decreases-loop-start : goal.decreases-loop-start
