@@ -1,12 +1,12 @@
 -- What a hashed map or set holds after pairs or items are inserted one after the other.
 use Rattle.std.specs.HashSet as set
-use Rattle.std.proofs.Common.{Bool, List, [], ◌∷◌, ◌++◌, Some, true}
+use Rattle.std.proofs.Common.{Bool, List, ◌++◌}
 use Rattle.std.specs.Cmp.{IsEquivalence}
-use Rattle.std.specs.HashMap.{HashMap, InsertsAll, IsUnique, Updates}
-use Rattle.std.specs.HashSet.{HashSet, IsUnique as AreUnique}
+use Rattle.std.specs.HashMap.{HashMap, InsertsAll, IsUnique}
+use Rattle.std.specs.HashSet.{HashSet}
 use Rattle.ne_iter.specs.Collected.{IsMapOfPairs, IsSetOf}
-use Rattle.ne_iter.specs.CollectedLaws.{map_of-inserts, map_of-more, nonempty-inserts}
-use Rattle.ne_iter.specs.CollectedLaws.{set_of-inserts, set_of-more, nonempty_set-inserts}
+use Rattle.ne_iter.specs.CollectedLaws.{map_of-inserts, nonempty-inserts}
+use Rattle.ne_iter.specs.CollectedLaws.{set_of-inserts, nonempty_set-inserts}
 use Rattle.ne_hash.specs.ValidHashMap.{IsValid}
 use Rattle.ne_hash.specs.ValidHashSet.{IsValid as AreValid}
 
@@ -22,13 +22,6 @@ module _ {K V S : Type 0} {eq : K → K → Bool} (laws : IsEquivalence eq) (m n
     (map_of-inserts_all v.1).0,
   )
 
-module _ {K V S : Type 0} (eq : K → K → Bool) where
-  -- The map after one more pair.
-  pub map_of-put : IsEquivalence eq → (xs : List (K × V)) (m n : HashMap K V S) (p : K × V)
-      → IsUnique eq n → Updates eq m n p.0 (Some p.1) → IsMapOfPairs eq xs m.entries
-      → IsMapOfPairs eq (xs ++ p ∷ []) n.entries
-  map_of-put laws xs m n p u put h = map_of-more laws xs m.entries n.entries p u put.0 h
-
 -- Items inserted one after the other.
 module _ {T S : Type 0} {eq : T → T → Bool} (laws : IsEquivalence eq) (s t : HashSet T S)
     (xs : List T) (x : set.InsertsAll eq s xs t) where
@@ -40,9 +33,3 @@ module _ {T S : Type 0} {eq : T → T → Bool} (laws : IsEquivalence eq) (s t :
     nonempty_set-inserts laws s.keys xs t.keys x.0 v.0,
     set_of-inserts_all.0,
   )
-
-module _ {T S : Type 0} (eq : T → T → Bool) where
-  -- The set after one more item.
-  pub set_of-put : IsEquivalence eq → (xs : List T) (s t : HashSet T S) (x : T) → AreUnique eq t
-      → set.Updates eq s t x true → IsSetOf eq xs s.keys → IsSetOf eq (xs ++ x ∷ []) t.keys
-  set_of-put laws xs s t x u put h = set_of-more laws xs s.keys t.keys x u put.0 h

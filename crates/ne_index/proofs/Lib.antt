@@ -1,7 +1,6 @@
 pub mod Found
 pub mod IndexInserts
 pub mod KeyLists
-pub mod Popped
 pub mod Put
 pub mod PutLookups
 pub mod SameEntries
