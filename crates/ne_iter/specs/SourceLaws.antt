@@ -34,6 +34,15 @@ SameLists-through becomes steps makes becomes' there back u whole xs = (
   (λ v e h. record { it = h.it; made = back u v h.it e h.made; given = h.given }),
 )
 
+-- a value that becomes what the source `value` of it becomes, and is made into that source
+pub SameLists-of : {U V S A : Type 0} (becomes : V → S → Type 0)
+    (steps : S → Option A → S → Type 0) (value : U → V) (fact : U → V → Type 0)
+    → ((u : U) → fact u (value u))
+    → SameLists (λ u it. becomes (value u) it) steps (λ u v. (v ≡ value u) × fact u v) becomes steps
+SameLists-of becomes steps value fact holds = SameLists-through _ _ _ _
+    (λ u it made. (value u, (refl, holds u), made))
+    (λ u v it same made. subst (λ w. becomes w it) same.0 made)
+
 -- a source that becomes a non-empty source is non-empty itself
 pub IsNonEmpty-into : {U S V T A : Type 0} (becomes : U → S → Type 0)
     (steps : S → Option A → S → Type 0) (makes : U → V → Type 0) (becomes' : V → T → Type 0)

@@ -5,23 +5,18 @@ use ne_vec::{NESlice, slice};
 
 impl<'a, T> IntoNonEmptyIterator for NESlice<'a, T> {
     ghost use Rattle.std.specs.Prelude.{◌≡◌};
-    ghost use Rattle.std.proofs.Common.{refl, subst};
+    ghost use Rattle.std.proofs.Common.{refl};
     ghost use Rattle.ne_vec.specs.Iterators.{ListsItems};
     ghost use Rattle.ne_vec.specs.IteratorLaws.{lists_items};
-    ghost use Rattle.ne_iter.specs.SourceLaws.{SameLists-through};
+    ghost use Rattle.ne_iter.specs.SourceLaws.{SameLists-of};
 
     type IntoNEIter = slice::Iter<'a, T>;
 
     ghost into_nonempty_iter_gives = { λ v s. (s ≡ v) × ListsItems s v };
 
-    ghost same_lists = { SameLists-through
-        (⟦<NESlice<'a, T> as IntoIterator>⟧.into_iter_gives)
-        (⟦<std::slice::Iter<'a, T> as Iterator>⟧.next_gives)
-        (λ v s. (s ≡ v) × ListsItems s v)
-        (⟦<slice::Iter<'a, T> as IntoIterator>⟧.into_iter_gives)
-        (λ v it made. (v, (refl, lists_items v v refl), made))
-        (λ v s it same made.
-        subst (λ xs. ⟦<slice::Iter<'a, T> as IntoIterator>⟧.into_iter_gives xs it) same.0 made) };
+    ghost same_lists = { SameLists-of (⟦<slice::Iter<'a, T> as IntoIterator>⟧.into_iter_gives)
+        (⟦<std::slice::Iter<'a, T> as Iterator>⟧.next_gives) (λ v. v) (λ v s. ListsItems s v)
+        (λ v. lists_items v v refl) };
 
     fn into_nonempty_iter(self) -> slice::Iter<'a, T> {
         slice::Iter::from(self)
@@ -30,23 +25,18 @@ impl<'a, T> IntoNonEmptyIterator for NESlice<'a, T> {
 
 impl<'a, T> IntoNonEmptyIterator for &'a NESlice<'a, T> {
     ghost use Rattle.std.specs.Prelude.{◌≡◌};
-    ghost use Rattle.std.proofs.Common.{refl, subst};
+    ghost use Rattle.std.proofs.Common.{refl};
     ghost use Rattle.ne_vec.specs.Iterators.{ListsItems};
     ghost use Rattle.ne_vec.specs.IteratorLaws.{lists_items};
-    ghost use Rattle.ne_iter.specs.SourceLaws.{SameLists-through};
+    ghost use Rattle.ne_iter.specs.SourceLaws.{SameLists-of};
 
     type IntoNEIter = slice::Iter<'a, T>;
 
     ghost into_nonempty_iter_gives = { λ v s. (s ≡ v.now) × ListsItems s v.now };
 
-    ghost same_lists = { SameLists-through
-        (⟦<&'a NESlice<'a, T> as IntoIterator>⟧.into_iter_gives)
-        (⟦<std::slice::Iter<'a, T> as Iterator>⟧.next_gives)
-        (λ v s. (s ≡ v.now) × ListsItems s v.now)
-        (⟦<slice::Iter<'a, T> as IntoIterator>⟧.into_iter_gives)
-        (λ v it made. (v.now, (refl, lists_items v.now v.now refl), made))
-        (λ v s it same made.
-        subst (λ xs. ⟦<slice::Iter<'a, T> as IntoIterator>⟧.into_iter_gives xs it) same.0 made) };
+    ghost same_lists = { SameLists-of (⟦<slice::Iter<'a, T> as IntoIterator>⟧.into_iter_gives)
+        (⟦<std::slice::Iter<'a, T> as Iterator>⟧.next_gives) (λ v. v.now)
+        (λ v s. ListsItems s v.now) (λ v. lists_items v.now v.now refl) };
 
     fn into_nonempty_iter(self) -> slice::Iter<'a, T> {
         self.nonempty_iter()

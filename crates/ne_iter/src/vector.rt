@@ -47,22 +47,18 @@ impl<T: Drop> NonEmptyIterator for vector::IntoIter<T> {
 impl<T: Drop> IntoNonEmptyIterator for NEVec<T> {
     ghost use Rattle.std.specs.Prelude.{◌≡◌};
     ghost use Rattle.std.specs.Global.{Global};
-    ghost use Rattle.std.proofs.Common.{refl, subst};
+    ghost use Rattle.std.proofs.Common.{refl};
     ghost use Rattle.ne_vec.specs.Iterators.{ListsItemsByValue};
     ghost use Rattle.ne_vec.specs.IteratorLaws.{lists_items_by_value};
-    ghost use Rattle.ne_iter.specs.SourceLaws.{SameLists-through};
+    ghost use Rattle.ne_iter.specs.SourceLaws.{SameLists-of};
 
     type IntoNEIter = vector::IntoIter<T>;
 
     ghost into_nonempty_iter_gives = { λ v s. (s ≡ v) × ListsItemsByValue Global s v };
 
-    ghost same_lists = { SameLists-through (⟦<NEVec<T> as IntoIterator>⟧.into_iter_gives)
-        (⟦<vec::IntoIter<T> as Iterator>⟧.next_gives)
-        (λ v s. (s ≡ v) × ListsItemsByValue Global s v)
-        (⟦<vector::IntoIter<T> as IntoIterator>⟧.into_iter_gives)
-        (λ v it made. (v, (refl, lists_items_by_value v v refl Global), made))
-        (λ v s it same made.
-        subst (λ xs. ⟦<NEVec<T> as IntoIterator>⟧.into_iter_gives xs it) same.0 made) };
+    ghost same_lists = { SameLists-of (⟦<vector::IntoIter<T> as IntoIterator>⟧.into_iter_gives)
+        (⟦<vec::IntoIter<T> as Iterator>⟧.next_gives) (λ v. v)
+        (λ v s. ListsItemsByValue Global s v) (λ v. lists_items_by_value v v refl Global) };
 
     fn into_nonempty_iter(self) -> vector::IntoIter<T> {
         vector::IntoIter::from(self)
@@ -71,22 +67,18 @@ impl<T: Drop> IntoNonEmptyIterator for NEVec<T> {
 
 impl<'a, T> IntoNonEmptyIterator for &'a NEVec<T> {
     ghost use Rattle.std.specs.Prelude.{◌≡◌};
-    ghost use Rattle.std.proofs.Common.{refl, subst};
+    ghost use Rattle.std.proofs.Common.{refl};
     ghost use Rattle.ne_vec.specs.Iterators.{ListsItems};
     ghost use Rattle.ne_vec.specs.IteratorLaws.{lists_items};
-    ghost use Rattle.ne_iter.specs.SourceLaws.{SameLists-through};
+    ghost use Rattle.ne_iter.specs.SourceLaws.{SameLists-of};
 
     type IntoNEIter = vector::Iter<'a, T>;
 
     ghost into_nonempty_iter_gives = { λ v s. (s ≡ v.now) × ListsItems s v.now };
 
-    ghost same_lists = { SameLists-through (⟦<&'a NEVec<T> as IntoIterator>⟧.into_iter_gives)
-        (⟦<slice::Iter<'a, T> as Iterator>⟧.next_gives)
-        (λ v s. (s ≡ v.now) × ListsItems s v.now)
-        (⟦<vector::Iter<'a, T> as IntoIterator>⟧.into_iter_gives)
-        (λ v it made. (v.now, (refl, lists_items v.now v.now refl), made))
-        (λ v s it same made.
-        subst (λ xs. ⟦<vector::Iter<'a, T> as IntoIterator>⟧.into_iter_gives xs it) same.0 made) };
+    ghost same_lists = { SameLists-of (⟦<vector::Iter<'a, T> as IntoIterator>⟧.into_iter_gives)
+        (⟦<slice::Iter<'a, T> as Iterator>⟧.next_gives) (λ v. v.now)
+        (λ v s. ListsItems s v.now) (λ v. lists_items v.now v.now refl) };
 
     fn into_nonempty_iter(self) -> vector::Iter<'a, T> {
         self.nonempty_iter()

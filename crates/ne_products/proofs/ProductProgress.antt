@@ -8,7 +8,8 @@ use Rattle.std.specs.Iterator.{Count, IsFinite, size, count_map, count_unless, M
 use Rattle.std.specs.Option.{option_len}
 use Rattle.ne_products.specs.declared.products.ProductIter.{ProductIter}
 use Rattle.ne_products.specs.Product.{left_of, right_of, row_of, restart_of, is_exhausted}
-use Rattle.ne_products.specs.Product.{IsRowItem, CanRestart, CanPair, pairs_left, row_size, PairsItems}
+use Rattle.ne_products.specs.Product.{IsRowItem, CanRestart, CanPair, pairs_left, row_size}
+use Rattle.ne_products.specs.Product.{PairsItems}
 
 live_count : (b : Bool) (c : Count) → b ≡ false → count_unless b c ≡ c
 live_count false c e = refl

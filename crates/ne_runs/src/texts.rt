@@ -150,7 +150,8 @@ fn text_of_runs<'a, R: NonEmptyIterator<Item = NESlice<'a, u32>>>(
     runs: R,
 ) -> Result<String, AllocError>
     requires { IsFiniteIterable R.into_iter_gives R.IntoIter.can_next R.IntoIter.remaining runs }
-    ensures { IfOk result (λ text. IsText (⟦<R as ItemSource>⟧.reads true runs) (string_bytes text)) }
+    ensures { IfOk result (λ text. IsText (⟦<R as ItemSource>⟧.reads true runs)
+        (string_bytes text)) }
 {
     let mut text = String::new(alloc);
     for run in runs {

@@ -172,7 +172,8 @@ module _ {K V : Type 0} {eq : K → K → Bool} (laws : IsEquivalence eq) (k : K
 
   -- A key that is not there is added after the others.
   pub added_last : (es at new : List (K × V)) → at ≡ es → new ≡ at ++ (k, v) ∷ []
-      → is_some (lookup (eq k) es) ≡ false → IsNonEmptyMap eq at → Puts eq es k v new × IsNonEmptyMap eq new
+      → is_some (lookup (eq k) es) ≡ false → IsNonEmptyMap eq at
+      → Puts eq es k v new × IsNonEmptyMap eq new
   added_last es at new same is absent map =
       subst (λ l. Puts eq l k v new × IsNonEmptyMap eq new) same (rw is (puts, is_map))
     where

@@ -373,8 +373,8 @@ pub trait NonEmptyIterator: IntoIterator {
         Self: Sized,
         ensures holds { Self.into_iter_gives self (filter_map_source result)
             × (filter_map_callee result ≡ f) }
-        ensures gives { EachReading (⟦<iter::FilterMap<Self::IntoIter, F> as ItemSource>⟧.reads) result
-            (IsFilterMapped (⟦<Self as ItemSource>⟧.reads) F.FnMut self f) }
+        ensures gives { EachReading (⟦<iter::FilterMap<Self::IntoIter, F> as ItemSource>⟧.reads)
+            result (IsFilterMapped (⟦<Self as ItemSource>⟧.reads) F.FnMut self f) }
         ensures lists { EachView item_view (⟦<Self as ItemSource>⟧.lists) self (λ view xs.
             (h : view.Target → Option B) → ActsAs F.FnMut f (λ x. h (view.of x))
             → Naming (list_filter_map h xs) (λ ys.
@@ -432,7 +432,8 @@ pub trait NonEmptyIterator: IntoIterator {
         Self: Sized,
         ensures holds { (flat_map_source result ≡ self) × (flat_map_callee result ≡ f) }
         ensures gives { EachReading (⟦<FlatMap<Self, U, F> as ItemSource>⟧.reads) result
-            (IsFlatMapped (⟦<Self as ItemSource>⟧.reads) (⟦<U as ItemSource>⟧.reads) F.FnMut self f) }
+            (IsFlatMapped (⟦<Self as ItemSource>⟧.reads) (⟦<U as ItemSource>⟧.reads) F.FnMut self
+            f) }
         ensures lists { SpreadsLists F.FnMut f (⟦<Self as ItemSource>⟧.lists itself)
             (BecomesList U.into_nonempty_iter_gives U.IntoNEIter.into_iter_gives
             U.IntoNEIter.IntoIter.next_gives itself)
@@ -888,8 +889,8 @@ pub trait NonEmptyIterator: IntoIterator {
         Self::Item: Drop,
         ensures holds { Self.into_iter_gives self (skip_while_source result)
             × (skip_while_callee result ≡ pred) × (skip_while_done_skipping result ≡ false) }
-        ensures gives { EachReading (⟦<iter::SkipWhile<Self::IntoIter, P> as ItemSource>⟧.reads) result
-            (IsSkippedWhile (⟦<Self as ItemSource>⟧.reads) P.FnMut self pred) }
+        ensures gives { EachReading (⟦<iter::SkipWhile<Self::IntoIter, P> as ItemSource>⟧.reads)
+            result (IsSkippedWhile (⟦<Self as ItemSource>⟧.reads) P.FnMut self pred) }
         ensures lists { EachKept item_view (⟦<Self as ItemSource>⟧.lists) self
             (skip_while_steps Self.IntoIter.next_gives P.FnMut) result (λ view xs gives.
             (test : view.Target → Bool) → ActsAsAt P.FnMut pred (λ x. test (view.of x))
@@ -954,8 +955,8 @@ pub trait NonEmptyIterator: IntoIterator {
         Self::Item: Drop,
         ensures holds { Self.into_iter_gives self (take_while_source result)
             × (take_while_callee result ≡ pred) × (take_while_done result ≡ false) }
-        ensures gives { EachReading (⟦<iter::TakeWhile<Self::IntoIter, P> as ItemSource>⟧.reads) result
-            (IsTakenWhile (⟦<Self as ItemSource>⟧.reads) P.FnMut self pred) }
+        ensures gives { EachReading (⟦<iter::TakeWhile<Self::IntoIter, P> as ItemSource>⟧.reads)
+            result (IsTakenWhile (⟦<Self as ItemSource>⟧.reads) P.FnMut self pred) }
         ensures lists { EachKept item_view (⟦<Self as ItemSource>⟧.lists) self
             (take_while_steps Self.IntoIter.next_gives P.FnMut) result (λ view xs gives.
             (test : view.Target → Bool) → ActsAsAt P.FnMut pred (λ x. test (view.of x))

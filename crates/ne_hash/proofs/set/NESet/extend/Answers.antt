@@ -13,14 +13,10 @@ pub returns-clause-valid : goal.returns-clause-valid
 returns-clause-valid = invariant_of-self
 
 pub returns-clause-ran : goal.returns-clause-ran
-returns-clause-ran g c = let r = c.extend.ensures.ran in
-    rw (← c.self.view_is) (
-      r.0,
-      r.1,
-      r.2,
-      set_of-inserts_all g.met.T.Eq.laws c.self.inside.inner c.extend.new.self r.1 r.3,
-      r.4,
-    )
+returns-clause-ran g c =
+    let r = c.extend.ensures.ran in
+    let added = set_of-inserts_all g.met.T.Eq.laws c.self.inside.inner c.extend.new.self r.1 r.3 in
+    rw (← c.self.view_is) (r.0, r.1, r.2, added, r.4)
 
 pub returns-clause-lists : goal.returns-clause-lists
 returns-clause-lists g c =

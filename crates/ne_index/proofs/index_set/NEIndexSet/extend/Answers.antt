@@ -13,18 +13,11 @@ pub returns-clause-valid : goal.returns-clause-valid
 returns-clause-valid = invariant_of-self
 
 pub returns-clause-ran : goal.returns-clause-ran
-returns-clause-ran g c = let r = c.extend.ensures.ran in
-    rw (← c.self.view_is) (
-      r.0,
-      r.1,
-      r.2,
-      (
-        key_list_set-extends g.met.T.Eq.laws c.self.inside.inner c.extend.new.self r.1 r.3
-            c.self.invariant.1,
-        r.3.2.1,
-      ),
-      r.4,
-    )
+returns-clause-ran g c =
+    let r = c.extend.ensures.ran in
+    let added = key_list_set-extends g.met.T.Eq.laws c.self.inside.inner c.extend.new.self r.1 r.3
+    c.self.invariant.1 in
+    rw (← c.self.view_is) (r.0, r.1, r.2, (added, r.3.2.1), r.4)
 
 pub returns-clause-lists : goal.returns-clause-lists
 returns-clause-lists g c =
