@@ -14,7 +14,7 @@ use Rattle.std.specs.declared.cmp.Ordering.TheVariants.{Less, Equal, Greater}
 use Rattle.ne_vec.specs.Searches.{CallableAtItems}
 use denote.Param.Always.{always_mut, mut_next}
 
-all_cons : {A : Type 0} (P : A → Type 0) (x : A) (xs : List A) → P x → All P xs → All P (x ∷ xs)
+pub all_cons : {A : Type 0} (P : A → Type 0) (x : A) (xs : List A) → P x → All P xs → All P (x ∷ xs)
 all_cons P x xs first rest zero d h = first
 all_cons P x xs first rest (suc k) d h = rest k d (omega arith)
 
@@ -23,15 +23,17 @@ module _ {F A R : Type 0} (calls : Mut F (Bor A × Unit {0}) R) (xs : List A) wh
   pub items_next : (f : F) (i : ℕ) (x : A) (r : R) (g : F) → i < length xs
       → x ≡ slice_index_or xs i x → CalledAt calls f x r g
       → CallableAtItems calls f xs → CallableAtItems calls g xs
-  items_next f i x r g inside read called callable shown h among folds =
-      callable (x ∷ shown) h (all_cons (Contains xs) x shown (i, inside, sym read) among)
-      (g, (r, called), folds)
+  items_next f i x r g inside read called callable =
+      record {
+        at = λ shown h among folds. callable.at (x ∷ shown) h
+            (all_cons (Contains xs) x shown (i, inside, sym read) among) (g, (r, called), folds);
+      }
 
   -- the closure may be called with the item at a place
   pub items_take : (f : F) (i : ℕ) (x : Bor A) → i < length xs
       → x.now ≡ slice_index_or xs i x.now → CallableAtItems calls f xs → calls.pre f (x, tt)
   items_take f i x inside read callable =
-      callable [] f (λ k d h. absurd (omega arith)) refl i x.now inside x read
+      callable.at [] f (λ k d h. absurd (omega arith)) refl i x.now inside x read
 
   stays_callable : (shown : List A) (f g : F)
       → FoldsTo (λ p x q. (r : R) × CalledAt calls p x r q) f shown g
@@ -43,8 +45,11 @@ module _ {F A R : Type 0} (calls : Mut F (Bor A × Unit {0}) R) (xs : List A) wh
 
   -- the closure may be called with the items if it may be called with any value
   pub items_always : (f : F) → always_mut calls f → CallableAtItems calls f xs
-  items_always f always shown g among folds k d inside y read =
-      ((stays_callable shown f g folds always).at ((y, tt) ∷ [])).0
+  items_always f always =
+      record {
+        at = λ shown g among folds k d inside y read.
+            ((stays_callable shown f g folds always).at ((y, tt) ∷ [])).0;
+      }
 
 module _ {F X R : Type 0} (calls : Mut F X R) (P : X → R → Type 0) where
   pub answers_next : (f : F) (a : X) (r : R) (g : F) → Called calls f a r g
@@ -67,8 +72,11 @@ module _ {F G A K R : Type 0} (inner : Mut F (Bor A × Unit {0}) K)
   pub callable_under : (g : G) (xs : List A)
       → ((h : G) (x : A) → TakesAt inner (under h) x → TakesAt outer h x)
       → CallableAtItems inner (under g) xs → CallableAtItems outer g xs
-  callable_under g xs takes callable shown h among folds k d inside =
-      takes h _ (callable shown (under h) among (folds_under shown g h folds) k d inside)
+  callable_under g xs takes callable =
+      record {
+        at = λ shown h among folds k d inside.
+            takes h _ (callable.at shown (under h) among (folds_under shown g h folds) k d inside);
+      }
 
   returns_each : (key : A → K) (xs : List (Bor A × Unit {0})) (g : G) → fixed g
       → ComputesKey inner key (under g)

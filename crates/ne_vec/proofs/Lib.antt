@@ -2,6 +2,7 @@ pub mod Lists
 pub mod Divisions
 pub mod Relations
 pub mod Halving
+pub mod Sifts
 pub mod Kept
 pub mod SortedKeys
 pub mod Chunked

@@ -11,7 +11,7 @@ ghost use Rattle.std.specs.Iterator.{Yields};
 ghost use Rattle.ne_vec.specs.declared.Error.{Error};
 ghost use Rattle.ne_vec.specs.Divisions.{IsDivision, by_first, by_previous, concat, heads, runs_of};
 ghost use Rattle.ne_vec.specs.Kept.{KeepsFirsts};
-ghost use Rattle.ne_vec.specs.Searches.{CallableAtItems};
+ghost use Rattle.ne_vec.specs.Searches.{CallableAtItems, CallableAtItemsMut};
 ghost use Rattle.ne_vec.specs.Chunks.{chunks};
 ghost use Rattle.ne_vec.specs.SliceRuns.{Cutting, ActsAsAtPair, CutsRun};
 
@@ -186,9 +186,23 @@ pub fn partial_ties_are_passed_over<T: PartialOrd>()
 {}
 
 /// A closure that can be called with any item can be called with the items of each list. Generic
-/// code that knows the former calls this law before a method that requires the latter.
+/// code that knows the former calls this law before a method that requires the latter, such as
+/// `binary_search_by`.
 pub fn always_callable_is_callable_at_items<T, R, F: FnMut(&T) -> R>()
     ensures { (f : F) (xs : List T) → F.IsAlwaysCallable f → CallableAtItems F.FnMut f xs }
+{}
+
+/// The law [`always_callable_is_callable_at_items`] of a closure that returns a `bool`, as
+/// `partition_point` and `retain` call it.
+pub fn always_callable_test_is_callable_at_items<T, F: FnMut(&T) -> bool>()
+    ensures { (f : F) (xs : List T) → F.IsAlwaysCallable f → CallableAtItems F.FnMut f xs }
+{
+    always_callable_is_callable_at_items::<T, bool, F>();
+}
+
+/// The law [`always_callable_is_callable_at_items`] of a closure as `retain_mut` calls it.
+pub fn always_callable_test_is_callable_at_items_mut<T, F: FnMut(&mut T) -> bool>()
+    ensures { (f : F) (xs : List T) → F.IsAlwaysCallable f → CallableAtItemsMut F.FnMut f xs }
 {}
 
 /// The runs that were taken of a slice, in order, followed by the runs of the items that are left,

@@ -2,26 +2,26 @@
 //!
 //! The methods are in the Rust crate's order, with those that it lacks beside what they are like.
 //! This module has those that read and edit, `search` those that search, `sort` those that sort,
-//! `random` those that draw from a random number generator, and `dedup` those that drop repeated
-//! neighbours. `iter` has the non-empty iterators, and `traits` the other trait implementations.
+//! `random` those that draw from a random number generator, `retain` those that keep what meets a
+//! test, and `dedup` those that drop repeated neighbours. `iter` has the non-empty iterators, and
+//! `traits` the other trait implementations.
 //!
 //! If an allocation fails, the Rust crate's methods abort the process. Here a method that allocates
 //! returns `AllocError`, and its comment says what holds after that. Constructors take an
 //! allocator, and each vector keeps its own. The comment of each method says what else differs from
 //! the Rust crate.
-ghost use Rattle.std.specs.Prelude.{◌≡◌, ◌-◌, ◌<◌, ◌≤◌, ◌↔◌, Bool, false, [], ◌∷◌, ◌++◌, map};
+ghost use Rattle.std.specs.Prelude.{◌≡◌, ◌-◌, ◌<◌, ◌≤◌, ◌↔◌, Bool, false, [], ◌∷◌, ◌++◌};
 ghost use Rattle.std.specs.Prelude.{length, take, drop, reverse, replicate, Some, None, IsSome};
-ghost use Rattle.std.specs.Prelude.{IfSome, IfOk, OnOk, OnErr, IsErr, slice_get};
+ghost use Rattle.std.specs.Prelude.{IfSome, IfOk, OnOk, OnErr, slice_get};
 ghost use Rattle.std.specs.NonZero.{non_zero_usize_get};
-ghost use Rattle.std.specs.List.{AllZip, AllClonesOf, AppendsClones, filter, insert, list_any};
+ghost use Rattle.std.specs.List.{AllZip, AllClonesOf, AppendsClones, insert, list_any};
 ghost use Rattle.std.specs.List.{remove, swap, swap_remove};
-ghost use Rattle.std.specs.List.Retain.{IsFiltered, RetainsInTurn};
-ghost use Rattle.std.specs.Fn.{CalledAt, CalledAtMut};
-ghost use Rattle.std.specs.Iterator.{ActsAsAt, IsFiniteIterable, ExtendsWithItems};
+ghost use Rattle.std.specs.Iterator.{IsFiniteIterable, ExtendsWithItems};
 
 mod dedup;
 mod iter;
 mod random;
+mod retain;
 mod search;
 mod sort;
 mod traits;
@@ -65,7 +65,6 @@ impl<T> NEVec<T> {
     ghost use Rattle.ne_vec.specs.VectorLends.{std_iterator};
     ghost use Rattle.ne_vec.specs.Iterators.{IteratesOver, IteratesOverMut, ListsItems};
     ghost use Rattle.ne_vec.specs.Chunks.{chunks, ChunksGive};
-    ghost use Rattle.ne_vec.specs.Kept.{kept_items, ActsAsAtMut};
     ghost use Rattle.ne_vec.specs.Taken.{TakesUnlessLast};
 
     /// Returns a vector of one item, `head`.
@@ -247,71 +246,6 @@ impl<T> NEVec<T> {
             Some(self.inner.swap_remove(index))
         } else {
             None
-        }
-    }
-
-    /// Keeps the items for which `f` returns `true`, in order, or returns the empty vector as an
-    /// error if there is no such item.
-    ///
-    /// `f` is called once for each item, in order. It must be callable with any value of the items'
-    /// type. The clause `kept` covers an `f` whose result depends only on the item; `called` covers
-    /// any `f`.
-    ///
-    /// ```
-    /// let even = nev![alloc; 4, 5, 6, 7]?.retain(|x| *x % 2 == 0); // Ok([4, 6])
-    /// let none = nev![alloc; 1, 3]?.retain(|x| *x % 2 == 0); // Err([])
-    /// ```
-    pub fn retain<F: FnMut(&T) -> bool>(self, f: F) -> Result<Self, Vec<T>>
-    where
-        T: Drop,
-        requires { F.IsAlwaysCallable f }
-        ensures none { IsErr result ↔ (kept_items result ≡ []) }
-        ensures kept { (keeps : T → Bool) → ActsAsAt F.FnMut f keeps
-            → kept_items result ≡ filter keeps self }
-        ensures called { IsFiltered (CalledAt F.FnMut) f self (kept_items result) }
-    {
-        let mut inner = self.inner;
-        inner.retain(f);
-        NEVec::try_from_kept(inner)
-    }
-
-    /// Keeps the items for which `f` returns `true`, in order and with the changes that `f` made to
-    /// them, or returns the empty vector as an error if there is no such item.
-    ///
-    /// `f` is called once for each item, in order. It must be callable with any value of the items'
-    /// type. The clause `kept` covers an `f` whose result and changes depend only on the item;
-    /// `called` covers any `f`.
-    ///
-    /// ```
-    /// let items = nev![alloc; 3, 1, 4, 1, 5, 9, 2, 6]?;
-    /// let even_halves = items.retain_mut(|x| {
-    ///     *x /= 2;
-    ///     *x % 2 == 0
-    /// }); // Ok([0, 2, 0, 2, 4])
-    /// ```
-    pub fn retain_mut<F: FnMut(&mut T) -> bool>(self, f: F) -> Result<Self, Vec<T>>
-    where
-        T: Drop,
-        requires { F.IsAlwaysCallable f }
-        ensures none { IsErr result ↔ (kept_items result ≡ []) }
-        ensures kept { (keeps : T → Bool) (writes : T → T) → ActsAsAtMut F.FnMut f keeps writes
-            → kept_items result ≡ map writes (filter keeps self) }
-        ensures called { RetainsInTurn (CalledAtMut F.FnMut) f self (kept_items result) }
-    {
-        let mut inner = self.inner;
-        inner.retain_mut(f);
-        NEVec::try_from_kept(inner)
-    }
-
-    // Returns what `retain` kept, as a non-empty vector, or as it is if it is empty.
-    fn try_from_kept(inner: Vec<T>) -> Result<Self, Vec<T>>
-        ensures none { IsErr result ↔ (kept_items result ≡ []) }
-        ensures kept { kept_items result ≡ inner.items }
-    {
-        if inner.is_empty() {
-            Err(inner)
-        } else {
-            Ok(NEVec { inner })
         }
     }
 

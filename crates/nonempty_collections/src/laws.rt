@@ -47,10 +47,11 @@ pub use ne_tree::laws::{
     sets_one_by_one_are_collected,
 };
 pub use ne_vec::laws::{
-    always_callable_is_callable_at_items, chunks_make_the_whole, computed_runs_are_the_division,
-    converse_has_the_same_division, dedup_by_key_keeps_the_first_items, first_and_previous_agree,
-    has_one_division, lists_are_in_lexicographic_order, longer_list_keeps_runs,
-    mapped_list_has_the_mapped_runs, one_item_more, partial_ties_are_passed_over,
-    runs_taken_are_the_first_runs, slices_compare_as_lists, ties_are_passed_over,
-    vectors_come_back, vectors_compare_as_lists,
+    always_callable_is_callable_at_items, always_callable_test_is_callable_at_items,
+    always_callable_test_is_callable_at_items_mut, chunks_make_the_whole,
+    computed_runs_are_the_division, converse_has_the_same_division,
+    dedup_by_key_keeps_the_first_items, first_and_previous_agree, has_one_division,
+    lists_are_in_lexicographic_order, longer_list_keeps_runs, mapped_list_has_the_mapped_runs,
+    one_item_more, partial_ties_are_passed_over, runs_taken_are_the_first_runs,
+    slices_compare_as_lists, ties_are_passed_over, vectors_come_back, vectors_compare_as_lists,
 };

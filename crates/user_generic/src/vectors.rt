@@ -1,11 +1,14 @@
 //! Vectors in generic code, behind references, and with closures that not every value may be passed
 //! to. There is no proof file.
 ghost use Rattle.std.specs.Prelude.{◌≡◌, ◌+◌, ◌-◌, ◌/◌, ◌<◌, ◌≤◌, ◌↔◌, [], ◌∷◌, ◌++◌, length, List};
-ghost use Rattle.std.specs.Prelude.{slice_get, slice_set, All, IfOk, IsSomeAnd, IsSorted};
+ghost use Rattle.std.specs.Prelude.{slice_get, slice_set, All, IfOk, IfSome, IsSomeAnd, IsSorted};
+ghost use Rattle.std.specs.Prelude.{filter, ltb, map};
 ghost use Rattle.std.specs.Prelude.{IsTrue, None, Some};
 ghost use Rattle.std.specs.Cmp.Lexicographic.{slice_cmp, slice_partial_cmp};
 ghost use Rattle.std.specs.Iterator.{ExtendsWithItems, HoldsAlong, IsFinite, IsFiniteIterable};
+ghost use Rattle.std.specs.Fn.{CalledAt, CalledAtMut};
 ghost use Rattle.std.specs.List.{AllZip};
+ghost use Rattle.std.specs.List.Retain.{IsFiltered, RetainsInTurn};
 ghost use Rattle.std.specs.List.Sorted.{IsSearchInRange};
 ghost use Rattle.std.specs.NonZero.{non_zero_usize_get};
 ghost use Rattle.std.specs.declared.cmp.Ordering.TheVariants.{Equal, Greater};
@@ -13,7 +16,10 @@ ghost use Rattle.nonempty_collections.specs.Chunks.{chunks};
 ghost use Rattle.nonempty_collections.specs.Kept.{KeepsFirsts};
 ghost use Rattle.nonempty_collections.specs.SliceRuns.{CallableAtPairs};
 
-use nonempty_collections::laws::always_callable_is_callable_at_items;
+use nonempty_collections::laws::{
+    always_callable_is_callable_at_items, always_callable_test_is_callable_at_items,
+    always_callable_test_is_callable_at_items_mut,
+};
 use nonempty_collections::{NESlice, NEVec, Singleton, nev};
 use std::alloc::{AllocError, Global};
 use std::cmp::Ordering;
@@ -282,6 +288,62 @@ pub fn place<T, F: FnMut(&T) -> Ordering>(v: &NEVec<T>, f: F) -> Result<usize, u
 {
     always_callable_is_callable_at_items::<T, Ordering, F>();
     v.binary_search_by(f)
+}
+
+/// Counts the first items that meet any test that can be called with every value.
+pub fn first_ones<T, F: FnMut(&T) -> bool>(v: &NEVec<T>, f: F) -> usize
+    requires { F.IsAlwaysCallable f }
+    ensures { result ≤ length v.now }
+{
+    always_callable_test_is_callable_at_items::<T, F>();
+    v.partition_point(f)
+}
+
+/// Keeps the items that meet any test that can be called with every value.
+pub fn kept<T: Drop, F: FnMut(&T) -> bool>(v: NEVec<T>, f: F) -> Option<NEVec<T>>
+    requires { F.IsAlwaysCallable f }
+    ensures { IfSome result (λ kept. IsFiltered (CalledAt F.FnMut) f v kept) }
+{
+    always_callable_test_is_callable_at_items::<T, F>();
+    v.retain(f).ok()
+}
+
+/// The same with a test that may change the items.
+pub fn kept_and_changed<T: Drop, F: FnMut(&mut T) -> bool>(v: NEVec<T>, f: F) -> Option<NEVec<T>>
+    requires { F.IsAlwaysCallable f }
+    ensures { IfSome result (λ kept. RetainsInTurn (CalledAtMut F.FnMut) f v kept) }
+{
+    always_callable_test_is_callable_at_items_mut::<T, F>();
+    v.retain_mut(f).ok()
+}
+
+/// Keeps the items that divide `n` more than three times.
+pub fn small_divisors(v: NEVec<u32>, n: u32) -> Option<NEVec<u32>>
+    requires { All (λ x. 0 < x) v }
+    ensures { IfSome result (λ kept. kept ≡ filter (λ x. ltb 3 (n / x)) v) }
+{
+    v.retain(|x| n / *x > 3).ok()
+}
+
+/// Keeps the indices at which a table has a large number.
+pub fn indices_of_large(v: NEVec<usize>, table: &[u32]) -> Option<NEVec<usize>>
+    requires { All (λ i. i < length table.now) v }
+    ensures { IfSome result (λ kept. 0 < length kept) }
+{
+    v.retain(|i| table[*i] > 1000).ok()
+}
+
+/// Replaces each item by a quotient, and keeps those above 2.
+pub fn large_quotients(v: NEVec<u32>, n: u32) -> Option<NEVec<u32>>
+    requires { All (λ x. 0 < x) v }
+    ensures { IfSome result (λ kept.
+        kept ≡ map (λ x. n / x) (filter (λ x. ltb 2 (n / x)) v)) }
+{
+    let kept = v.retain_mut(|x| {
+        *x = n / *x;
+        *x > 2
+    });
+    kept.ok()
 }
 
 /// Compares two vectors.
