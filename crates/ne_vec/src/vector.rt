@@ -569,6 +569,18 @@ impl<T> NEVec<T> {
         }
     }
 
+    /// Returns the items as a `Vec`, in the same memory. It doesn't allocate. Not in the Rust crate,
+    /// which has only `Vec::from`.
+    ///
+    /// ```
+    /// let vec = nev![alloc; 4, 6, 8]?.into_vec(); // [4, 6, 8]
+    /// ```
+    pub fn into_vec(self) -> Vec<T>
+        ensures { result.items ≡ self }
+    {
+        self.inner
+    }
+
     /// Returns a new vector of clones of the items, in order, with the same allocator.
     ///
     /// Returns `AllocError` if the allocation fails, or if cloning an item fails. The items are the

@@ -302,6 +302,14 @@ pub fn try_from_vec(alloc: Global) -> Result<(Option<NEVec<u32>>, Option<NEVec<u
     Ok((some, none))
 }
 
+/// The example of `into_vec`.
+pub fn into_vec(alloc: Global) -> Result<Vec<u32>, AllocError>
+    ensures { IfOk result (λ vec. vec.items ≡ 4 ∷ 6 ∷ 8 ∷ []) }
+{
+    let vec = nev![alloc; 4, 6, 8]?.into_vec();
+    Ok(vec)
+}
+
 /// The example of `clone`.
 pub fn clone(alloc: Global) -> Result<NEVec<u32>, AllocError>
     ensures { IfOk result (λ same. same ≡ 3 ∷ 1 ∷ 4 ∷ 1 ∷ 5 ∷ 9 ∷ 2 ∷ 6 ∷ []) }

@@ -26,7 +26,7 @@ impl<T> From<NEVec<T>> for Vec<T> {
     ghost from_gives = { λ v w. (w.items ≡ v) × (0 < length v) };
 
     fn from(value: NEVec<T>) -> Vec<T> {
-        value.inner
+        value.into_vec()
     }
 }
 
