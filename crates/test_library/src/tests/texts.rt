@@ -72,7 +72,7 @@ fn of_characters(rt: HostRuntime) -> Result<(), Fail> {
     is((text.as_str(), again.as_str()), ("xy", "xy"))
 }
 
-// The hint of chunks is exact.
+// The hint of chunks is exact; `cloned` and `scan` pass on that of their source.
 #[test]
 fn hints(rt: HostRuntime) -> Result<(), Fail> {
     let five = list(rt.alloc(), &[1u32, 2, 3, 4, 5])?;
@@ -80,6 +80,14 @@ fn hints(rt: HostRuntime) -> Result<(), Fail> {
     let before = chunks.size_hint();
     let _ = chunks.next();
     is((before, chunks.size_hint()), ((3, Some(3)), (2, Some(2))))?;
+    let mut cloned = five.nonempty_iter().cloned().into_iter();
+    let before = cloned.size_hint();
+    let _ = cloned.next();
+    is((before, cloned.size_hint()), ((5, Some(5)), (4, Some(4))))?;
+    let mut scanned = five.nonempty_iter().scan(0u32, |_, x| *x).into_iter();
+    let before = scanned.size_hint();
+    let _ = scanned.next();
+    is((before, scanned.size_hint()), ((5, Some(5)), (4, Some(4))))?;
     let spread = five.nonempty_iter().flat_map(|x| [*x, 0]).into_iter();
     is(spread.size_hint(), (0, None))
 }
