@@ -1,8 +1,10 @@
 //! The macros that make collections of what is written out.
 
-// Adds each item, or each pair, to the collection that is made first, by its method `$add`. The
-// expressions are evaluated one after another, and none after a failure. The macros below use it;
-// nothing else should.
+/// Adds each item, or each pair, to the collection that is made first, by its method `$add`. The
+/// expressions are evaluated one after another, and none after a failed allocation.
+///
+/// The other macros expand to it, so it is exported; call one of them.
+#[doc(hidden)]
 #[macro_export]
 macro_rules! add_each {
     ($made:expr; $add:ident; $($item:expr $(=> $value:expr)?),+) => {

@@ -75,6 +75,9 @@ pub fn tree_maps_end<'a, K: Ord + Drop + 'a, V: Drop + 'a>()
     ensures own { (m : _) → ⟦<btree_map::IntoIter<K, V> as ItemSource>⟧.ends m }
     ensures keys { (m : _) → ⟦<btree_map::Keys<'a, K, V> as ItemSource>⟧.ends m }
     ensures values { (m : _) → ⟦<btree_map::Values<'a, K, V> as ItemSource>⟧.ends m }
+    ensures writing_values { (m : _) → ⟦<btree_map::ValuesMut<'a, K, V> as ItemSource>⟧.ends m }
+    ensures own_keys { (m : _) → ⟦<btree_map::IntoKeys<K, V> as ItemSource>⟧.ends m }
+    ensures own_values { (m : _) → ⟦<btree_map::IntoValues<K, V> as ItemSource>⟧.ends m }
 {}
 
 /// A tree set ends, by value and by reference, and so do its iterators.
@@ -96,6 +99,9 @@ pub fn hashed_maps_end<'a, K: Eq + Hash + Drop + 'a, V: Drop + 'a, S: BuildHashe
     ensures own { (m : _) → ⟦<map::IntoIter<K, V> as ItemSource>⟧.ends m }
     ensures keys { (m : _) → ⟦<map::Keys<'a, K, V> as ItemSource>⟧.ends m }
     ensures values { (m : _) → ⟦<map::Values<'a, K, V> as ItemSource>⟧.ends m }
+    ensures writing_values { (m : _) → ⟦<map::ValuesMut<'a, K, V> as ItemSource>⟧.ends m }
+    ensures own_keys { (m : _) → ⟦<map::IntoKeys<K, V> as ItemSource>⟧.ends m }
+    ensures own_values { (m : _) → ⟦<map::IntoValues<K, V> as ItemSource>⟧.ends m }
 {}
 
 /// A hashed set ends, by value and by reference, and so do its iterators.
