@@ -2,6 +2,7 @@ pub mod Places
 pub mod ProductPrefixes
 pub mod ProductLists
 pub mod ProductProgress
+pub mod ProductRows
 pub mod ProductRuns
 pub mod ProductSteps
 pub mod Restarted

@@ -1,16 +1,17 @@
 -- From the lists that two sources yield to the pairs that their product yields.
-use Rattle.std.proofs.Common.{refl, subst}
-use Rattle.std.specs.Prelude.{◌≡◌, Bool, true, List, Ok, Option, Result, map}
+use Rattle.std.proofs.Common.{ap, append-nil, inl, inr, refl, subst, sym, ◌∙◌}
+use Rattle.std.specs.Prelude.{◌≡◌, Bool, true, List, Ok, Option, Result, map, length, ◌++◌}
 use Rattle.std.specs.Iterator.{Count, DrainsIf}
 use Rattle.std.specs.declared.alloc.AllocError.{AllocError}
 use Rattle.ne_vec.specs.Lists.{Lists, itself}
 use Rattle.ne_vec.specs.ListLaws.{lists_of, of_lists, triggered}
 use Rattle.ne_iter.specs.Sources.{ReadsList, Reads, SameLists}
 use Rattle.ne_iter.specs.SourceLists.{BecomesList}
-use Rattle.ne_products.specs.Pairs.{cartesian_product, CanRefuse}
-use Rattle.ne_products.specs.Restarts.{ClonesAgain, ClonesYield, HasExactClones, NeverRefuses}
+use Rattle.ne_products.specs.Pairs.{cartesian_product, pairs_by_row, CanRefuse, ClonedPairs}
+use Rattle.ne_products.specs.Restarts.{ClonesAgain, HasExactClones, NeverRefuses, RestartsFrom}
 use Rattle.ne_products.specs.Restarts.{PairsListed, PairsLists, YieldsPairs}
 use Rattle.ne_products.proofs.ProductPrefixes.{all_values, product_prefix}
+use Rattle.ne_products.proofs.ProductRows.{cloned_longer, equal_rows}
 
 module _ {U S A : Type 0} (becomes : U → S → Type 0) (steps : S → Option A → S → Type 0) where
   pub lists_read : (u : U) (xs : List A) → Lists becomes steps (λ x. x) u xs
@@ -47,9 +48,8 @@ abbrev Gives : {U V X J A B E : Type 0} → (Bool → U → List A → Type 0)
     → (J → Option B → J → Type 0) → (A → A → Type 0) → (A → Type 0) → (X → J → Type 0)
     → (J → Type 0) → U → X → V → Type 0
 Gives reads paired left copies next clones infallible begins certain u x v = YieldsPairs reads
-    (ClonesAgain begins left copies x) (begins x) (Yields next)
-    (ClonesYield begins copies (Yields next) x) clones infallible (CanRefuse begins certain x)
-    paired u v
+    (ClonesAgain begins left copies x) (begins x) (Reads (λ i j. j ≡ i) next) copies clones
+    infallible (CanRefuse begins certain x) paired u v
 
 -- The list that a product yields.
 pub product_list : {U V X T J A B E : Type 0} {reads : Bool → U → List A → Type 0}
@@ -62,14 +62,24 @@ pub product_list : {U V X T J A B E : Type 0} {reads : Bool → U → List A →
     → (xs : List A) (ys : List B) → HasExactClones clones infallible xs → ReadsList reads u xs
     → ((j : J) → begins x j → Yields next j ys)
     → ReadsList (Reads made steps) v (map Ok (cartesian_product xs ys))
-product_list left clones infallible begins certain x gives again sure xs ys exact first each whole
-    zs read =
+product_list {J = J} {copies = copies} {next = next} left clones infallible begins certain x gives
+    again sure xs ys exact first each whole zs read =
     let came = gives again whole zs read in
-    let p = came.2 ys (each came.0 came.1)
-    (λ j c begun copied _. each c (again j c begun copied).0) in
-    product_prefix clones infallible (CanRefuse begins certain x)
-    (λ can. can.2 (sure can.0 can.1)) whole xs p.items ys zs exact (first _ p.items p.read)
-    p.paired p.all
+    let p = came.2 in
+    let refused = CanRefuse begins certain x in
+    let rows = equal_rows (Reads (λ i j. j ≡ i) next) (RestartsFrom copies came.0) ys
+    (each_row came.0 came.1) _ p.items p.rows p.same_length p.read_rows in
+    product_prefix clones infallible refused (λ can. can.2 (sure can.0 can.1)) whole xs p.items ys
+    zs exact (first _ p.items p.read)
+    (subst (λ ps. ClonedPairs clones infallible refused ps zs) (sym rows.1)
+    (cloned_longer clones infallible refused rows.0 (pairs_by_row p.items p.rows) zs p.paired))
+    (λ w. p.all w ∙ sym (ap length (rows.1 ∙ ap (λ l. pairs_by_row p.items p.rows ++ l)
+    (rows.2 w) ∙ append-nil (pairs_by_row p.items p.rows))))
+  where
+    each_row : (j : J) → begins x j → (i : J) → RestartsFrom copies j i → Yields next i ys
+    each_row j begun i (inl e) = subst (λ k. Yields next k ys) (sym e) (each j begun)
+    each_row j begun i (inr (c, copy, more)) =
+        each i (again c i (again j c begun copy).0 more).0
 
 module _ {U V W R X S T J A B : Type 0} (becomes : U → S → Type 0)
     (steps : S → Option A → S → Type 0) (meets : W → R → Type 0) (other : R → Option B → R → Type 0)

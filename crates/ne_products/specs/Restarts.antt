@@ -1,8 +1,9 @@
 -- For `cartesian_product`: what is required of its second source, which is iterated over once for
--- each row, and the pairs that are then yielded. It becomes an iterator j, and its items ys are the
--- list that j and the clones of j yield.
+-- each row, and the pairs that are then yielded. It becomes an iterator j, and a row is read from j
+-- or from a clone of a clone of j.
 use Rattle.std.specs.Prelude.{◌≡◌, ◌≤◌, Bool, Contains, List, Option, Result, Ok, map}
 use Rattle.std.specs.Iterator.{Count, size}
+use Rattle.std.proofs.Common.{◌⊎◌}
 use Rattle.std.specs.declared.alloc.AllocError.{AllocError}
 use Rattle.ne_vec.specs.Lists.{Listed, EachList, Naming}
 use Rattle.ne_iter.specs.Collected.{values_or_first_err}
@@ -23,21 +24,19 @@ abbrev pub HasExactClones : {A : Type 0} → (A → A → Type 0) → (A → Typ
 HasExactClones {A} clones infallible xs = (x : A) → Contains xs x
     → infallible x × ((y : A) → clones x y → y ≡ x)
 
--- A clone of an iterator that the source u becomes yields the list ys if its original does.
-abbrev pub ClonesYield : {U J B : Type 0} → (U → J → Type 0) → (J → J → Type 0)
-    → (J → List B → Type 0) → U → List B → Type 0
-ClonesYield {J = J} becomes copies yields u ys =
-    (j c : J) → becomes u j → copies j c → yields j ys → yields c ys
+-- i is the iterator j, or a clone of a clone of j.
+abbrev pub RestartsFrom : {J : Type 0} → (J → J → Type 0) → J → J → Type 0
+RestartsFrom {J} copies j i = (i ≡ j) ⊎ ((c : J) × copies j c × copies c i)
 
--- `cartesian_product` yields the pairs of the source's items and the items ys.
+-- `cartesian_product` yields the pairs of the source's items, each with the items of its row.
 abbrev pub YieldsPairs : {U J V A B E : Type 0} → (Bool → U → List A → Type 0) → Type 0
-    → (J → Type 0) → (J → List B → Type 0) → (List B → Type 0) → (A → A → Type 0)
+    → (J → Type 0) → (Bool → J → List B → Type 0) → (J → J → Type 0) → (A → A → Type 0)
     → (A → Type 0) → Type 0 → (Bool → V → List (Result (A × B) E) → Type 0) → U → V → Type 0
-YieldsPairs {J = J} {A = A} {B = B} {E = E} reads again begins yields keep clones infallible
+YieldsPairs {J = J} {A = A} {B = B} {E = E} reads again begins reads_row copies clones infallible
     refused paired source result =
     again → (whole : Bool) (zs : List (Result (A × B) E)) → paired whole result zs
-    → (j : J) × begins j × ((ys : List B) → yields j ys → keep ys
-    → IsProduct reads clones infallible refused source ys whole zs)
+    → (j : J) × begins j × IsProduct reads reads_row (RestartsFrom copies j) clones infallible
+    refused source whole zs
 
 -- For the automatic proof: the list of the product v of xs and ys, if `exact` holds for xs.
 abbrev pub PairsListed : {V T A B : Type 0} → (V → T → Type 0)

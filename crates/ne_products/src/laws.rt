@@ -5,7 +5,7 @@ ghost use Rattle.ne_vec.specs.Lists.{EachList, itself};
 ghost use Rattle.ne_iter.specs.Sources.{EachReading, ReadsList};
 ghost use Rattle.ne_products.specs.Pairs.{cartesian_product, CanRefuse};
 ghost use Rattle.ne_products.specs.Product.{product_first, product_second};
-ghost use Rattle.ne_products.specs.Restarts.{ClonesAgain, ClonesYield, HasExactClones};
+ghost use Rattle.ne_products.specs.Restarts.{ClonesAgain, HasExactClones};
 ghost use Rattle.ne_products.specs.Restarts.{NeverRefuses, YieldsPairs};
 ghost use Rattle.ne_products.specs.Sides.{MatchSide};
 
@@ -32,11 +32,8 @@ where
         (ClonesAgain U.IntoNEIter.into_iter_gives U.IntoNEIter.IntoIter.remaining
         U.IntoNEIter.IntoIter.is_clone (product_second product))
         (U.IntoNEIter.into_iter_gives (product_second product))
-        (ReadsList (⟦<<U::IntoNEIter as IntoIterator>::IntoIter as ItemSource>⟧.reads))
-        (ClonesYield U.IntoNEIter.into_iter_gives U.IntoNEIter.IntoIter.is_clone
-        (ReadsList (⟦<<U::IntoNEIter as IntoIterator>::IntoIter as ItemSource>⟧.reads))
-        (product_second product))
-        S.Item.is_clone S.Item.is_infallible
+        (⟦<<U::IntoNEIter as IntoIterator>::IntoIter as ItemSource>⟧.reads)
+        U.IntoNEIter.IntoIter.is_clone S.Item.is_clone S.Item.is_infallible
         (CanRefuse U.IntoNEIter.into_iter_gives U.IntoNEIter.IntoIter.is_infallible
         (product_second product))
         (⟦<Product<S, U::IntoNEIter> as ItemSource>⟧.reads) source.now product

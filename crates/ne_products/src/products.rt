@@ -3,12 +3,11 @@ ghost use Rattle.std.specs.Prelude.{◌≡◌, IfOk, MatchOption, None};
 ghost use Rattle.std.specs.Iterator.{MakesProgress};
 ghost use Rattle.ne_vec.specs.Lists.{EachList, itself};
 ghost use Rattle.ne_iter.specs.SourceLists.{BecomesList};
-ghost use Rattle.ne_iter.specs.Sources.{ReadsList};
 ghost use Rattle.ne_products.specs.Pairs.{CanRefuse};
 ghost use Rattle.ne_products.specs.Product.{product_first, product_second, restart_of, PairsItems};
 ghost use Rattle.ne_products.specs.Product.{PairsNext, TriesRestart, IsRowItem, is_exhausted};
 ghost use Rattle.ne_products.specs.Product.{left_of, right_of, row_of};
-ghost use Rattle.ne_products.specs.Restarts.{ClonesAgain, ClonesYield, HasExactClones};
+ghost use Rattle.ne_products.specs.Restarts.{ClonesAgain, HasExactClones};
 ghost use Rattle.ne_products.specs.Restarts.{NeverRefuses, PairsListed, PairsLists, YieldsPairs};
 ghost use Rattle.ne_products.specs.Unique.{ChecksDistinct, ChecksUnique};
 
@@ -60,11 +59,8 @@ pub trait NonEmptyItertools: NonEmptyIterator {
             (ClonesAgain J.IntoNEIter.into_iter_gives J.IntoNEIter.IntoIter.remaining
             J.IntoNEIter.IntoIter.is_clone (product_second result))
             (J.IntoNEIter.into_iter_gives (product_second result))
-            (ReadsList (⟦<<J::IntoNEIter as IntoIterator>::IntoIter as ItemSource>⟧.reads))
-            (ClonesYield J.IntoNEIter.into_iter_gives J.IntoNEIter.IntoIter.is_clone
-            (ReadsList (⟦<<J::IntoNEIter as IntoIterator>::IntoIter as ItemSource>⟧.reads))
-            (product_second result))
-            Self.Item.is_clone Self.Item.is_infallible
+            (⟦<<J::IntoNEIter as IntoIterator>::IntoIter as ItemSource>⟧.reads)
+            J.IntoNEIter.IntoIter.is_clone Self.Item.is_clone Self.Item.is_infallible
             (CanRefuse J.IntoNEIter.into_iter_gives J.IntoNEIter.IntoIter.is_infallible
             (product_second result))
             (⟦<Product<Self, J::IntoNEIter> as ItemSource>⟧.reads) self result }
