@@ -116,23 +116,31 @@ pub fn vectors_come_back<T>()
         → ⟦<NEVec<T> as TryFrom<Vec<T>>>⟧.try_from_gives inner r → r ≡ Ok v }
 {}
 
-/// Vectors compare as their lists do, item by item, and equal vectors have equal hashes.
-pub fn vectors_compare_as_lists<T: Ord + Hash>()
+/// Vectors compare as their lists do, item by item.
+pub fn vectors_compare_as_lists<T: Ord>()
     ensures equal { (v w : List T) → ⟦<NEVec<T> as PartialEq>⟧.eq v w ≡ pointwise T.eq v w }
     ensures ordered { (v w : List T) → ⟦<NEVec<T> as Ord>⟧.cmp v w ≡ slice_cmp T.cmp v w }
     ensures partly_ordered { (v w : List T)
         → ⟦<NEVec<T> as PartialOrd>⟧.partial_cmp v w ≡ slice_partial_cmp T.partial_cmp v w }
-    ensures hashed { (v w : List T) → ⟦<NEVec<T> as PartialEq>⟧.eq v w ≡ true
+{}
+
+/// Equal vectors have equal hashes.
+pub fn equal_vectors_have_equal_hashes<T: Hash>()
+    ensures { (v w : List T) → ⟦<NEVec<T> as PartialEq>⟧.eq v w ≡ true
         → ⟦<NEVec<T> as Hash>⟧.hash_input v ≡ ⟦<NEVec<T> as Hash>⟧.hash_input w }
 {}
 
-/// Non-empty slices compare as their lists do, item by item, and equal slices have equal hashes.
-pub fn slices_compare_as_lists<'a, T: Ord + Hash + 'a>()
+/// Non-empty slices compare as their lists do, item by item.
+pub fn slices_compare_as_lists<'a, T: Ord + 'a>()
     ensures equal { (v w : List T) → ⟦<NESlice<'a, T> as PartialEq>⟧.eq v w ≡ pointwise T.eq v w }
     ensures ordered { (v w : List T) → ⟦<NESlice<'a, T> as Ord>⟧.cmp v w ≡ slice_cmp T.cmp v w }
     ensures partly_ordered { (v w : List T)
         → ⟦<NESlice<'a, T> as PartialOrd>⟧.partial_cmp v w ≡ slice_partial_cmp T.partial_cmp v w }
-    ensures hashed { (v w : List T) → ⟦<NESlice<'a, T> as PartialEq>⟧.eq v w ≡ true
+{}
+
+/// Equal non-empty slices have equal hashes.
+pub fn equal_slices_have_equal_hashes<'a, T: Hash + 'a>()
+    ensures { (v w : List T) → ⟦<NESlice<'a, T> as PartialEq>⟧.eq v w ≡ true
         → ⟦<NESlice<'a, T> as Hash>⟧.hash_input v ≡ ⟦<NESlice<'a, T> as Hash>⟧.hash_input w }
 {}
 
