@@ -131,7 +131,8 @@ ROWS = [
     ("insert extend_one get_mut", MAPS, "key value", CHANGES),
     ("extend", MAPS, "pairs", CHANGES),
     ("run_map", MAPS, "calls", CHANGES),
-    ("iter_mut nonempty_iter_mut mut_into_iter", MAPS[:2], "value", CHANGES),
+    ("iter_mut nonempty_iter_mut mut_into_iter", MAPS, "value", CHANGES),
+    ("values_mut", MAPS[2:], "value", CHANGES),
     ("swap_indices", MAPS[2:], "place place", CHANGES),
     ("shrink_to_fit", MAPS[1:] + SETS[1:], "", CHANGES),
     ("len as_ref debug clone", SUBJECTS, "", READS),
@@ -201,10 +202,7 @@ EXCUSED = [
         "hasher",
         "a hasher has no equality; tests of the crates hold that the one that was given is kept",
     ),
-    (
-        "as_mut, values_mut and mutable iterators of index maps, Debug of iterators",
-        "the port leaves them out",
-    ),
+    ("as_mut, Debug of iterators", "the port leaves them out"),
 ]
 
 
@@ -417,6 +415,7 @@ swap_indices 1 2
 swap_indices 0 3
 swap_indices 4 4
 get_index_of 5
+values_mut 4
 insert 3 7
 insert 12 8
 extend 14 9 1 10 14 11
@@ -456,7 +455,7 @@ def rows():
     script = []
     for subject in SUBJECTS:
         tables = [MAP_ROWS if subject in MAPS else SET_ROWS]
-        tables += [TRIED_ROWS, WRITTEN_ROWS] * (subject in MAPS[:2])
+        tables += [TRIED_ROWS] * (subject in MAPS[:2]) + [WRITTEN_ROWS] * (subject in MAPS)
         tables += [ROOM_ROWS.format(numbers="2 1" if subject in MAPS else "2")] * (
             subject not in ("tree_map", "tree_set")
         )

@@ -62,6 +62,9 @@ macro_rules! any_map {
             }
             "extend" => map.extend(call.pairs()),
             "get_mut" => write(map.get_mut(&key), value, out),
+            "iter_mut" => rewrite(map.iter_mut(), call.first),
+            "nonempty_iter_mut" => rewrite(map.nonempty_iter_mut(), call.first),
+            "mut_into_iter" => rewrite((&mut *map).into_iter(), call.first),
             "contains_key" => out.told(map.contains_key(&key)),
             "get" => out.told(map.get(&key)),
             "get_key_value" => out.told(map.get_key_value(&key)),
@@ -114,7 +117,7 @@ macro_rules! with_room {
     }};
 }
 
-// Calls that index maps lack.
+// A call that index maps lack.
 macro_rules! std_map {
     ($map:expr, $call:expr, $out:expr, $Map:ident, $Std:ident, $next:expr) => {
         match $call.name {
@@ -122,9 +125,6 @@ macro_rules! std_map {
                 let pairs: $Std<Key, u32> = $call.pairs().into_iter().collect();
                 put_ok($map, $out, $Map::try_from(pairs))
             }
-            "iter_mut" => rewrite($map.iter_mut(), $call.first),
-            "nonempty_iter_mut" => rewrite($map.nonempty_iter_mut(), $call.first),
-            "mut_into_iter" => rewrite((&mut *$map).into_iter(), $call.first),
             _ => $next,
         }
     };
@@ -167,6 +167,11 @@ pub fn indexed_map(map: &mut IndexedMap, call: &Call, out: &mut Transcript) {
         "first" => out.told(map.first()),
         "last" => out.told(map.last()),
         "get_index_of" => out.told(map.get_index_of(&call.key(0))),
+        "values_mut" => {
+            for value in map.values_mut() {
+                *value = value.wrapping_mul(31).wrapping_add(call.first);
+            }
+        }
         "nonempty_iter_clone" => out.yielded(map.nonempty_iter().clone()),
         "keys_clone" => out.yielded(map.keys().clone()),
         "values_clone" => out.yielded(map.values().clone()),

@@ -1,13 +1,27 @@
--- What an `NEIndexMap` holds after a mutable borrow of one of its values ends.
+-- What an `NEIndexMap` holds after a mutable borrow of its values ends, for `iter_mut`,
+-- `values_mut`, `get_mut` and the other methods that return references to one value.
 use Rattle.std.specs.declared.hash.BuildHasher as builder
 use Rattle.std.specs.declared.hash.Hasher as hasher
 use Rattle.std.specs.Prelude.{◌≡◌, ℕ, Option, Result, Some}
-use Rattle.std.specs.Borrow.{Fml, RattleType, MutBor, Lends, LendsSo, LendsSoOk}
+use Rattle.std.specs.Borrow.{Array, Fml, GName, MutBor, RattleType, Lends, LendsSo, LendsSoOk}
+use Rattle.std.specs.Borrow.{follows}
 use Rattle.std.specs.HashMap.Lent.{HashMembers}
 use Rattle.indexmap.specs.IndexMap.{IndexMap, hasher_of, with_value_at, IsUnchanged, Updates}
-use Rattle.indexmap.specs.IndexMap.{WritesThrough}
+use Rattle.indexmap.specs.IndexMap.{with_values, WritesThrough}
+use Rattle.indexmap.specs.declared.map.iter_mut.IterMut.{IterMut as InnerIterMut}
+use Rattle.indexmap.specs.declared.map.iter_mut.ValuesMut.{ValuesMut as InnerValuesMut}
+use Rattle.ne_index.specs.declared.index_map.iter.IterMut.{IterMut}
+use Rattle.ne_index.specs.declared.index_map.iter.ValuesMut.{ValuesMut}
 use Rattle.ne_index.specs.contracts.index_map.NEIndexMap.{the_row}
 use Rattle.ne_index.specs.Puts.{put_entry}
+
+-- The iterator of `indexmap` that an `IterMut` holds and becomes.
+abbrev pub inner_iterator : {K V : Type 0} → IterMut K V → InnerIterMut K V
+inner_iterator w = w.inner
+
+-- The iterator of `indexmap` that a `ValuesMut` holds and becomes.
+abbrev pub inner_values_iterator : {K V : Type 0} → ValuesMut K V → InnerValuesMut K V
+inner_values_iterator w = w.inner
 
 module _ (K V S H : RattleType) (key : HashMembers K.Denot)
     (build : builder.Ghosts S.Denot H.Denot) (hash : hasher.Ghosts H.Denot) where
@@ -15,6 +29,10 @@ module _ (K V S H : RattleType) (key : HashMembers K.Denot)
   abbrev pub map_row : RattleType
   map_row = the_row K V S H (record { eq = key.eq }) (record { hash_input = key.hash_input }) build
       hash
+
+  -- After the borrow, m has its old keys, with the values that the loan named r ends at.
+  abbrev pub LendsValues : MutBor (IndexMap K.Denot V.Denot S.Denot) → GName → Fml
+  LendsValues m r = follows map_row (Array V 0) m.ghost_name r (with_values m.now)
 
   -- After the borrow, m has at k the value last written through r. If r is `None`, m is unchanged.
   abbrev pub LendsValue : MutBor (IndexMap K.Denot V.Denot S.Denot) → K.Denot

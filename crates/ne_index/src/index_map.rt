@@ -10,22 +10,28 @@ ghost use Rattle.std.specs.Prelude.{◌≡◌, ◌+◌, ◌-◌, ◌<◌, ◌≤
 ghost use Rattle.std.specs.Prelude.{false, is_some, slice_get, unwrap_or, length, None, Some, IfOk};
 ghost use Rattle.std.specs.Prelude.{IfSome, IsSome, IfNone, IsOk, MatchOption, OnErr, OnOk};
 ghost use Rattle.std.specs.Borrow.{sem};
+ghost use Rattle.std.specs.HashMap.Lent.{KeepsKeys};
 ghost use Rattle.std.specs.Int.NonZero.{non_zero_usize_get};
 ghost use Rattle.std.specs.Iterator.{ExtendsWithItems, IsFiniteIterable};
+ghost use Rattle.std.specs.Iterator.Runs.{YieldsMutRefsInOrder};
 ghost use Rattle.std.specs.List.{swap, IsAmong};
-ghost use Rattle.std.specs.Map.Iter.{deref, deref_pair, ShowsInOrder, ShowsValuesInOrder};
+ghost use Rattle.std.specs.Map.Iter.{deref, deref_pair, LendsValuesInOrder, ShowsInOrder};
+ghost use Rattle.std.specs.Map.Iter.{ShowsValuesInOrder};
 ghost use Rattle.std.specs.Option.{option_copied, option_copied_mut, option_map};
 ghost use Rattle.std.specs.Set.{is_member};
 ghost use Rattle.indexmap.specs.IndexMap.{get, get_key, hasher_of, index_map_len, index_of, keys};
 ghost use Rattle.indexmap.specs.IndexMap.{spare, values, with_value_at, IsEmpty, IsReordered};
 ghost use Rattle.indexmap.specs.IndexMap.{IsUnchanged, IsClone, Updates};
+ghost use Rattle.indexmap.specs.Iter.{iter_mut_name, iter_mut_rest, values_mut_name};
+ghost use Rattle.indexmap.specs.Iter.{values_mut_rest, values_mut_steps, IterMutCanStep};
 ghost use Rattle.ne_vec.specs.Lists.{itself};
 ghost use Rattle.ne_iter.specs.Keyed.Extends.{ExtendsByList};
 ghost use Rattle.ne_iter.specs.Keyed.Clones.{KeepsEntries};
 ghost use Rattle.ne_iter.specs.Keyed.KeyList.{IsKeyListMapOf};
 ghost use Rattle.ne_iter.specs.Keyed.Iterators.{ListsEntries};
 ghost use Rattle.ne_iter.specs.SourceLists.{MeetsList};
-ghost use Rattle.ne_index.specs.IndexLends.{LendsValue, LendsInserted, LendsValueAt};
+ghost use Rattle.ne_index.specs.IndexLends.{inner_iterator, inner_values_iterator, LendsValue};
+ghost use Rattle.ne_index.specs.IndexLends.{LendsInserted, LendsValueAt, LendsValues};
 ghost use Rattle.ne_index.specs.Puts.{put_entry, put_item};
 ghost use Rattle.ne_index.specs.ValidIndexMap.{IsValid};
 
@@ -34,7 +40,7 @@ mod remove;
 mod traits;
 
 use indexmap::{IndexMap, map};
-pub use iter::{Held, IntoIter, Iter, Keys, Values};
+pub use iter::{Held, IntoIter, Iter, IterMut, Keys, Values, ValuesMut};
 use ne_iter::iter::{ItemSource, NonEmptyIter};
 use std::alloc::{AllocError, Global};
 use std::hash::{BuildHasher, BuildHasherDefault, FoldHasher, Hash};
@@ -229,6 +235,32 @@ impl<K: Eq + Hash, V, S: BuildHasher> NEIndexMap<K, V, S> {
         self.inner.iter()
     }
 
+    /// Returns the crate `indexmap`'s iterator over the pairs with mutable references to the
+    /// values, in the map's order. The keys and their order do not change.
+    ///
+    /// ```
+    /// let mut map = neim![alloc; 4 => 0u32, 2 => 1]?;
+    /// for (_key, value) in map.iter_mut() {
+    ///     *value = value.wrapping_mul(31).wrapping_add(1);
+    /// } // {4: 1, 2: 32}
+    /// ```
+    pub fn iter_mut(&mut self) -> map::IterMut<'_, K, V>
+        // Once the iterator is gone, the map has its old keys with the values last written.
+        ensures* writes_back { sem 𝓛 (LendsValues K.row V.row S.row S.Hasher.row K.Hash
+            S.BuildHasher S.Hasher.Hasher self.entry (iter_mut_name result)) }
+        // Whatever is written, the keys and their number stay.
+        ensures keeps { KeepsKeys self.old }
+        // `next` may be called.
+        ensures ready { IterMutCanStep result }
+        ensures rest { iter_mut_rest result ≡ self.old.entries }
+        ensures fits { index_map_len self.old < 2 ^ 63 }
+        // Each run of `next` lends the values of what is left, in order.
+        ensures values_run { LendsValuesInOrder (iter_mut_rest {K = K} {V = V}) }
+        ensures valid { IsValid K.eq self.old }
+    {
+        self.inner.iter_mut()
+    }
+
     /// Returns a non-empty iterator over the pairs, in the map's order.
     ///
     /// ```
@@ -242,6 +274,34 @@ impl<K: Eq + Hash, V, S: BuildHasher> NEIndexMap<K, V, S> {
         ensures valid { IsValid K.eq self.now }
     {
         NonEmptyIter::new(self.inner.iter())
+    }
+
+    /// Returns a non-empty iterator over the pairs with mutable references to the values, in the
+    /// map's order. The keys and their order do not change.
+    ///
+    /// ```
+    /// let mut map = neim![alloc; 4 => 1u32, 2 => 32]?;
+    /// for (_key, value) in map.nonempty_iter_mut() {
+    ///     *value = value.wrapping_mul(31).wrapping_add(2);
+    /// } // {4: 33, 2: 994}
+    /// ```
+    pub fn nonempty_iter_mut(&mut self) -> IterMut<'_, K, V>
+        // Once the iterator is gone, the map has its old keys with the values last written.
+        ensures* writes_back { sem 𝓛 (LendsValues K.row V.row S.row S.Hasher.row K.Hash
+            S.BuildHasher S.Hasher.Hasher self.entry (iter_mut_name (inner_iterator result))) }
+        // Whatever is written, the keys and their number stay.
+        ensures keeps { KeepsKeys self.old }
+        // `next` may be called.
+        ensures ready { IterMutCanStep (inner_iterator result) }
+        ensures rest { iter_mut_rest (inner_iterator result) ≡ self.old.entries }
+        ensures fits { index_map_len self.old < 2 ^ 63 }
+        // Each run of `next` lends the values of what is left, in order.
+        ensures values_run { LendsValuesInOrder (iter_mut_rest {K = K} {V = V}) }
+        ensures valid { IsValid K.eq self.old }
+    {
+        IterMut {
+            inner: self.iter_mut(),
+        }
     }
 
     /// Returns a non-empty iterator over the keys, in the map's order.
@@ -297,6 +357,33 @@ impl<K: Eq + Hash, V, S: BuildHasher> NEIndexMap<K, V, S> {
         ensures valid { IsValid K.eq self.now }
     {
         NonEmptyIter::new(self.inner.values())
+    }
+
+    /// Returns a non-empty iterator over mutable references to the values, in the order of their
+    /// keys. The keys and their order do not change.
+    ///
+    /// ```
+    /// let mut map = neim![alloc; 4 => 1u32, 2 => 32]?;
+    /// for value in map.values_mut() {
+    ///     *value = value.wrapping_mul(31).wrapping_add(2);
+    /// } // {4: 33, 2: 994}
+    /// ```
+    pub fn values_mut(&mut self) -> ValuesMut<'_, K, V>
+        // Once the iterator is gone, the map has its old keys with the values last written.
+        ensures* writes_back { sem 𝓛 (LendsValues K.row V.row S.row S.Hasher.row K.Hash
+            S.BuildHasher S.Hasher.Hasher self.entry
+            (values_mut_name (inner_values_iterator result))) }
+        // Whatever is written, the keys and their number stay.
+        ensures keeps { KeepsKeys self.old }
+        ensures rest { values_mut_rest (inner_values_iterator result) ≡ values self.old }
+        ensures fits { index_map_len self.old < 2 ^ 63 }
+        // Each run of `next` lends what is left, in order.
+        ensures runs { YieldsMutRefsInOrder (values_mut_steps {K = K} {V = V}) values_mut_rest }
+        ensures valid { IsValid K.eq self.old }
+    {
+        ValuesMut {
+            inner: self.inner.values_mut(),
+        }
     }
 
     /// Returns the first key and its value, which are always there.

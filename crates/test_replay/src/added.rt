@@ -38,8 +38,8 @@ fn exchange(place: Result<&mut u32, AllocError>, number: u32, out: &mut Transcri
     out.result(found)
 }
 
-// Changes each value.
-fn rewrite<'a, I: IntoIterator<Item = &'a mut u32>>(values: I, number: u32)
+/// Changes each value.
+pub fn rewrite_values<'a, I: IntoIterator<Item = &'a mut u32>>(values: I, number: u32)
     requires { IsFiniteIterable I.into_iter_gives I.IntoIter.can_next I.IntoIter.remaining values }
 {
     for value in values {
@@ -63,7 +63,7 @@ pub fn tree_map_added(map: &mut TreeMap, call: &Call, out: &mut Transcript) -> W
         "pop_first" => out.result(map.pop_first()),
         "pop_last" => out.result(map.pop_last()),
         "is_empty" => out.result(map.is_empty()),
-        "values_mut" => Ok(rewrite(map.values_mut(), call.first)),
+        "values_mut" => Ok(rewrite_values(map.values_mut(), call.first)),
         "range" if key <= other => out.yielded(map.range(key..other)),
         "range" => out.said("out of order"),
         "retain" => {
@@ -81,7 +81,7 @@ pub fn hashed_map_added(map: &mut HashedMap, call: &Call, out: &mut Transcript) 
     match call.name {
         "remove" => out.result(map.remove(&key)),
         "remove_entry" => out.result(map.remove_entry(&key)),
-        "values_mut" => Ok(rewrite(map.values_mut(), call.first)),
+        "values_mut" => Ok(rewrite_values(map.values_mut(), call.first)),
         "retain" => {
             let all = map.clone()?;
             let kept = all.retain(|key, value| keeps(call, key, value));

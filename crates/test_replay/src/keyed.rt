@@ -4,8 +4,8 @@
 ghost use Rattle.std.specs.Iterator.{IsFiniteIterable};
 
 use crate::added::{
-    hashed_map_added, hashed_set_added, indexed_map_added, indexed_set_added, tree_map_added,
-    tree_set_added,
+    hashed_map_added, hashed_set_added, indexed_map_added, indexed_set_added, rewrite_values,
+    tree_map_added, tree_set_added,
 };
 use crate::call::Call;
 use crate::key::Key;
@@ -123,7 +123,7 @@ macro_rules! with_room {
     }};
 }
 
-// Calls that insert pairs, write a value, or look up a key.
+// Calls that insert pairs, write values, or look up a key.
 macro_rules! changed_map {
     ($map:expr, $call:expr, $out:expr, $next:ident) => {{
         let (key, value) = ($call.key(0), $call.number(1));
@@ -133,6 +133,9 @@ macro_rules! changed_map {
             "run_map" => run($map, $call, $out),
             "extend" => $map.extend($call.pairs($out.alloc)?),
             "get_mut" => write($map.get_mut(&key), value, $out),
+            "iter_mut" => Ok(rewrite($map.iter_mut(), $call.first)),
+            "nonempty_iter_mut" => Ok(rewrite($map.nonempty_iter_mut(), $call.first)),
+            "mut_into_iter" => Ok(rewrite($map.into_iter(), $call.first)),
             "contains_key" => $out.result($map.contains_key(&key)),
             "get" => $out.result($map.get(&key)),
             "get_key_value" => $out.result($map.get_key_value(&key)),
@@ -147,8 +150,8 @@ fn run<M: NonEmptyMap<Key, u32>>(map: &mut M, call: &Call, out: &mut Transcript)
     out.made(run_map(out.alloc, map, calls))
 }
 
-// Calls that index maps lack.
-macro_rules! changed_std_map {
+// A call that index maps lack.
+macro_rules! converted_map {
     ($map:expr, $call:expr, $out:expr, $next:ident, $Map:ident, $Std:ident) => {
         match $call.name {
             "try_from" => {
@@ -156,9 +159,6 @@ macro_rules! changed_std_map {
                 let pairs: $Std<Key, u32> = $call.pairs(alloc)?.into_iter().collect(alloc)?;
                 put_ok($map, $out, $Map::try_from(pairs))
             }
-            "iter_mut" => Ok(rewrite($map.iter_mut(), $call.first)),
-            "nonempty_iter_mut" => Ok(rewrite($map.nonempty_iter_mut(), $call.first)),
-            "mut_into_iter" => Ok(rewrite($map.into_iter(), $call.first)),
             _ => $next($map, $call, $out),
         }
     };
@@ -263,7 +263,7 @@ fn tree_map_changed(map: &mut TreeMap, call: &Call, out: &mut Transcript) -> Wri
 }
 
 fn tree_map_more(map: &mut TreeMap, call: &Call, out: &mut Transcript) -> Written {
-    changed_std_map!(map, call, out, tree_map_added, TreeMap, BTreeMap)
+    converted_map!(map, call, out, tree_map_added, TreeMap, BTreeMap)
 }
 
 /// Writes a tree map.
@@ -332,7 +332,7 @@ fn hashed_map_changed(map: &mut HashedMap, call: &Call, out: &mut Transcript) ->
 }
 
 fn hashed_map_more(map: &mut HashedMap, call: &Call, out: &mut Transcript) -> Written {
-    changed_std_map!(map, call, out, hashed_map_added, HashedMap, HashMap)
+    converted_map!(map, call, out, hashed_map_added, HashedMap, HashMap)
 }
 
 /// Writes a hashed map.
@@ -409,6 +409,7 @@ fn indexed_map_placed(map: &mut IndexedMap, call: &Call, out: &mut Transcript) -
         "first" => out.result(map.first()),
         "last" => out.result(map.last()),
         "get_index_of" => out.result(map.get_index_of(&call.key(0))),
+        "values_mut" => Ok(rewrite_values(map.values_mut(), call.first)),
         "nonempty_iter_clone" => out.yielded(map.nonempty_iter().clone()?),
         "keys_clone" => out.yielded(map.keys().clone()?),
         "values_clone" => out.yielded(map.values().clone()?),

@@ -2,7 +2,7 @@
 ghost use Rattle.std.specs.Prelude.{◌≡◌, ◌+◌, ◌≤◌, [], ◌∷◌, true, false, IfOk};
 ghost use Rattle.std.specs.Prelude.{None, Some, IsErr, IsOkAnd};
 ghost use Rattle.std.specs.Option.{IsSomeAnd};
-ghost use Rattle.indexmap.specs.IndexMap.{index_map_len, spare};
+ghost use Rattle.indexmap.specs.IndexMap.{index_map_len, keys, spare};
 
 use indexmap::IndexMap;
 use nonempty_collections::{NEIndexMap, NEVec, NonEmptyIterator, neim};
@@ -31,6 +31,17 @@ pub fn iter(alloc: Global) -> Result<Vec<(u32, u32)>, AllocError>
     pairs.map(|(k, v)| (*k, *v)).collect(alloc)
 }
 
+/// The values that the loop writes are only run.
+pub fn iter_mut(alloc: Global) -> Result<NEIndexMap<u32, u32>, AllocError>
+    ensures { IfOk result (λ m. keys m ≡ 4 ∷ 2 ∷ []) }
+{
+    let mut map = neim![alloc; 4 => 0u32, 2 => 1]?;
+    for (_key, value) in map.iter_mut() {
+        *value = value.wrapping_mul(31).wrapping_add(1);
+    }
+    Ok(map)
+}
+
 /// The example of `nonempty_iter`.
 pub fn nonempty_iter(alloc: Global) -> Result<NEVec<(u32, u32)>, AllocError>
     ensures { IfOk result (λ v. v ≡ (0, 3) ∷ (2, 1) ∷ []) }
@@ -38,6 +49,17 @@ pub fn nonempty_iter(alloc: Global) -> Result<NEVec<(u32, u32)>, AllocError>
     let map = neim![alloc; 0 => 3, 2 => 1]?;
     let pairs = map.nonempty_iter();
     pairs.map(|(k, v)| (*k, *v)).collect(alloc)
+}
+
+/// The values that the loop writes are only run.
+pub fn nonempty_iter_mut(alloc: Global) -> Result<NEIndexMap<u32, u32>, AllocError>
+    ensures { IfOk result (λ m. keys m ≡ 4 ∷ 2 ∷ []) }
+{
+    let mut map = neim![alloc; 4 => 1u32, 2 => 32]?;
+    for (_key, value) in map.nonempty_iter_mut() {
+        *value = value.wrapping_mul(31).wrapping_add(2);
+    }
+    Ok(map)
 }
 
 /// The example of `keys`.
@@ -64,6 +86,17 @@ pub fn values(alloc: Global) -> Result<NEVec<u32>, AllocError>
     let map = neim![alloc; 0 => 3, 2 => 1]?;
     let values = map.values();
     values.copied().collect(alloc)
+}
+
+/// The values that the loop writes are only run.
+pub fn values_mut(alloc: Global) -> Result<NEIndexMap<u32, u32>, AllocError>
+    ensures { IfOk result (λ m. keys m ≡ 4 ∷ 2 ∷ []) }
+{
+    let mut map = neim![alloc; 4 => 1u32, 2 => 32]?;
+    for value in map.values_mut() {
+        *value = value.wrapping_mul(31).wrapping_add(2);
+    }
+    Ok(map)
 }
 
 /// The example of `first`.

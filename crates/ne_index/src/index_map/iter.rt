@@ -1,9 +1,11 @@
 //! The non-empty iterators over an [`NEIndexMap`], and how a map and these iterators are turned
 //! into iterators of the crate `indexmap`.
-ghost use Rattle.std.specs.Prelude.{◌≡◌, length};
+ghost use Rattle.std.specs.Prelude.{◌≡◌, ◌<◌, ◌^◌, length};
 ghost use Rattle.std.specs.Map.Iter.{deref, deref_pair};
+ghost use Rattle.indexmap.specs.IndexMap.{index_map_len, IsUnique};
+ghost use Rattle.indexmap.specs.Iter.{iter_mut_name, iter_mut_rest, values_mut_rest};
+ghost use Rattle.indexmap.specs.Iter.{IterMutCanStep};
 ghost use Rattle.ne_vec.specs.Lists.{view_by};
-ghost use Rattle.indexmap.specs.IndexMap.{IsUnique};
 ghost use Rattle.ne_iter.specs.Keyed.Iterators.{IteratesEntries, IteratesEntriesByValue};
 ghost use Rattle.ne_iter.specs.Keyed.Iterators.{KnownByReference, KnownByValue};
 ghost use Rattle.ne_iter.specs.Keyed.IteratorLaws.{HasFirst-entries};
@@ -11,7 +13,7 @@ ghost use Rattle.ne_iter.specs.Keyed.IteratorLaws.{HasFirst-entries};
 use super::NEIndexMap;
 use indexmap::map;
 use ne_iter::IntoNonEmptyIterator;
-use ne_iter::iter::{ClonedIterator, HeldIterator, NonEmptyIter};
+use ne_iter::iter::{ClonedIterator, HeldIterator, NonEmptyIter, NonEmptyIterator};
 use std::hash::{BuildHasher, Hash};
 
 impl<K: Eq + Hash + Drop, V: Drop, S: BuildHasher + Drop> IntoNonEmptyIterator
@@ -80,6 +82,33 @@ impl<'a, K: Eq + Hash, V, S: BuildHasher> IntoIterator for &'a NEIndexMap<K, V, 
     }
 }
 
+impl<'a, K: Eq + Hash, V, S: BuildHasher> IntoIterator for &'a mut NEIndexMap<K, V, S> {
+    ghost use Rattle.std.specs.HashMap.Lent.{KeepsKeys};
+    ghost use Rattle.std.specs.Borrow.{sem};
+    ghost use Rattle.std.specs.Map.Iter.{LendsValuesInOrder};
+    ghost use Rattle.ne_index.specs.IndexLends.{LendsValues};
+    ghost use Rattle.ne_index.specs.ValidIndexMap.{IsValid};
+
+    type Item = (&'a K, &'a mut V);
+
+    type IntoIter = map::IterMut<'a, K, V>;
+
+    ghost into_iter_gives = { λ m it. (iter_mut_rest it ≡ m.now.entries) × IterMutCanStep it
+        × (index_map_len m.now < 2 ^ 63) × IsValid K.eq m.now };
+
+    fn into_iter(self) -> map::IterMut<'a, K, V>
+        ensures* writes_back { sem 𝓛 (LendsValues K.row V.row S.row S.Hasher.row K.Hash
+            S.BuildHasher S.Hasher.Hasher self.entry (iter_mut_name result)) }
+        ensures keeps { KeepsKeys self.old }
+        ensures into_iter_gives { (iter_mut_rest result ≡ self.old.entries)
+            × IterMutCanStep result × (index_map_len self.old < 2 ^ 63)
+            × IsValid K.eq self.old }
+        ensures values_run { LendsValuesInOrder (iter_mut_rest {K = K} {V = V}) }
+    {
+        self.iter_mut()
+    }
+}
+
 /// What contracts know of the iterators that these types hold.
 #[derive(Drop)]
 pub struct Held;
@@ -100,6 +129,35 @@ impl<'a, K, V> HeldIterator<map::Iter<'a, K, V>> for Held {
 
 impl<'a, K, V> ClonedIterator<map::Iter<'a, K, V>> for Held {
     ghost is_same = { λ it copy same. same };
+}
+
+/// A non-empty iterator over the pairs of an [`NEIndexMap`], in the map's order, with mutable
+/// references to the values. Contracts describe it by the iterator inside, `inner_iterator`.
+#[derive(Drop)]
+pub struct IterMut<'a, K, V> {
+    pub(super) inner: map::IterMut<'a, K, V>,
+    ghost nonempty: { 0 < length (iter_mut_rest inner) },
+}
+
+impl<'a, K, V> NonEmptyIterator for IterMut<'a, K, V> {
+    ghost use Rattle.indexmap.specs.Iter.{iter_mut_rest};
+    ghost use Rattle.ne_iter.specs.Keyed.IteratorLaws.{HasFirst-lent};
+
+    ghost not_empty = { λ w it made. HasFirst-lent iter_mut_rest it made.0 };
+}
+
+impl<'a, K, V> IntoIterator for IterMut<'a, K, V> {
+    ghost use Rattle.ne_index.specs.IndexLends.{inner_iterator};
+
+    type Item = (&'a K, &'a mut V);
+
+    type IntoIter = map::IterMut<'a, K, V>;
+
+    ghost into_iter_gives = { λ w it. (0 < length (iter_mut_rest it)) × (it ≡ inner_iterator w) };
+
+    fn into_iter(self) -> map::IterMut<'a, K, V> {
+        self.inner
+    }
 }
 
 /// A non-empty iterator over the pairs of an [`NEIndexMap`] by value, in the map's order. In
@@ -148,4 +206,33 @@ impl<'a, K, V> HeldIterator<map::Values<'a, K, V>> for Held {
 
 impl<'a, K, V> ClonedIterator<map::Values<'a, K, V>> for Held {
     ghost is_same = { λ it copy same. same };
+}
+
+/// A non-empty iterator over mutable references to the values of an [`NEIndexMap`], in the order of
+/// their keys. Contracts describe it by the iterator inside, `inner_values_iterator`.
+#[derive(Drop)]
+pub struct ValuesMut<'a, K, V> {
+    pub(super) inner: map::ValuesMut<'a, K, V>,
+    ghost nonempty: { 0 < length (values_mut_rest inner) },
+}
+
+impl<'a, K, V> NonEmptyIterator for ValuesMut<'a, K, V> {
+    ghost use Rattle.ne_iter.specs.FirstItemLaws.{HasFirst-iter_mut};
+
+    ghost not_empty = { λ w it made t ended. HasFirst-iter_mut it.inner made.0 t.inner ended };
+}
+
+impl<'a, K, V> IntoIterator for ValuesMut<'a, K, V> {
+    ghost use Rattle.ne_index.specs.IndexLends.{inner_values_iterator};
+
+    type Item = &'a mut V;
+
+    type IntoIter = map::ValuesMut<'a, K, V>;
+
+    ghost into_iter_gives = { λ w it. (0 < length (values_mut_rest it))
+        × (it ≡ inner_values_iterator w) };
+
+    fn into_iter(self) -> map::ValuesMut<'a, K, V> {
+        self.inner
+    }
 }
