@@ -1,13 +1,16 @@
 //! Hashed maps and sets.
 ghost use Rattle.std.specs.Prelude.{◌≡◌, ◌+◌, ◌++◌, ◌↔◌, [], ◌∷◌, map, nat_eq, IfOk, IsTrue};
-ghost use Rattle.std.specs.Prelude.{IfSome, None, OnOk, Some};
+ghost use Rattle.std.specs.Prelude.{IfSome, None, Ok, OnOk, Some};
 ghost use Rattle.std.specs.HashMap.{get, IsUnchanged};
 ghost use Rattle.std.specs.HashSet.{IsSameSet, IsUnion};
 ghost use Rattle.nonempty_collections.specs.Collected.{IsMapOfPairs, IsSetOf};
+ghost use Rattle.nonempty_collections.specs.Pairs.{cartesian_product};
 ghost use Rattle.nonempty_collections.specs.SameMap.{IsSameMap};
 
 use super::two;
-use nonempty_collections::{IntoNonEmptyIterator, NEMap, NESet, NEVec, NonEmptyIterator};
+use nonempty_collections::{
+    IntoNonEmptyIterator, NEMap, NESet, NEVec, NonEmptyIterator, NonEmptyItertools,
+};
 use std::alloc::{AllocError, Global};
 use std::collections::{HashMap, HashSet};
 
@@ -60,6 +63,19 @@ pub fn all_of_both(alloc: Global, a: &NESet<u32>, b: &NESet<u32>) -> Result<NEVe
     ensures { IfOk result (λ v. IsUnion nat_eq a.now b.now v) }
 {
     a.union(b).copied().collect(alloc)
+}
+
+/// Returns each row paired with each item of a set, in the set's order.
+pub fn pairs_with_items(
+    alloc: Global,
+    rows: &NEVec<u32>,
+    set: &NESet<u32>,
+) -> Result<Result<NEVec<(u32, u32)>, AllocError>, AllocError>
+    ensures { IfOk result (λ r. r ≡ Ok (cartesian_product rows.now set.now.keys)) }
+{
+    let items = set.nonempty_iter().copied();
+    let pairs = rows.nonempty_iter().copied().cartesian_product(items);
+    pairs.collect(alloc)
 }
 
 /// Returns the set of an item that is given twice.
