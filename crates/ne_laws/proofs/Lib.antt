@@ -1,2 +1,3 @@
+pub mod ByEquality
 pub mod CallsSoFar
-pub mod TreeMaps
+pub mod SetItems

@@ -1,12 +1,14 @@
 -- For `run_vec`: the reply to a call on a vector, and the vector that the call leaves.
 use Rattle.ne_laws.specs.declared.vector_calls.VecReply.TheVariants as reply
-use Rattle.std.specs.Prelude.{◌≡◌, ◌<◌, ◌≤◌, ℕ, List, [], ◌∷◌, ◌++◌, length, take, reverse, insert}
-use Rattle.std.specs.Prelude.{remove, swap_remove, slice_get, None, Some}
+use Rattle.std.specs.Prelude.{◌≡◌, ◌<◌, ◌≤◌, ◌⊎◌, ℕ, List, [], ◌∷◌, ◌++◌, length, take, drop, swap}
+use Rattle.std.specs.Prelude.{reverse, insert, remove, swap_remove, slice_get, None, Some}
+use Rattle.std.specs.Global.{Vec}
 use Rattle.std.specs.Int.NonZero.{non_zero_usize_get}
 use Rattle.std.specs.declared.num.NonZeroUsize.{NonZeroUsize}
 use Rattle.ne_laws.specs.declared.vector_calls.VecCall.{VecCall}
 use Rattle.ne_laws.specs.declared.vector_calls.VecCall.TheVariants.{Push, Pop, Remove, SwapRemove}
-use Rattle.ne_laws.specs.declared.vector_calls.VecCall.TheVariants.{Insert, Truncate, Reverse, Len}
+use Rattle.ne_laws.specs.declared.vector_calls.VecCall.TheVariants.{Insert, Swap, Truncate}
+use Rattle.ne_laws.specs.declared.vector_calls.VecCall.TheVariants.{SplitOff, Append, Reverse, Len}
 use Rattle.ne_laws.specs.declared.vector_calls.VecReply.{VecReply}
 
 module _ {T : Type 0} where
@@ -34,7 +36,15 @@ module _ {T : Type 0} where
   VectorReplies v (SwapRemove i) r w = TakesItemAt v i r w (λ x. w ≡ swap_remove v i x)
   VectorReplies v (Insert i x) r w = (i ≤ length v → (r ≡ reply.Done) × (w ≡ insert v i x))
       × (length v < i → (r ≡ reply.Refused) × (w ≡ v))
+  VectorReplies v (Swap i j) r w =
+      (i < length v → j < length v → (r ≡ reply.Done) × (w ≡ swap v i j))
+      × ((length v ≤ i) ⊎ (length v ≤ j) → (r ≡ reply.Refused) × (w ≡ v))
+  VectorReplies v (Append xs) r w = (r ≡ reply.Done) × (w ≡ v ++ xs.items)
   VectorReplies v (Truncate n) r w = (r ≡ reply.Done) × (w ≡ take (non_zero_usize_get n) v)
+  VectorReplies v (SplitOff n) r w =
+      (non_zero_usize_get n ≤ length v → (rest : Vec T) × (r ≡ reply.Split rest)
+      × (rest.items ≡ drop (non_zero_usize_get n) v) × (w ≡ take (non_zero_usize_get n) v))
+      × (length v < non_zero_usize_get n → (r ≡ reply.Refused) × (w ≡ v))
   VectorReplies v Reverse r w = (r ≡ reply.Done) × (w ≡ reverse v)
   VectorReplies v Len r w = (n : NonZeroUsize) × (r ≡ reply.Len n)
       × (non_zero_usize_get n ≡ length v) × (w ≡ v)

@@ -15,6 +15,8 @@ pub enum MapCall<K, V> {
     Insert(K, V),
     /// Changes the value of the key if the key is there, by [`NonEmptyMap::set`].
     Write(K, V),
+    /// Removes the key unless it is the only one, by [`NonEmptyMap::take`].
+    Remove(K),
     /// Returns whether the key is there, by [`NonEmptyMap::has`].
     Has(K),
     /// Returns the number of keys, by [`NonEmptyMap::size`].
@@ -25,6 +27,8 @@ pub enum MapCall<K, V> {
 #[derive(Debug, Drop)]
 pub enum MapReply<V> {
     /// The reply to `Insert` and `Write`: the old value of the key, or `None` if it was not there.
+    /// The reply to `Remove`: the value that was taken, or `None` if the key was not there or is
+    /// the only one, which stays.
     Old(Option<V>),
     /// Whether the key is there.
     Has(bool),
@@ -84,6 +88,7 @@ fn reply_to<K: Eq + Drop, V: Drop, M: NonEmptyMap<K, V>>(
     match call {
         MapCall::Insert(k, v) => Ok(MapReply::Old(m.put(k, v)?)),
         MapCall::Write(k, v) => Ok(MapReply::Old(m.set(&k, v))),
+        MapCall::Remove(k) => Ok(MapReply::Old(m.take(&k))),
         MapCall::Has(k) => Ok(MapReply::Has(m.has(&k))),
         MapCall::Len => Ok(MapReply::Len(m.size())),
     }

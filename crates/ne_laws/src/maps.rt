@@ -4,7 +4,7 @@ ghost use Rattle.std.specs.Prelude.{◌≡◌, List, length, is_some, IfOk, OnEr
 ghost use Rattle.std.specs.BTreeMap.{get, BTreeMap};
 ghost use Rattle.std.specs.Int.NonZero.{non_zero_usize_get};
 ghost use Rattle.std.specs.Map.{lookup};
-ghost use Rattle.ne_laws.specs.Maps.{IsNonEmptyMap, Puts, Writes};
+ghost use Rattle.ne_laws.specs.Maps.{IsNonEmptyMap, Puts, Takes, Writes};
 
 use nonempty_collections::{NEBTreeMap, NEIndexMap, NEMap};
 use std::alloc::AllocError;
@@ -23,6 +23,7 @@ use std::num::NonZeroUsize;
 /// let absent = map.put(2, 20)?; // None
 /// let old = map.set(&1, 11); // Some(10)
 /// let (has, size) = (map.has(&2), map.size().get()); // true and 2
+/// let (taken, only) = (map.take(&1), map.take(&2)); // Some(11), and None: the only key stays
 /// ```
 pub trait NonEmptyMap<K: Eq, V> {
     /// The keys with their values, in some order.
@@ -48,6 +49,13 @@ pub trait NonEmptyMap<K: Eq, V> {
     fn set(&mut self, k: &K, v: V) -> Option<V>
         ensures old { result ≡ lookup (K.eq k.now) (entries self.old) }
         ensures writes { Writes K.eq (entries self.old) k.now v (entries self.new) }
+        ensures map { IsNonEmptyMap K.eq (entries self.new) };
+
+    /// Removes the key equal to `k`, and returns its value. Returns `None` if there is no such key,
+    /// or if it is the only one, which then stays. It does not allocate.
+    fn take(&mut self, k: &K) -> Option<V>
+        // `None` if and only if the key is absent or the only one; then nothing changes.
+        ensures takes { Takes K.eq (entries self.old) k.now result (entries self.new) }
         ensures map { IsNonEmptyMap K.eq (entries self.new) };
 
     /// Returns the number of keys, which is at least 1.
@@ -78,6 +86,10 @@ impl<K: Ord + Drop, V: Drop> NonEmptyMap<K, V> for NEBTreeMap<K, V> {
         Some(mem::replace(place, v))
     }
 
+    fn take(&mut self, k: &K) -> Option<V> {
+        self.remove(k)
+    }
+
     fn size(&self) -> NonZeroUsize {
         self.len()
     }
@@ -99,6 +111,10 @@ impl<K: Eq + Hash + Drop, V: Drop, S: BuildHasher> NonEmptyMap<K, V> for NEMap<K
         Some(mem::replace(place, v))
     }
 
+    fn take(&mut self, k: &K) -> Option<V> {
+        self.remove(k)
+    }
+
     fn size(&self) -> NonZeroUsize {
         self.len()
     }
@@ -118,6 +134,11 @@ impl<K: Eq + Hash + Drop, V: Drop, S: BuildHasher> NonEmptyMap<K, V> for NEIndex
     fn set(&mut self, k: &K, v: V) -> Option<V> {
         let place = self.get_mut(k)?;
         Some(mem::replace(place, v))
+    }
+
+    // As the crate `indexmap`'s own `remove`, this moves the last entry to the removed one's index.
+    fn take(&mut self, k: &K) -> Option<V> {
+        self.swap_remove(k)
     }
 
     fn size(&self) -> NonZeroUsize {

@@ -20,8 +20,14 @@ pub enum VecCall<T> {
     SwapRemove(usize),
     /// [`NEVec::insert`] at an index.
     Insert(usize, T),
+    /// [`NEVec::swap`] at two indices.
+    Swap(usize, usize),
+    /// [`NEVec::append`] of all items of a `Vec`.
+    Append(Vec<T>),
     /// [`NEVec::truncate`] to a length.
     Truncate(NonZeroUsize),
+    /// [`NEVec::split_off`] after the first items, so many.
+    SplitOff(NonZeroUsize),
     /// [`NEVec::reverse`].
     Reverse,
     /// [`NEVec::len`].
@@ -31,14 +37,18 @@ pub enum VecCall<T> {
 /// The reply to a call on a vector.
 #[derive(Debug, Drop)]
 pub enum VecReply<T> {
-    /// The reply to `Push`, `Insert`, `Truncate` and `Reverse`: the call was made.
+    /// The reply to `Push`, `Insert`, `Swap`, `Append`, `Truncate` and `Reverse`: the call was
+    /// made.
     Done,
     /// The item that was taken out, or `None` if it is the only one, which stays.
     Taken(Option<T>),
+    /// The reply to `SplitOff`: the items after those that stay, in order.
+    Split(Vec<T>),
     /// The number of items.
     Len(NonZeroUsize),
     /// The index is out of range, and nothing was changed: `Remove` and `SwapRemove` at the length
-    /// or beyond, unless the vector has one item, and `Insert` beyond the length.
+    /// or beyond, unless the vector has one item; `Swap` at the length or beyond; `Insert` and
+    /// `SplitOff` beyond the length.
     Refused,
 }
 
@@ -112,9 +122,29 @@ fn reply_to<T: Drop>(v: &mut NEVec<T>, call: VecCall<T>) -> Result<VecReply<T>, 
             v.insert(i, x)?;
             Ok(VecReply::Done)
         }
+        VecCall::Swap(i, j) => {
+            let len = v.len().get();
+            if len <= i || len <= j {
+                return Ok(VecReply::Refused);
+            }
+            v.swap(i, j);
+            Ok(VecReply::Done)
+        }
+        VecCall::Append(items) => {
+            let mut items = items;
+            v.append(&mut items)?;
+            Ok(VecReply::Done)
+        }
         VecCall::Truncate(n) => {
             v.truncate(n);
             Ok(VecReply::Done)
+        }
+        VecCall::SplitOff(n) => {
+            if v.len().get() < n.get() {
+                return Ok(VecReply::Refused);
+            }
+            let rest = v.split_off(n)?;
+            Ok(VecReply::Split(rest))
         }
         VecCall::Reverse => {
             v.reverse();

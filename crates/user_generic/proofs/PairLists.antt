@@ -1,21 +1,26 @@
--- A list of pairs: the first that passes a test, one that is written, and one that is added.
-use Rattle.std.proofs.Common.{◌≡◌, ℕ, suc, ◌+◌, ◌<◌, Bool, true, false, cond, not, List, [], ◌∷◌}
-use Rattle.std.proofs.Common.{◌++◌, length, slice_set, refl, sym, ap, subst, ◌∙◌, arith, Option}
+-- A list of pairs: the first that passes a test, one that is written, one that is added, and one
+-- that is removed.
+use Rattle.std.proofs.Common.{◌≡◌, ℕ, zero, suc, ◌+◌, ◌<◌, Bool, true, false, cond, not, List, []}
+use Rattle.std.proofs.Common.{◌∷◌, ◌++◌, length, slice_set, refl, sym, ap, subst, ◌∙◌, arith, Option}
 use Rattle.std.proofs.Common.{None, Some, is_some, true≢false, ◌⊎◌, inl, inr, ◌≤◌}
-use Rattle.std.specs.Prelude.{nat_lt, get_or, slice_get, unwrap_or, MatchOption}
+use Rattle.std.specs.Prelude.{nat_lt, get_or, remove, slice_get, unwrap_or, MatchOption}
 use Rattle.std.specs.Cmp.{IsEquivalence}
 use Rattle.std.specs.List.{find, position, position_or_len, IsDistinct}
-use Rattle.std.specs.Map.{keys_of, lookup, set_value}
+use Rattle.std.specs.Map.{keys_of, lookup, remove_entry, set_value}
 use Rattle.std.specs.Option.{option_map}
 use Rattle.std.proofs.lemmas.Bool.{ltb-false, ltb-true}
 use Rattle.std.proofs.lemmas.List.{length-append, map-append}
 use Rattle.std.proofs.lemmas.List.Folds.{find_at}
 use Rattle.std.proofs.lemmas.Map.{NonePasses, none_passes_from_lookup, lookup-set_value}
-use Rattle.std.proofs.lemmas.Map.{keys-set_value, length-set_value}
-use Rattle.std.proofs.lemmas.Map.Keys.{IsDistinct-push}
+use Rattle.std.proofs.lemmas.Map.{keys-set_value, length-set_value, lookup-remove_entry}
+use Rattle.std.proofs.lemmas.List.Edits.{length-remove}
+use Rattle.std.proofs.lemmas.List.Sorted.{IsPermutation-map, IsPermutation-remove}
+use Rattle.std.proofs.lemmas.Map.Keys.{IsDistinct-IsPermutation, IsDistinct-push}
+use Rattle.std.proofs.lemmas.Map.Keys.{IsDistinct-tail}
 use Rattle.std.proofs.lemmas.Map.Made.{is_some-lookup, IsDistinct-from_count}
-use Rattle.std.proofs.lemmas.Option.{none-some, slice_get_cases, slice_get_past}
-use Rattle.ne_laws.specs.Maps.{IsNonEmptyMap, Puts, Writes}
+use Rattle.std.proofs.lemmas.Option.{get_or_from_slice_get, none-some, slice_get_cases}
+use Rattle.std.proofs.lemmas.Option.{slice_get_past}
+use Rattle.ne_laws.specs.Maps.{IsNonEmptyMap, Puts, Takes, Writes}
 
 one_more : (n : ℕ) → 1 + n ≡ suc n
 one_more n = omega arith
@@ -28,6 +33,10 @@ some n = omega arith
 
 no_both : (m n : ℕ) → m < n → n ≤ m → ⊥
 no_both m n below above = omega arith
+
+not_empty : (m n : ℕ) → m + 1 ≡ n → (n ≡ 1 → ⊥) → 0 < n → 0 < m
+not_empty zero n is several above = absurd (several (sym is))
+not_empty (suc m) n is several above = omega arith
 
 none : {V : Type 0} (o : Option V) → is_some o ≡ false → o ≡ None
 none None h = refl
@@ -73,6 +82,20 @@ module _ {K V : Type 0} (test : K → Bool) where
       by false h later = ap (λ n. slice_set (e ∷ es) n (p.0, v)) (one_more place)
           ∙ ap (λ l. e ∷ l) (later h)
 
+  without : (es : List (K × V)) (p : K × V) → find passes es ≡ Some p
+      → remove es (position_or_len passes es) ≡ remove_entry test es
+  without [] p h = absurd (none-some p h)
+  without (e ∷ es) p h = by (test e.0) h (without es p)
+    where
+      place : ℕ
+      place = position_or_len passes es
+
+      by : (b : Bool) → cond b (Some e) (find passes es) ≡ Some p
+          → (find passes es ≡ Some p → remove es place ≡ remove_entry test es)
+          → remove (e ∷ es) (cond (not b) (1 + place) 0) ≡ cond b es (e ∷ remove_entry test es)
+      by true h later = refl
+      by false h later = ap (remove (e ∷ es)) (one_more place) ∙ ap (λ l. e ∷ l) (later h)
+
   -- If there is no position, there is no value.
   pub absent : (es : List (K × V)) → position passes es ≡ None → lookup test es ≡ None
   absent es h = looked_up es ∙ ap (option_map (λ e. e.1)) (find_at passes es ∙ by _ refl h)
@@ -99,14 +122,17 @@ module _ {K V : Type 0} (test : K → Bool) where
       by false past = sym (ap is_some (looked_up es ∙ ap (option_map (λ e. e.1))
           (find_at passes es ∙ slice_get_past es place (ltb-false place (length es) past))))
 
-  -- The pair at the position has the value, and writing a value there writes it at the key.
+  -- The pair at the position has the value, writing a value there writes it at the key, and
+  -- removing the pair there removes the key.
   pub found : (es : List (K × V)) (i : ℕ) (p : K × V) → position passes es ≡ Some i
       → slice_get es i ≡ Some p
       → (lookup test es ≡ Some p.1)
       × ((v : V) → slice_set es i (p.0, v) ≡ set_value test es v)
+      × (remove es i ≡ remove_entry test es)
   found es i p at is = (
     looked_up es ∙ ap (option_map (λ e. e.1)) here,
     λ v. ap (λ n. slice_set es n (p.0, v)) (sym place) ∙ written es p v here,
+    ap (remove es) (sym place) ∙ without es p here,
   )
     where
       by : (b : Bool) → cond b (Some (position_or_len passes es)) None ≡ Some i
@@ -136,6 +162,7 @@ module _ {K V : Type 0} {eq : K → K → Bool} (laws : IsEquivalence eq) (k : K
     where
       here : (lookup (eq k) at ≡ Some p.1)
           × ((x : V) → slice_set at i (p.0, x) ≡ set_value (eq k) at x)
+          × (remove at i ≡ remove_entry (eq k) at)
       here = found (eq k) at i p
           (subst (λ l. position (λ e. eq k e.0) l ≡ Some i) (sym same) (sym place)) is
 
@@ -195,4 +222,65 @@ module _ {K V : Type 0} {eq : K → K → Bool} (laws : IsEquivalence eq) (k : K
             (IsDistinct-push laws (keys_of at) k map.0
             (sym (is_some-lookup (eq k) at) ∙ absent_here)),
         rw len (some (length at)),
+      )
+
+module _ {K V : Type 0} {eq : K → K → Bool} (laws : IsEquivalence eq) (k : K) where
+  -- A key that is not there is not taken.
+  pub not_taken : (es : List (K × V)) → lookup (eq k) es ≡ None → Takes eq es k None es
+  not_taken es absent = ((λ _. inl absent, λ _. refl), refl)
+
+  -- The pair of a key that is there is removed from the key's position, if it is not the only one.
+  pub taken_there : (es at new : List (K × V)) (i : ℕ) (p : K × V) → at ≡ es
+      → Some i ≡ position (λ e. eq k e.0) es → (length at ≡ 1 → ⊥)
+      → slice_get at i ≡ Some p → new ≡ remove at i → IsNonEmptyMap eq at
+      → Takes eq es k (Some p.1) new × IsNonEmptyMap eq new
+  taken_there es at new i p same place several is removed map =
+      subst (λ l. Takes eq l k (Some p.1) new × IsNonEmptyMap eq new) same
+      (rw removed (takes, is_map))
+    where
+      here : (lookup (eq k) at ≡ Some p.1)
+          × ((x : V) → slice_set at i (p.0, x) ≡ set_value (eq k) at x)
+          × (remove at i ≡ remove_entry (eq k) at)
+      here = found (eq k) at i p
+          (subst (λ l. position (λ e. eq k e.0) l ≡ Some i) (sym same) (sym place)) is
+
+      within : i < length at
+      within = by (slice_get_cases at i).1
+        where
+          by : ((x : K × V) × (i < length at) × (slice_get at i ≡ Some x) × (get_or at i x ≡ x))
+              ⊎ ((length at ≤ i) × (slice_get at i ≡ None)) → i < length at
+          by (inl h) = h.1
+          by (inr h) = absurd (none-some p (sym h.1 ∙ is))
+
+      len : length (remove at i) + 1 ≡ length at
+      len = length-remove at i within
+
+      takes : Takes eq at k (Some p.1) (remove at i)
+      takes = (
+        (
+          λ h. absurd (none-some p.1 (sym h)),
+          λ either. absurd (no_other either),
+        ),
+        (
+          here.0,
+          (
+            λ q. ap (lookup (eq q)) here.2
+                ∙ lookup-remove_entry laws (eq k) (λ x y. laws.congr k x y) q at map.0,
+            len,
+          ),
+        ),
+      )
+        where
+          no_other : (lookup (eq k) at ≡ None) ⊎ (length at ≡ 1) → ⊥
+          no_other (inl absent) = none-some p.1 (sym absent ∙ here.0)
+          no_other (inr one) = several one
+
+      is_map : IsNonEmptyMap eq (remove at i)
+      is_map = (
+        IsDistinct-tail eq p.0 (keys_of (remove at i))
+            (IsDistinct-IsPermutation eq laws.symm (keys_of at) (p.0 ∷ keys_of (remove at i))
+            (IsPermutation-map (λ e. e.0) at (p ∷ remove at i)
+            (IsPermutation-remove at i p within
+            (sym (get_or_from_slice_get at i p p is)))) map.0),
+        not_empty (length (remove at i)) (length at) len several map.1,
       )

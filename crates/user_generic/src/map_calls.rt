@@ -1,9 +1,9 @@
 //! Lists of calls on maps: on each of the library's, on a user's own, and on any map. No function
 //! here has a proof file, and one calls a law.
-ghost use Rattle.std.specs.Prelude.{◌≡◌, ◌≢◌, ◌+◌, ◌<◌, [], ◌∷◌, true, false, None, Some, is_some};
-ghost use Rattle.std.specs.Prelude.{length, nat_eq, IfOk, OnOk};
+ghost use Rattle.std.specs.Prelude.{◌≡◌, ◌≢◌, ◌+◌, ◌<◌, ℕ, [], ◌∷◌, true, false, None, Some};
+ghost use Rattle.std.specs.Prelude.{is_some, length, nat_eq, IfOk, OnOk};
 ghost use Rattle.std.specs.BTreeMap.{get as get_ordered};
-ghost use Rattle.std.specs.HashMap.{get};
+ghost use Rattle.std.specs.HashMap.{get, hash_map_len};
 ghost use Rattle.std.specs.Map.{lookup};
 ghost use Rattle.std.specs.Ordering.{nat_cmp};
 
@@ -132,4 +132,63 @@ pub fn count_and_put<M: NonEmptyMap<u32, u32>>(
     let before = m.size().get();
     m.put(k, v)?;
     Ok((before, m.size().get()))
+}
+
+/// A key that is removed is not there afterwards, and its value is returned, if there are others.
+pub fn remove_and_ask(
+    alloc: Global,
+    m: &mut NEMap<u32, u32>,
+    k: u32,
+) -> Result<Vec<MapReply<u32>>, AllocError>
+    requires { 1 < hash_map_len m.old }
+    ensures replies { IfOk result (λ replies. replies.items
+        ≡ MapReply.Old (get nat_eq m.old k) ∷ MapReply.Has false ∷ []) }
+    ensures others { OnOk result ((q : ℕ) → q ≢ k → get nat_eq m.new q ≡ get nat_eq m.old q) }
+{
+    let calls = vec![in alloc; MapCall::Remove(k), MapCall::Has(k)]?;
+    run_map(alloc, m, calls)
+}
+
+/// The only key is never removed: it stays, with its value, and the reply says so.
+pub fn remove_the_only_key(
+    alloc: Global,
+    m: &mut NEIndexMap<u32, u32>,
+    k: u32,
+) -> Result<Vec<MapReply<u32>>, AllocError>
+    requires { hash_map_len m.old ≡ 1 }
+    ensures replies { IfOk result (λ replies. replies.items ≡ MapReply.Old None ∷ []) }
+    ensures same { OnOk result (m.new.entries ≡ m.old.entries) }
+{
+    run_map(alloc, m, vec![in alloc; MapCall::Remove(k)]?)
+}
+
+/// Of two keys that are both removed, the second one stays.
+pub fn remove_both(
+    alloc: Global,
+    m: &mut PairMap<u32, u32>,
+    k: u32,
+    other: u32,
+) -> Result<Vec<MapReply<u32>>, AllocError>
+    requires apart { k ≢ other }
+    requires two { length m.old ≡ 2 }
+    requires there { is_some (lookup (nat_eq k) m.old) ≡ true }
+    ensures replies { IfOk result (λ replies. replies.items
+        ≡ MapReply.Old (lookup (nat_eq k) m.old) ∷ MapReply.Old None ∷ []) }
+    ensures stays { OnOk result (lookup (nat_eq other) m.new ≡ lookup (nat_eq other) m.old) }
+    ensures len { OnOk result (length m.new ≡ 1) }
+{
+    let calls = vec![in alloc; MapCall::Remove(k), MapCall::Remove(other)]?;
+    run_map(alloc, m, calls)
+}
+
+/// Returns the value of the key and puts it back: the map reads as before.
+pub fn take_and_put<M: NonEmptyMap<u32, u32>>(m: &mut M, k: u32) -> Result<bool, AllocError>
+    ensures same { OnOk result ((q : ℕ) → lookup (nat_eq q) (M.entries m.new)
+        ≡ lookup (nat_eq q) (M.entries m.old)) }
+{
+    let Some(v) = m.take(&k) else {
+        return Ok(false);
+    };
+    m.put(k, v)?;
+    Ok(true)
 }

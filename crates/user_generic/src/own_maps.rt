@@ -66,6 +66,12 @@ impl<K: Eq + Drop, V: Drop> NonEmptyMap<K, V> for PairMap<K, V> {
         Some(mem::replace(&mut self.pairs[place].1, v))
     }
 
+    fn take(&mut self, k: &K) -> Option<V> {
+        let place = self.place(k)?;
+        let (_key, v) = self.pairs.remove(place)?;
+        Some(v)
+    }
+
     fn size(&self) -> NonZeroUsize {
         self.pairs.len()
     }

@@ -1,6 +1,7 @@
 //! Lists of calls on vectors. No function here has a proof file or calls a law.
-ghost use Rattle.std.specs.Prelude.{◌≡◌, ◌<◌, ◌++◌, [], ◌∷◌, None, Some, length, reverse, take};
-ghost use Rattle.std.specs.Prelude.{IfOk, OnOk};
+ghost use Rattle.std.specs.Prelude.{◌≡◌, ◌<◌, ◌≤◌, ◌++◌, ℕ, [], ◌∷◌, None, Some, length, reverse};
+ghost use Rattle.std.specs.Prelude.{drop, swap, take, IfOk, OnOk};
+ghost use Rattle.std.specs.Global.{Vec};
 ghost use Rattle.std.specs.Int.NonZero.{non_zero_usize_get};
 
 use ne_laws::vector_calls::{VecCall, VecReply, run_vec};
@@ -102,5 +103,73 @@ pub fn push_and_truncate(
         alloc,
         v,
         vec![in alloc; VecCall::Push(x), VecCall::Truncate(n)]?,
+    )
+}
+
+/// The items at two indices change places, and change back.
+pub fn swap_twice(
+    alloc: Global,
+    v: &mut NEVec<u32>,
+    i: usize,
+    j: usize,
+) -> Result<Vec<VecReply<u32>>, AllocError>
+    requires i_within { i < length v.old }
+    requires j_within { j < length v.old }
+    ensures replies { IfOk result (λ replies. replies.items
+        ≡ VecReply.Done ∷ VecReply.Done ∷ []) }
+    ensures items { OnOk result (v.new ≡ swap (swap v.old i j) i j) }
+{
+    run_vec(
+        alloc,
+        v,
+        vec![in alloc; VecCall::Swap(i, j), VecCall::Swap(i, j)]?,
+    )
+}
+
+/// An index out of range is refused, and nothing changes.
+pub fn swap_out_of_range(
+    alloc: Global,
+    v: &mut NEVec<u32>,
+    i: usize,
+    j: usize,
+) -> Result<Vec<VecReply<u32>>, AllocError>
+    requires { length v.old ≤ j }
+    ensures replies { IfOk result (λ replies. replies.items ≡ VecReply.Refused ∷ []) }
+    ensures same { OnOk result (v.new ≡ v.old) }
+{
+    run_vec(alloc, v, vec![in alloc; VecCall::Swap(i, j)]?)
+}
+
+/// The first items stay, and the others are in the reply.
+pub fn split(
+    alloc: Global,
+    v: &mut NEVec<u32>,
+    n: NonZeroUsize,
+) -> Result<Vec<VecReply<u32>>, AllocError>
+    requires { non_zero_usize_get n ≤ length v.old }
+    ensures rest { IfOk result (λ replies. (rest : Vec ℕ)
+        → replies.items ≡ VecReply.Split rest ∷ []
+        → rest.items ≡ drop (non_zero_usize_get n) v.old) }
+    ensures items { OnOk result (v.new ≡ take (non_zero_usize_get n) v.old) }
+{
+    run_vec(alloc, v, vec![in alloc; VecCall::SplitOff(n)]?)
+}
+
+/// All items of a `Vec` are appended, and of all items the first `n` are kept.
+pub fn append_and_truncate(
+    alloc: Global,
+    v: &mut NEVec<u32>,
+    more: Vec<u32>,
+    n: NonZeroUsize,
+) -> Result<Vec<VecReply<u32>>, AllocError>
+    ensures replies { IfOk result (λ replies. replies.items
+        ≡ VecReply.Done ∷ VecReply.Done ∷ []) }
+    ensures items { OnOk result (v.new
+        ≡ take (non_zero_usize_get n) (v.old ++ more.items)) }
+{
+    run_vec(
+        alloc,
+        v,
+        vec![in alloc; VecCall::Append(more), VecCall::Truncate(n)]?,
     )
 }

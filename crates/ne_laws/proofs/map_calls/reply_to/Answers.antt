@@ -4,3 +4,7 @@ use Rattle.std.proofs.Common.{refl}
 pub returns-in-Len-clause-step : goal.returns-in-Len-clause-step
 returns-in-Len-clause-step g c =
     rw c.in-Len.is (c.size.result, refl, c.size.ensures.size, refl)
+
+pub returns-in-Remove-clause-step : goal.returns-in-Remove-clause-step
+returns-in-Remove-clause-step g c =
+    rw c.in-Remove.is (c.take.result, refl, c.take.ensures.takes)

@@ -2,7 +2,7 @@ use Rattle.ne_laws.proofs.maps.NEBTreeMapNonEmptyMap.put.Goals as goal
 use Rattle.std.proofs.Common.{rules, ◌≡◌, IfOk, OnOk}
 use Rattle.std.specs.Map.{lookup}
 use Rattle.ne_laws.specs.Maps.{Puts}
-use Rattle.ne_laws.proofs.TreeMaps.{by_eq, is_map}
+use Rattle.ne_laws.proofs.ByEquality.{by_eq, is_map}
 
 pub returns-clause-old : goal.returns-clause-old
 returns-clause-old g c =

@@ -1,7 +1,7 @@
 use Rattle.ne_laws.proofs.maps.NEBTreeMapNonEmptyMap.set.Goals as goal
 use Rattle.std.proofs.Common.{rules}
 use Rattle.ne_laws.specs.Maps.{Writes}
-use Rattle.ne_laws.proofs.TreeMaps.{by_eq, is_map}
+use Rattle.ne_laws.proofs.ByEquality.{by_eq, is_map}
 
 pub returns-in_err-place-clause-map : goal.returns-in_err-place-clause-map
 returns-in_err-place-clause-map g c =

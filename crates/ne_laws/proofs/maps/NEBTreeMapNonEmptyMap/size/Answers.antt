@@ -1,5 +1,5 @@
 use Rattle.ne_laws.proofs.maps.NEBTreeMapNonEmptyMap.size.Goals as goal
-use Rattle.ne_laws.proofs.TreeMaps.{is_map}
+use Rattle.ne_laws.proofs.ByEquality.{is_map}
 
 pub returns-clause-map : goal.returns-clause-map
 returns-clause-map g c =

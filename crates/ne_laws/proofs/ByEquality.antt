@@ -1,10 +1,13 @@
--- A tree map, read by the equality of its keys, which holds if and only if `cmp` is `Equal`.
+-- A tree map or set, read by the equality of its keys, which holds if and only if `cmp` is `Equal`.
 use Rattle.std.proofs.Common.{◌≡◌, ◌<◌, Bool, subst, sym}
 use Rattle.std.specs.BTreeMap.{BTreeMap, IsOrdered, btree_map_len, keys}
 use Rattle.std.specs.Ordering.{eq_by_cmp}
 use Rattle.std.specs.declared.cmp.Ordering.{Ordering}
 use Rattle.std.proofs.lemmas.Map.Keys.{IsDistinct-from_sorted}
+use Rattle.std.specs.BTreeSet as sorted
+use Rattle.std.specs.BTreeSet.{BTreeSet, btree_set_len}
 use Rattle.ne_laws.specs.Maps.{IsNonEmptyMap}
+use Rattle.ne_laws.specs.Sets.{IsNonEmptySet}
 use mathlib.Core.Path.{fun_ext}
 
 module _ {K : Type 0} (eq : K → K → Bool) (cmp : K → K → Ordering)
@@ -17,3 +20,8 @@ module _ {K : Type 0} (eq : K → K → Bool) (cmp : K → K → Ordering)
       → IsNonEmptyMap eq m.entries
   is_map m ordered some =
       by_eq (λ e. IsNonEmptyMap e m.entries) (IsDistinct-from_sorted cmp (keys m) ordered, some)
+
+  pub is_set : (s : BTreeSet K) → sorted.IsOrdered cmp s → 0 < btree_set_len s
+      → IsNonEmptySet eq s.keys
+  is_set s ordered some =
+      by_eq (λ e. IsNonEmptySet e s.keys) (IsDistinct-from_sorted cmp s.keys ordered, some)
