@@ -4,7 +4,7 @@
 //! `==`. A key that is in the map stays as it is if an equal one is inserted.
 //!
 //! A method that removes an entry never removes the only one. The Rust crate lacks these methods,
-//! and `values_mut`, `into_keys` and `into_values`.
+//! and `values_mut`, `into_keys`, `into_values` and `into_map`.
 ghost use Rattle.std.specs.Prelude.{◌≡◌, ◌+◌, ◌<◌, ◌≤◌, ◌^◌, ◌++◌, [], ◌∷◌, if◌then◌else◌, ◌↔◌};
 ghost use Rattle.std.specs.Prelude.{false, is_some, length, None, IfOk, IfSome, IsOk, IsSome};
 ghost use Rattle.std.specs.Prelude.{MatchOption, OnErr, OnOk, Some, Bool, Contains, IsErr, IsTrue};
@@ -206,6 +206,19 @@ impl<K: Eq + Hash, V, S: BuildHasher> NEMap<K, V, S> {
         } else {
             Some(NEMap::wrap(map))
         }
+    }
+
+    /// Returns the inner `HashMap` unchanged, with its hasher. Its type no longer guarantees a key.
+    /// The Rust crate has only `From`, which is here too.
+    ///
+    /// ```
+    /// let inner = nem![alloc; 2 => 24, 4 => 26]?.into_map(); // {2: 24, 4: 26}
+    /// ```
+    pub fn into_map(self) -> HashMap<K, V, S>
+        ensures same { result ≡ self }
+        ensures valid { IsValid K.eq result }
+    {
+        self.inner
     }
 
     /// Returns how many keys the map has room for, which is at least `len`.

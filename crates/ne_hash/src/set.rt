@@ -3,7 +3,8 @@
 //! An [`NESet`] finds an item by its hash, and iterates in an unspecified order. Items are compared
 //! by `==`. Of several equal items the set holds one.
 //!
-//! A method that removes an item never removes the only one. The Rust crate lacks these methods.
+//! A method that removes an item never removes the only one. The Rust crate lacks these methods,
+//! and `into_set`.
 ghost use Rattle.std.specs.Prelude.{◌≡◌, ◌+◌, ◌<◌, ◌≤◌, ◌^◌, ◌↔◌, ◌++◌, [], ◌∷◌, if◌then◌else◌};
 ghost use Rattle.std.specs.Prelude.{true, false, not, is_some, length, IfOk, IsOk, IsTrue};
 ghost use Rattle.std.specs.Prelude.{MatchOption, OnErr, OnOk, Bool, Some, IfSome, IsErr};
@@ -194,6 +195,19 @@ impl<T: Eq + Hash, S: BuildHasher> NESet<T, S> {
         } else {
             Some(NESet::wrap(set))
         }
+    }
+
+    /// Returns the inner `HashSet` unchanged, with its hasher. Its type no longer guarantees an
+    /// item. The Rust crate has only `From`, which is here too.
+    ///
+    /// ```
+    /// let inner = nes![alloc; 2, 4]?.into_set(); // {2, 4}
+    /// ```
+    pub fn into_set(self) -> HashSet<T, S>
+        ensures same { result ≡ self }
+        ensures valid { IsValid T.eq result }
+    {
+        self.inner
     }
 
     /// Returns how many items the set has room for, which is at least `len`.

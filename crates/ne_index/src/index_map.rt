@@ -5,7 +5,7 @@
 //! index, if an equal one is inserted.
 //!
 //! A method that removes an entry, in `remove`, never removes the only one. The Rust crate lacks
-//! these methods, and `first_mut`, `last_mut` and `or_insert`.
+//! these methods, and `first_mut`, `last_mut`, `or_insert` and `into_map`.
 ghost use Rattle.std.specs.Prelude.{◌≡◌, ◌+◌, ◌-◌, ◌<◌, ◌≤◌, ◌^◌, ◌++◌, [], ◌∷◌, if◌then◌else◌};
 ghost use Rattle.std.specs.Prelude.{false, is_some, slice_get, unwrap_or, length, None, Some, IfOk};
 ghost use Rattle.std.specs.Prelude.{IfSome, IsSome, IfNone, IsOk, MatchOption, OnErr, OnOk};
@@ -201,6 +201,19 @@ impl<K: Eq + Hash, V, S: BuildHasher> NEIndexMap<K, V, S> {
         } else {
             Some(NEIndexMap::wrap(map))
         }
+    }
+
+    /// Returns the inner `IndexMap` unchanged, with its hasher. Its type no longer guarantees a
+    /// key. The Rust crate has only `From`, which is here too.
+    ///
+    /// ```
+    /// let inner = neim![alloc; 4 => 26, 2 => 24]?.into_map(); // {4: 26, 2: 24}
+    /// ```
+    pub fn into_map(self) -> IndexMap<K, V, S>
+        ensures same { result ≡ self }
+        ensures valid { IsValid K.eq result }
+    {
+        self.inner
     }
 
     /// Returns how many keys the map has room for, which is at least `len`.

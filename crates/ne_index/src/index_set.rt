@@ -3,7 +3,8 @@
 //! An [`NEIndexSet`] iterates in the order in which its items were inserted. Items are looked up by
 //! `Eq` and `Hash`. Of several equal items the set holds one.
 //!
-//! A method that removes an item never removes the only one. The Rust crate lacks these methods.
+//! A method that removes an item never removes the only one. The Rust crate lacks these methods,
+//! and `into_set`.
 ghost use Rattle.std.specs.Prelude.{◌≡◌, ◌+◌, ◌<◌, ◌≤◌, ◌^◌, ◌↔◌, ◌++◌, [], ◌∷◌, if◌then◌else◌};
 ghost use Rattle.std.specs.Prelude.{◌-◌, true, false, not, is_some, length, filter, take, IfNone};
 ghost use Rattle.std.specs.Prelude.{IfOk, IsOk, IsTrue, MatchOption, OnErr, OnOk, Some, Bool};
@@ -189,6 +190,19 @@ impl<T: Eq + Hash, S: BuildHasher> NEIndexSet<T, S> {
         } else {
             Some(NEIndexSet::wrap(set))
         }
+    }
+
+    /// Returns the inner `IndexSet` unchanged, with its hasher. Its type no longer guarantees an
+    /// item. The Rust crate has only `From`, which is here too.
+    ///
+    /// ```
+    /// let inner = neis![alloc; 4, 2]?.into_set(); // {4, 2}
+    /// ```
+    pub fn into_set(self) -> IndexSet<T, S>
+        ensures same { result ≡ self }
+        ensures valid { IsValid T.eq result }
+    {
+        self.inner
     }
 
     /// Returns how many items the set has room for, which is at least `len`.

@@ -4,8 +4,8 @@
 //! that is in the map stays as it is if an equal one is inserted.
 //!
 //! A method that removes an entry never removes the only one. The Rust crate lacks these methods,
-//! and `range`, `values_mut`, `into_keys`, `into_values`, `is_empty` and those for the first and
-//! the last key.
+//! and `range`, `values_mut`, `into_keys`, `into_values`, `into_map`, `is_empty` and those for the
+//! first and the last key.
 ghost use Rattle.std.specs.Prelude.{◌≡◌, ◌+◌, ◌<◌, ◌^◌, ◌++◌, [], ◌∷◌, if◌then◌else◌, ◌-◌, ◌↔◌};
 ghost use Rattle.std.specs.Prelude.{is_some, false, length, take, slice_get, None, Some, IfOk};
 ghost use Rattle.std.specs.Prelude.{IfSome, IsSome, MatchOption, OnErr, OnOk, Bool, IsErr};
@@ -127,6 +127,19 @@ impl<K: Ord, V> NEBTreeMap<K, V> {
         } else {
             Some(NEBTreeMap::wrap(map))
         }
+    }
+
+    /// Returns the inner `BTreeMap` unchanged. Its type no longer guarantees a key. The Rust crate
+    /// has only `From`, which is here too.
+    ///
+    /// ```
+    /// let inner = nebtm![alloc; 4 => 26, 2 => 24]?.into_map(); // {2: 24, 4: 26}
+    /// ```
+    pub fn into_map(self) -> BTreeMap<K, V>
+        ensures same { result ≡ self }
+        ensures valid { IsValid K.cmp result }
+    {
+        self.inner
     }
 
     /// Returns std's iterator over the pairs, in ascending order of the keys.

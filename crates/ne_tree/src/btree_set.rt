@@ -4,7 +4,7 @@
 //! several equal items the set holds one.
 //!
 //! A method that removes an item never removes the only one. The Rust crate lacks these methods,
-//! and `range`, `is_empty`, `first` and `last`.
+//! and `range`, `into_set`, `is_empty`, `first` and `last`.
 ghost use Rattle.std.specs.Prelude.{◌≡◌, ◌+◌, ◌<◌, ◌^◌, ◌↔◌, ◌++◌, [], ◌∷◌, if◌then◌else◌, ◌-◌};
 ghost use Rattle.std.specs.Prelude.{true, false, not, is_some, length, take, slice_get, IfOk};
 ghost use Rattle.std.specs.Prelude.{IsTrue, MatchOption, OnErr, OnOk, Bool, Some, IfSome, IsErr};
@@ -116,6 +116,19 @@ impl<T: Ord> NEBTreeSet<T> {
         } else {
             Some(NEBTreeSet::wrap(set))
         }
+    }
+
+    /// Returns the inner `BTreeSet` unchanged. Its type no longer guarantees an item. The Rust
+    /// crate has only `From`, which is here too.
+    ///
+    /// ```
+    /// let inner = nebts![alloc; 4, 2]?.into_set(); // {2, 4}
+    /// ```
+    pub fn into_set(self) -> BTreeSet<T>
+        ensures same { result ≡ self }
+        ensures valid { IsValid T.cmp result }
+    {
+        self.inner
     }
 
     /// Returns std's iterator over the items, in ascending order.

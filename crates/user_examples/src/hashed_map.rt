@@ -72,6 +72,16 @@ pub fn try_from_map(
     Ok((some, none))
 }
 
+/// The example of `into_map`.
+pub fn into_map(alloc: Global) -> Result<HashMap<u32, u32>, AllocError>
+    ensures two { IfOk result (λ m. get nat_eq m 2 ≡ Some 24) }
+    ensures four { IfOk result (λ m. get nat_eq m 4 ≡ Some 26) }
+    ensures len { IfOk result (λ m. hash_map_len m ≡ 2) }
+{
+    let inner = nem![alloc; 2 => 24, 4 => 26]?.into_map();
+    Ok(inner)
+}
+
 /// The example of `iter`.
 pub fn iter(alloc: Global) -> Result<Vec<(u32, u32)>, AllocError>
     ensures zero { IfOk result (λ v. lookup (nat_eq 0) v.items ≡ Some 3) }

@@ -98,6 +98,16 @@ pub fn try_from_set(alloc: Global) -> Result<(Option<NESet<u32>>, Option<NESet<u
     Ok((some, none))
 }
 
+/// The example of `into_set`.
+pub fn into_set(alloc: Global) -> Result<HashSet<u32>, AllocError>
+    ensures two { IfOk result (λ s. contains nat_eq s 2 ≡ true) }
+    ensures four { IfOk result (λ s. contains nat_eq s 4 ≡ true) }
+    ensures len { IfOk result (λ s. hash_set_len s ≡ 2) }
+{
+    let inner = nes![alloc; 2, 4]?.into_set();
+    Ok(inner)
+}
+
 /// The example of `contains`.
 pub fn contains(alloc: Global) -> Result<(bool, bool), AllocError>
     ensures { IfOk result (λ r. (r.0 ≡ true) × (r.1 ≡ false)) }

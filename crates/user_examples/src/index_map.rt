@@ -149,6 +149,14 @@ pub fn try_from_map(
     Ok((some, none))
 }
 
+/// The example of `into_map`.
+pub fn into_map(alloc: Global) -> Result<IndexMap<u32, u32>, AllocError>
+    ensures { IfOk result (λ m. m.entries ≡ (4, 26) ∷ (2, 24) ∷ []) }
+{
+    let inner = neim![alloc; 4 => 26, 2 => 24]?.into_map();
+    Ok(inner)
+}
+
 /// The example of `contains_key`.
 pub fn contains_key(alloc: Global) -> Result<(bool, bool), AllocError>
     ensures { IfOk result (λ r. (r.0 ≡ true) × (r.1 ≡ false)) }

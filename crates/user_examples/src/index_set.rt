@@ -79,6 +79,14 @@ pub fn try_from_set(
     Ok((some, none))
 }
 
+/// The example of `into_set`.
+pub fn into_set(alloc: Global) -> Result<IndexSet<u32>, AllocError>
+    ensures { IfOk result (λ s. s.keys ≡ 4 ∷ 2 ∷ []) }
+{
+    let inner = neis![alloc; 4, 2]?.into_set();
+    Ok(inner)
+}
+
 /// The example of `contains`.
 pub fn contains(alloc: Global) -> Result<(bool, bool), AllocError>
     ensures { IfOk result (λ r. (r.0 ≡ true) × (r.1 ≡ false)) }

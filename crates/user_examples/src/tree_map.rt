@@ -43,6 +43,14 @@ pub fn try_from_map(
     Ok((some, none))
 }
 
+/// The example of `into_map`.
+pub fn into_map(alloc: Global) -> Result<BTreeMap<u32, u32>, AllocError>
+    ensures { IfOk result (λ m. m.entries ≡ (2, 24) ∷ (4, 26) ∷ []) }
+{
+    let inner = nebtm![alloc; 4 => 26, 2 => 24]?.into_map();
+    Ok(inner)
+}
+
 /// The example of `iter`.
 pub fn iter(alloc: Global) -> Result<Vec<(u32, u32)>, AllocError>
     ensures { IfOk result (λ v. v.items ≡ (0, 3) ∷ (2, 1) ∷ []) }

@@ -69,6 +69,14 @@ pub fn try_from_set(
     Ok((some, none))
 }
 
+/// The example of `into_set`.
+pub fn into_set(alloc: Global) -> Result<BTreeSet<u32>, AllocError>
+    ensures { IfOk result (λ s. s.keys ≡ 2 ∷ 4 ∷ []) }
+{
+    let inner = nebts![alloc; 4, 2]?.into_set();
+    Ok(inner)
+}
+
 /// The example of `contains`.
 pub fn contains(alloc: Global) -> Result<(bool, bool), AllocError>
     ensures { IfOk result (λ r. (r.0 ≡ true) × (r.1 ≡ false)) }

@@ -56,13 +56,12 @@ impl<K: Eq + Hash, V: Eq, S: BuildHasher> Eq for NEMap<K, V, S> {
     }) (hash_map_eq_refl K.eq V.eq v.refl) };
 }
 
-/// Returns the inner `HashMap` unchanged, with its hasher. Its type no longer guarantees a key.
+/// Calls the inherent method `into_map`.
 impl<K: Eq + Hash, V, S: BuildHasher> From<NEMap<K, V, S>> for HashMap<K, V, S> {
     ghost from_gives = { λ m n. (n ≡ m) × IsValid K.eq n };
 
     fn from(m: NEMap<K, V, S>) -> HashMap<K, V, S> {
-        let NEMap { inner } = m;
-        inner
+        m.into_map()
     }
 }
 

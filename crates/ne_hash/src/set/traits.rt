@@ -49,13 +49,12 @@ impl<T: Eq + Hash, S: BuildHasher> Eq for NESet<T, S> {
     ghost laws = { hash_set_eq_equiv T.Eq.laws };
 }
 
-/// Returns the inner `HashSet` unchanged, with its hasher. Its type no longer guarantees an item.
+/// Calls the inherent method `into_set`.
 impl<T: Eq + Hash, S: BuildHasher> From<NESet<T, S>> for HashSet<T, S> {
     ghost from_gives = { λ s t. (t ≡ s) × IsValid T.eq t };
 
     fn from(s: NESet<T, S>) -> HashSet<T, S> {
-        let NESet { inner } = s;
-        inner
+        s.into_set()
     }
 }
 

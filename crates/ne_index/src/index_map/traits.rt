@@ -59,13 +59,12 @@ impl<K: Eq + Hash, V: Eq, S: BuildHasher> Eq for NEIndexMap<K, V, S> {
     }) (hash_map_eq_refl K.eq V.eq v.refl) };
 }
 
-/// Returns the inner `IndexMap` unchanged, with its hasher. Its type no longer guarantees a key.
+/// Calls the inherent method `into_map`.
 impl<K: Eq + Hash, V, S: BuildHasher> From<NEIndexMap<K, V, S>> for IndexMap<K, V, S> {
     ghost from_gives = { λ m n. (n ≡ m) × IsValid K.eq n };
 
     fn from(m: NEIndexMap<K, V, S>) -> IndexMap<K, V, S> {
-        let NEIndexMap { inner } = m;
-        inner
+        m.into_map()
     }
 }
 

@@ -48,13 +48,12 @@ impl<T: Eq + Hash, S: BuildHasher> Eq for NEIndexSet<T, S> {
     ghost laws = { hash_set_eq_equiv T.Eq.laws };
 }
 
-/// Returns the inner `IndexSet` unchanged, with its hasher. Its type no longer guarantees an item.
+/// Calls the inherent method `into_set`.
 impl<T: Eq + Hash, S: BuildHasher> From<NEIndexSet<T, S>> for IndexSet<T, S> {
     ghost from_gives = { λ s t. (t ≡ s) × IsValid T.eq t };
 
     fn from(s: NEIndexSet<T, S>) -> IndexSet<T, S> {
-        let NEIndexSet { inner } = s;
-        inner
+        s.into_set()
     }
 }
 

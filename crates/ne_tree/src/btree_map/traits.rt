@@ -49,13 +49,12 @@ impl<K: Ord, V: Eq> Eq for NEBTreeMap<K, V> {
         (and_equiv (on_equiv (λ p. p.0) K.Eq.laws) (on_equiv (λ p. p.1) V.Eq.laws))) };
 }
 
-/// Returns the inner `BTreeMap` unchanged. Its type no longer guarantees a key.
+/// Calls the inherent method `into_map`.
 impl<K: Ord, V> From<NEBTreeMap<K, V>> for BTreeMap<K, V> {
     ghost from_gives = { λ m n. (n ≡ m) × IsValid K.cmp n };
 
     fn from(m: NEBTreeMap<K, V>) -> BTreeMap<K, V> {
-        let NEBTreeMap { inner } = m;
-        inner
+        m.into_map()
     }
 }
 

@@ -61,13 +61,12 @@ impl<T: Ord> Eq for NEBTreeSet<T> {
     ghost laws = { on_equiv (λ s. s.keys) (lists_equiv T.Eq.laws) };
 }
 
-/// Returns the inner `BTreeSet` unchanged. Its type no longer guarantees an item.
+/// Calls the inherent method `into_set`.
 impl<T: Ord> From<NEBTreeSet<T>> for BTreeSet<T> {
     ghost from_gives = { λ s t. (t ≡ s) × IsValid T.cmp t };
 
     fn from(s: NEBTreeSet<T>) -> BTreeSet<T> {
-        let NEBTreeSet { inner } = s;
-        inner
+        s.into_set()
     }
 }
 
