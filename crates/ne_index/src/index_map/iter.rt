@@ -137,6 +137,7 @@ impl<'a, K, V> ClonedIterator<map::Iter<'a, K, V>> for Held {
 pub struct IterMut<'a, K, V> {
     pub(super) inner: map::IterMut<'a, K, V>,
     ghost nonempty: { 0 < length (iter_mut_rest inner) },
+    ghost ready: { IterMutCanStep inner },
 }
 
 impl<'a, K, V> NonEmptyIterator for IterMut<'a, K, V> {
@@ -153,7 +154,8 @@ impl<'a, K, V> IntoIterator for IterMut<'a, K, V> {
 
     type IntoIter = map::IterMut<'a, K, V>;
 
-    ghost into_iter_gives = { λ w it. (0 < length (iter_mut_rest it)) × (it ≡ inner_iterator w) };
+    ghost into_iter_gives = { λ w it. (0 < length (iter_mut_rest it)) × IterMutCanStep it
+        × (it ≡ inner_iterator w) };
 
     fn into_iter(self) -> map::IterMut<'a, K, V> {
         self.inner

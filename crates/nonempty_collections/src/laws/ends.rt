@@ -117,10 +117,13 @@ pub fn hashed_sets_end<'a, T: Eq + Hash + Drop + 'a, S: BuildHasher + Drop + 'a>
 pub fn index_maps_end<'a, K: Eq + Hash + Drop + 'a, V: Drop + 'a, S: BuildHasher + Drop + 'a>()
     ensures maps { (m : _) → ⟦<NEIndexMap<K, V, S> as ItemSource>⟧.ends m }
     ensures lent { (m : _) → ⟦<&'a NEIndexMap<K, V, S> as ItemSource>⟧.ends m }
+    ensures mutable { (m : _) → ⟦<&'a mut NEIndexMap<K, V, S> as ItemSource>⟧.ends m }
     ensures iterators { (m : _) → ⟦<index_map::Iter<'a, K, V> as ItemSource>⟧.ends m }
+    ensures writing { (m : _) → ⟦<index_map::IterMut<'a, K, V> as ItemSource>⟧.ends m }
     ensures own { (m : _) → ⟦<index_map::IntoIter<K, V> as ItemSource>⟧.ends m }
     ensures keys { (m : _) → ⟦<index_map::Keys<'a, K, V> as ItemSource>⟧.ends m }
     ensures values { (m : _) → ⟦<index_map::Values<'a, K, V> as ItemSource>⟧.ends m }
+    ensures writing_values { (m : _) → ⟦<index_map::ValuesMut<'a, K, V> as ItemSource>⟧.ends m }
 {}
 
 /// An index set ends, by value and by reference, and so do its iterators.
