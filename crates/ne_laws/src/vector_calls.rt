@@ -95,61 +95,22 @@ fn reply_to<T: Drop>(v: &mut NEVec<T>, call: VecCall<T>) -> Result<VecReply<T>, 
     ensures step { IfOk result (λ reply. VectorReplies v.old call reply v.new) }
     ensures unchanged { OnErr result (v.new ≡ v.old) }
 {
+    let len = v.len().get();
     match call {
-        VecCall::Push(x) => {
-            v.push(x)?;
-            Ok(VecReply::Done)
+        VecCall::Push(x) => v.push(x)?,
+        VecCall::Pop => return Ok(VecReply::Taken(v.pop())),
+        VecCall::Remove(i) if len == 1 || i < len => return Ok(VecReply::Taken(v.remove(i))),
+        VecCall::SwapRemove(i) if len == 1 || i < len => {
+            return Ok(VecReply::Taken(v.swap_remove(i)));
         }
-        VecCall::Pop => Ok(VecReply::Taken(v.pop())),
-        VecCall::Remove(i) => {
-            let len = v.len().get();
-            if 1 < len && len <= i {
-                return Ok(VecReply::Refused);
-            }
-            Ok(VecReply::Taken(v.remove(i)))
-        }
-        VecCall::SwapRemove(i) => {
-            let len = v.len().get();
-            if 1 < len && len <= i {
-                return Ok(VecReply::Refused);
-            }
-            Ok(VecReply::Taken(v.swap_remove(i)))
-        }
-        VecCall::Insert(i, x) => {
-            if v.len().get() < i {
-                return Ok(VecReply::Refused);
-            }
-            v.insert(i, x)?;
-            Ok(VecReply::Done)
-        }
-        VecCall::Swap(i, j) => {
-            let len = v.len().get();
-            if len <= i || len <= j {
-                return Ok(VecReply::Refused);
-            }
-            v.swap(i, j);
-            Ok(VecReply::Done)
-        }
-        VecCall::Append(items) => {
-            let mut items = items;
-            v.append(&mut items)?;
-            Ok(VecReply::Done)
-        }
-        VecCall::Truncate(n) => {
-            v.truncate(n);
-            Ok(VecReply::Done)
-        }
-        VecCall::SplitOff(n) => {
-            if v.len().get() < n.get() {
-                return Ok(VecReply::Refused);
-            }
-            let rest = v.split_off(n)?;
-            Ok(VecReply::Split(rest))
-        }
-        VecCall::Reverse => {
-            v.reverse();
-            Ok(VecReply::Done)
-        }
-        VecCall::Len => Ok(VecReply::Len(v.len())),
+        VecCall::Insert(i, x) if i <= len => v.insert(i, x)?,
+        VecCall::Swap(i, j) if i < len && j < len => v.swap(i, j),
+        VecCall::Append(mut items) => v.append(&mut items)?,
+        VecCall::Truncate(n) => v.truncate(n),
+        VecCall::SplitOff(n) if n.get() <= len => return Ok(VecReply::Split(v.split_off(n)?)),
+        VecCall::Reverse => v.reverse(),
+        VecCall::Len => return Ok(VecReply::Len(v.len())),
+        _ => return Ok(VecReply::Refused),
     }
+    Ok(VecReply::Done)
 }
