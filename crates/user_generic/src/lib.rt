@@ -41,5 +41,5 @@ pub use sides::mapped_side;
 pub use two_collections::parted;
 pub use vector_calls::{
     any_calls_on_a_vector, append_and_truncate, no_calls_on_a_vector, pop_the_only_item,
-    push_and_pop, push_and_reverse, push_two, split, swap_out_of_range, swap_twice,
+    push_and_pop, push_and_reverse, push_two, split, swap_and_reverse, swap_out_of_range,
 };

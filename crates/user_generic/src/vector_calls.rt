@@ -106,8 +106,8 @@ pub fn push_and_truncate(
     )
 }
 
-/// The items at two indices change places, and change back.
-pub fn swap_twice(
+/// The items at two indices change places, and then the order is reversed.
+pub fn swap_and_reverse(
     alloc: Global,
     v: &mut NEVec<u32>,
     i: usize,
@@ -117,12 +117,12 @@ pub fn swap_twice(
     requires j_within { j < length v.old }
     ensures replies { IfOk result (λ replies. replies.items
         ≡ VecReply.Done ∷ VecReply.Done ∷ []) }
-    ensures items { OnOk result (v.new ≡ swap (swap v.old i j) i j) }
+    ensures items { OnOk result (v.new ≡ reverse (swap v.old i j)) }
 {
     run_vec(
         alloc,
         v,
-        vec![in alloc; VecCall::Swap(i, j), VecCall::Swap(i, j)]?,
+        vec![in alloc; VecCall::Swap(i, j), VecCall::Reverse]?,
     )
 }
 
