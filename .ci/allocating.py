@@ -28,6 +28,7 @@ EXCUSED = {
     *("NESlice::clone", "Iter::clone", "NonEmptyIter::clone", "collect into ()"),
     *(f"FromNonEmptyIterator::from_drained of {it}" for it in ("NEVec", "Vec")),
     *("FromNonEmptyIterator::from_nonempty_iter", "NonEmptyMap::put"),
+    *("NonEmptySet::add", "NonEmptySet::put"),
 }
 
 
@@ -36,7 +37,7 @@ def call_of(it):
     trait = it.trait.partition("<")[0]
     if trait == "Iterator":
         return ITEMS.get(it.owner, it.path())
-    if trait in ("Singleton", "NonEmptyMap"):
+    if trait in ("Singleton", "NonEmptyMap", "NonEmptySet"):
         return f"{trait}::{it.name}{KINDS.get(it.owner, f' of {it.owner}')}"
     if trait == "FromNonEmptyIterator" and it.name == "from_drained":
         return f"{trait}::{it.name} of {it.owner}"

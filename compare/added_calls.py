@@ -7,7 +7,8 @@ from collections import namedtuple
 
 import calls
 import keyed_calls
-from calls import ANY, CHANGES, EDGES, NONE, PURE, READS, Kind, an_item, counted, lists, parsed
+from calls import ANY, CHANGES, EDGES, NONE, PURE, READS
+from calls import Kind, a_place, an_item, counted, lists, parsed
 from keyed_calls import MAPS, SETS, WALK
 
 NAME = "added"
@@ -23,13 +24,67 @@ def a_span(chance, keys):
     return tuple(sorted(ends) if chance.random() < 0.9 else ends)
 
 
+def some_calls(kinds, *draws):
+    """Returns a function that draws a list of calls: of each call the number of its kind, of so
+    many kinds, and its own numbers, one by each of these functions."""
+
+    def drawn(chance, keys):
+        turns = range(chance.choice([0, 1, 2, 5, 12]))
+        return tuple(
+            x for _ in turns for x in (chance.randrange(kinds), *(it(chance, keys) for it in draws))
+        )
+
+    return drawn
+
+
+def a_number(chance, items):
+    """Returns an index, an item, or two small indices."""
+    draw = chance.choice([a_place, an_item, lambda chance, _: chance.randrange(64)])
+    return draw(chance, items)
+
+
 # What the numbers of a call may be.
 KINDS = keyed_calls.KINDS | calls.KINDS
 KINDS["span"] = Kind(lists(2, 2, range(4)), [(0, 2)], [(2, 9), (7, 3)], a_span)
+# Lists of calls: of each call the number of its kind, and its own numbers. `crates/test_replay`
+# says which call a kind is.
+KINDS["vector_calls"] = Kind(
+    [
+        (*one, *other)
+        for one in itertools.product(range(11), (0, 1, 2, 9))
+        for other in [(), (1, 0), (7, 0)]
+    ],
+    [(0, 5, 8, 1, 9, 1, 1, 0)],
+    [(9, 2, 7, 0, 1, 0, 1, 0, 10, 5, 8, 2, 2, 9), (6, 0, 3, 0, 5, 3, 9, 9, 4, 9, 8, 40)],
+    some_calls(11, a_number),
+)
+KINDS["map_calls"] = Kind(
+    [
+        (kind, key, 7, *other)
+        for kind, key in itertools.product(range(5), range(4))
+        for other in [(), (0, 2, 8), (4, 2, 0)]
+    ],
+    [(4, 0, 0, 0, 1, 7, 4, 2, 0)],
+    [(0, 8, 50, 1, 5, 60, 4, 9, 0, 3, 0, 0), (4, 7, 0, 4, 3, 0, 0, 30, 3, 2, 31, 0, 3, 0, 0)],
+    some_calls(5, an_item, lambda chance, keys: chance.randrange(9)),
+)
+KINDS["set_calls"] = Kind(
+    [
+        (kind, item, *other)
+        for kind, item in itertools.product(range(5), range(4))
+        for other in [(), (2, 3), (1, 0)]
+    ],
+    [(1, 0, 0, 1, 1, 2)],
+    [(0, 8, 1, 9, 2, 7, 3, 6, 4, 0), (1, 6, 1, 3, 1, 8, 2, 31, 3, 30, 4, 0)],
+    some_calls(5, an_item),
+)
 
 # Names of calls, the kinds of collections that have them, the closures that they take, the kinds of
 # their numbers, and what they do.
 ROWS = [
+    ("run_vec", VECTOR, NONE, "vector_calls", CHANGES),
+    ("run_map", MAPS, NONE, "map_calls", CHANGES),
+    ("run_set", SETS, NONE, "set_calls", CHANGES),
     ("swap", VECTOR, NONE, "place place", CHANGES),
     ("extend_from_slice", VECTOR, NONE, "items", CHANGES),
     ("split_off", VECTOR, NONE, "size", CHANGES),
@@ -177,6 +232,10 @@ def scripts(chance, count):
 # Example cases, at the front of the sample, each after the collection that it begins with. Keys are
 # even, except those that equal another key by its half.
 VECTOR_ROWS = """
+vector 1
+run_vec
+run_vec 1 0 0 2 2 0
+run_vec 10 5 8 10 8 24 9 2 9 4 1 0 1 0 7 0
 vector 4 6 8
 swap 0 2
 swap 1 1
@@ -195,6 +254,9 @@ sort_unstable_by falling
 sort_unstable_by_key digit
 """
 TREE_MAP_ROWS = """
+tree_map 2 24
+run_map
+run_map 4 2 0 0 4 26 4 2 0 4 4 0 2 4 0
 tree_map 2 24
 is_empty
 remove 2
@@ -230,6 +292,8 @@ iter
 """
 HASHED_MAP_ROWS = """
 hashed_map 2 24
+run_map 4 3 0 0 4 26 4 3 0 4 5 0 3 0 0
+hashed_map 2 24
 remove 2
 remove_entry 3
 insert 4 26
@@ -248,6 +312,8 @@ retain
 iter
 """
 INDEXED_MAP_ROWS = """
+indexed_map 2 24 4 26 6 23
+run_map 4 3 0 4 9 0 4 6 0 4 4 0 1 4 7
 indexed_map 2 24
 swap_remove 2
 shift_remove 3
@@ -280,6 +346,9 @@ iter
 """
 TREE_SET_ROWS = """
 tree_set 2
+run_set
+run_set 1 2 0 4 1 2 1 4 3 5 2 5 4 0
+tree_set 2
 is_empty
 remove 2
 take 3
@@ -308,6 +377,8 @@ iter
 """
 HASHED_SET_ROWS = """
 hashed_set 2
+run_set 1 3 0 4 0 5 2 5 1 3 1 4 3 2
+hashed_set 2
 remove 2
 take 3
 insert 4
@@ -323,6 +394,8 @@ retain
 iter
 """
 INDEXED_SET_ROWS = """
+indexed_set 2 4 6
+run_set 1 3 2 5 1 9 1 6 1 4 4 0
 indexed_set 2
 swap_remove 2
 shift_remove 3
@@ -351,20 +424,32 @@ iter
 # Calls over a hundred thousand items or keys. `.ci/calls` fails if one is left out that may report
 # a failed allocation.
 LARGE_ROWS = """
+vector 7
+run_vec 200000*11
+iter
 vector 100000*7919
 extend_from_slice 100000*1
 split_off 100000
 sort_unstable
+iter
+tree_map 2
+run_map 300000*1
 iter
 tree_map 200000*7919
 insert 200001 7
 remove 100000
 retain tens
 iter
+hashed_map 2
+run_map 300000*1
+iter
 hashed_map 200000*7919
 insert 200001 7
 remove 100000
 retain tens
+iter
+indexed_map 2
+run_map 30000*1
 iter
 indexed_map 200000*7919
 or_insert 200001 7
@@ -372,13 +457,22 @@ swap_remove 100000
 shift_remove 100002
 retain tens
 iter
+tree_set 2
+run_set 200000*7
+iter
 tree_set 200000*7919
 remove 100000
 retain half
 iter
+hashed_set 2
+run_set 200000*7
+iter
 hashed_set 200000*7919
 remove 100000
 retain half
+iter
+indexed_set 2
+run_set 20000*7
 iter
 indexed_set 200000*7919
 swap_remove 100000
@@ -426,6 +520,9 @@ def numbers_for(count):
         "size": [(count,), (1,)],
         "items": [(5, 9), ()],
         "span": [(1, 2 * count), (count, count)],
+        "vector_calls": [(0, 7, 8, count, 9, 1, 1, 0, 1, 0), (10, 5, 2, count, 6, 0, 7, 0)],
+        "map_calls": [(4, count, 0, 4, 0, 0, 3, 0, 0), (0, 4 * count, 8, 4, 1, 0, 2, count, 0)],
+        "set_calls": [(1, count, 1, 0, 4, 0), (0, 4 * count, 2, 1, 1, 2, 3, count)],
     }
 
 

@@ -85,16 +85,6 @@ def like_vector(chance, items):
     )
 
 
-def some_calls(chance, items):
-    """Returns a list of calls, each as the number of its kind and its own number."""
-    turns = range(chance.choice([0, 1, 2, 5, 12]))
-    return tuple(
-        x
-        for _ in turns
-        for x in (chance.randrange(8), chance.choice([a_place, an_item])(chance, items))
-    )
-
-
 # What the numbers of a call may be: the values in small scripts, in pairs of calls and in the
 # sample, and the random values for a vector.
 Kind = namedtuple("Kind", "small few telling random")
@@ -137,16 +127,6 @@ KINDS = {
     ),
 }
 
-KINDS["calls"] = Kind(
-    [
-        (*one, *other)
-        for one, other in itertools.product(lists(2, 2, range(8)), [(), (2, 1), (7, 0)])
-    ],
-    [(0, 5, 3, 0, 1, 0)],
-    [(0, 7, 4, 2, 2, 1, 7, 0, 1, 0), (6, 0, 3, 0, 5, 3, 2, 9, 4, 9, 7, 0)],
-    some_calls,
-)
-
 # Names of calls, the closures that they take, the kinds of their numbers, and what they do to the
 # vector. A new call needs a new name.
 ROWS = [
@@ -160,7 +140,6 @@ ROWS = [
     ("remove swap_remove", NONE, "place", CHANGES),
     ("append extend", NONE, "items", CHANGES),
     ("truncate", NONE, "size", CHANGES),
-    ("run_vec", NONE, "calls", CHANGES),
     ("as_mut_slice reverse pop dedup sort", NONE, "", CHANGES),
     (
         "iter_mut nonempty_iter_mut for_mut retain retain_mut dedup_by dedup_by_key",
@@ -445,7 +424,6 @@ try_from_vec 0 1
 cartesian_product 7 8
 try_from_vec 1
 intersperse 0
-run_vec
 try_from_vec 1 2
 clone
 slice_clone
@@ -505,9 +483,6 @@ with_capacity 100000 7
 nev_many 100000 7
 from_parts 100000*7919
 try_from_slice 100000*7919
-vector 7
-run_vec 200000*4
-iter
 vector 100000*7919
 push 5
 extend_one 6

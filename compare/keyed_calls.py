@@ -60,14 +60,6 @@ def same_pairs(chance, keys):
     return tuple(itertools.chain(*((key, value) for value, key in pairs)))
 
 
-def some_calls(chance, keys):
-    """Returns a list of calls, each as the number of its kind, its key and its value."""
-    turns = range(chance.choice([0, 1, 2, 5, 12]))
-    return tuple(
-        x for _ in turns for x in (chance.randrange(4), an_item(chance, keys), chance.randrange(9))
-    )
-
-
 SMALL_MAPS = [valued(it) for it in lists(0, 2, range(3))]
 # What the numbers of a call may be, as in `calls.py`; the random values are made from the keys.
 KINDS = {
@@ -103,16 +95,6 @@ KINDS = {
         [(9, 1, 4, 2, 20, 3), (5, 1, 11, 2)],
         lambda *made: valued(some_keys(*made)),
     ),
-    "calls": Kind(
-        [
-            (kind, key, 7, *other)
-            for kind, key in lists(2, 2, range(4))
-            for other in [(), (0, 2, 8), (2, 2, 0)]
-        ],
-        [(0, 1, 7, 1, 4, 8, 3, 0, 0)],
-        [(0, 8, 50, 1, 5, 60, 2, 9, 0, 3, 0, 0), (1, 5, 1, 1, 4, 2, 0, 30, 3, 2, 31, 0, 3, 0, 0)],
-        some_calls,
-    ),
     "other": Kind(lists(1, 2, range(4)), [(1, 4)], [(3, 1, 4, 15, 9), (13, 0, 2, 9, 7)], like_keys),
     "map": Kind(
         SMALL_MAPS[1:], [(1, 8)], [(9, 2, 3, 1), (13, 6, 0, 4, 2, 2, 9, 7, 7, 5)], same_pairs
@@ -130,7 +112,6 @@ ROWS = [
     ("with_capacity with_capacity_and_hasher", MAPS[1:], "key value size", MAKES),
     ("insert extend_one get_mut", MAPS, "key value", CHANGES),
     ("extend", MAPS, "pairs", CHANGES),
-    ("run_map", MAPS, "calls", CHANGES),
     ("iter_mut nonempty_iter_mut mut_into_iter", MAPS, "value", CHANGES),
     ("values_mut", MAPS[2:], "value", CHANGES),
     ("swap_indices", MAPS[2:], "place place", CHANGES),
@@ -479,10 +460,6 @@ def scrambled(count):
         "map": (f"{2 * count}*7919", keys),
     }
     values |= {"keys": (keys,) * 2, "pairs": (keys,) * 2, "other": (keys, f"{2 * count}*1")}
-    values["calls"] = (
-        f"0 {count} 7 1 {4 * count} 8 2 0 0 3 0 0",
-        f"0 {4 * count} 7 1 {count} 8 2 {9 * count} 0",
-    )
     return {id(KINDS[kind]): [(number,) for number in numbers] for kind, numbers in values.items()}
 
 
@@ -510,7 +487,7 @@ def large():
     script = []
     for subject in SUBJECTS:
         is_map, has_room = subject in MAPS, subject not in ("tree_map", "tree_set")
-        makes = ["run_map 300000*1"] * is_map + ["collect 200000*7919"]
+        makes = ["collect 200000*7919"]
         makes += [LARGE_ROOM.format(numbers="2 1" if is_map else "2")] * has_room
         others = [LARGE_MAP if is_map else LARGE_SET]
         others += ["reserve 100000"] * (subject in SETS[1:]) + ["shrink_to_fit"] * has_room

@@ -107,6 +107,180 @@ impl Subject {
     }
 }
 
+// The reply to a call of a list of calls. It is only printed.
+#[allow(dead_code)]
+#[derive(Debug)]
+enum Reply<T> {
+    Done,
+    Taken(Option<T>),
+    Split(Vec<T>),
+    Refused,
+    Old(Option<T>),
+    Added(bool),
+    Removed(bool),
+    Has(bool),
+    Len(usize),
+}
+
+// Makes a list of calls on a vector.
+fn run_vec(items: &mut Vec<u32>, call: &Call) -> Vec<Reply<u32>> {
+    let mut replies = Vec::new();
+    for pair in call.numbers.chunks(2) {
+        let (number, len) = (pair.get(1).copied().unwrap_or(0), items.len());
+        let place = number as usize;
+        let mut reply = Reply::Done;
+        match pair[0] % 11 {
+            0 => items.push(number),
+            1 => reply = Reply::Taken(unless_last(len, || items.pop())),
+            2 | 3 if len == 1 => reply = Reply::Taken(None),
+            2 if place < len => reply = Reply::Taken(Some(items.remove(place))),
+            3 if place < len => reply = Reply::Taken(Some(items.swap_remove(place))),
+            4 if place <= len => items.insert(place, number),
+            5 => items.truncate(place.max(1)),
+            6 => items.reverse(),
+            7 => reply = Reply::Len(len),
+            8 if place / 8 < len && place % 8 < len => items.swap(place / 8, place % 8),
+            9 if place.max(1) <= len => reply = Reply::Split(items.split_off(place.max(1))),
+            10 => items.extend([number, number / 2]),
+            _ => reply = Reply::Refused,
+        }
+        replies.push(reply);
+    }
+    replies
+}
+
+// The calls on a map that a list may have. `delete` may remove the only key.
+trait Map {
+    fn put(&mut self, key: Key, value: u32) -> Option<u32>;
+    fn value_of(&mut self, key: Key) -> Option<&mut u32>;
+    fn delete(&mut self, key: Key) -> Option<u32>;
+    fn size(&self) -> usize;
+}
+
+// Makes a list of calls on a map.
+fn run_map<M: Map>(map: &mut M, call: &Call) -> Vec<Reply<u32>> {
+    let mut replies = Vec::new();
+    for three in call.numbers.chunks(3) {
+        let key = Key::new(three.get(1).copied().unwrap_or(0));
+        let value = three.get(2).copied().unwrap_or(0);
+        replies.push(match three[0] % 5 {
+            0 => Reply::Old(map.put(key, value)),
+            1 => Reply::Old(map.value_of(key).map(|place| std::mem::replace(place, value))),
+            2 => Reply::Has(map.value_of(key).is_some()),
+            3 => Reply::Len(map.size()),
+            _ => Reply::Old(unless_last(map.size(), || map.delete(key))),
+        });
+    }
+    replies
+}
+
+// The calls on a set that a list may have. `delete` may remove the only item.
+trait Set {
+    fn add(&mut self, item: Key) -> bool;
+    fn put(&mut self, item: Key) -> Option<Key>;
+    fn holds(&self, item: Key) -> bool;
+    fn delete(&mut self, item: Key) -> bool;
+    fn size(&self) -> usize;
+}
+
+// Makes a list of calls on a set.
+fn run_set<S: Set>(set: &mut S, call: &Call) -> Vec<Reply<Key>> {
+    let mut replies = Vec::new();
+    for pair in call.numbers.chunks(2) {
+        let item = Key::new(pair.get(1).copied().unwrap_or(0));
+        replies.push(match pair[0] % 5 {
+            0 => Reply::Added(set.add(item)),
+            1 => Reply::Removed(unless_last(set.size(), || set.delete(item))),
+            2 => Reply::Old(set.put(item)),
+            3 => Reply::Has(set.holds(item)),
+            _ => Reply::Len(set.size()),
+        });
+    }
+    replies
+}
+
+macro_rules! std_types {
+    ($($Map:ty, $Set:ty;)*) => {$(
+        impl Map for $Map {
+            fn put(&mut self, key: Key, value: u32) -> Option<u32> {
+                self.insert(key, value)
+            }
+            fn value_of(&mut self, key: Key) -> Option<&mut u32> {
+                self.get_mut(&key)
+            }
+            fn delete(&mut self, key: Key) -> Option<u32> {
+                self.remove(&key)
+            }
+            fn size(&self) -> usize {
+                self.len()
+            }
+        }
+
+        impl Set for $Set {
+            fn add(&mut self, item: Key) -> bool {
+                self.insert(item)
+            }
+            fn put(&mut self, item: Key) -> Option<Key> {
+                self.replace(item)
+            }
+            fn holds(&self, item: Key) -> bool {
+                self.contains(&item)
+            }
+            fn delete(&mut self, item: Key) -> bool {
+                self.remove(&item)
+            }
+            fn size(&self) -> usize {
+                self.len()
+            }
+        }
+    )*};
+}
+std_types! { TreeMap, TreeSet; HashedMap, HashedSet; }
+
+impl Map for IndexedMap {
+    fn put(&mut self, key: Key, value: u32) -> Option<u32> {
+        put(self, (key, value))
+    }
+    fn value_of(&mut self, key: Key) -> Option<&mut u32> {
+        place_of(self, key).map(|place| &mut self[place].1)
+    }
+    fn delete(&mut self, key: Key) -> Option<u32> {
+        place_of(self, key).map(|place| self.swap_remove(place).1)
+    }
+    fn size(&self) -> usize {
+        self.len()
+    }
+}
+
+impl Set for IndexedSet {
+    fn add(&mut self, item: Key) -> bool {
+        let is_new = !self.contains(&item);
+        if is_new {
+            self.push(item);
+        }
+        is_new
+    }
+    fn put(&mut self, item: Key) -> Option<Key> {
+        match self.iter().position(|other| *other == item) {
+            Some(place) => Some(std::mem::replace(&mut self[place], item)),
+            None => {
+                self.push(item);
+                None
+            }
+        }
+    }
+    fn holds(&self, item: Key) -> bool {
+        self.contains(&item)
+    }
+    fn delete(&mut self, item: Key) -> bool {
+        let place = self.iter().position(|other| *other == item);
+        place.map(|place| self.swap_remove(place)).is_some()
+    }
+    fn size(&self) -> usize {
+        self.len()
+    }
+}
+
 // Removes nothing if there is one entry.
 fn unless_last<T: Default>(len: usize, removal: impl FnOnce() -> T) -> T {
     if len > 1 {
@@ -144,6 +318,7 @@ fn vector(items: &mut Vec<u32>, call: &Call, out: &mut Transcript) {
     let (len, a, b) = (items.len(), call.place, call.last as usize);
     let closure = call.closure.anew();
     match call.name {
+        "run_vec" => out.told(run_vec(items, call)),
         "swap" if a < len && b < len => items.swap(a, b),
         "swap" => out.said("out of range"),
         "extend_from_slice" => items.extend_from_slice(&call.numbers),
@@ -166,6 +341,7 @@ macro_rules! std_map {
         let (map, call, out) = ($map, $call, $out);
         let (key, value) = (call.key(0), call.number(1));
         match call.name {
+            "run_map" => out.told(run_map(map, call)),
             "remove" => out.told(unless_last(map.len(), || map.remove(&key))),
             "remove_entry" => out.told(unless_last(map.len(), || map.remove_entry(&key))),
             "retain" => {
@@ -240,6 +416,7 @@ fn indexed_map(map: &mut IndexedMap, call: &Call, out: &mut Transcript) {
     // the place of a key that may be removed
     let place = place_of(map, key).filter(|_| len > 1);
     match call.name {
+        "run_map" => out.told(run_map(map, call)),
         "swap_remove" => out.told(place.map(|place| map.swap_remove(place).1)),
         "shift_remove" => out.told(place.map(|place| map.remove(place).1)),
         "swap_remove_entry" => out.told(place.map(|place| map.swap_remove(place))),
@@ -294,6 +471,7 @@ macro_rules! std_set {
         let (set, call, out) = ($set, $call, $out);
         let item = call.key(0);
         match call.name {
+            "run_set" => out.told(run_set(set, call)),
             "remove" => out.told(unless_last(set.len(), || set.remove(&item))),
             "take" => out.told(unless_last(set.len(), || set.take(&item))),
             "retain" => {
@@ -335,6 +513,7 @@ fn indexed_set(set: &mut IndexedSet, call: &Call, out: &mut Transcript) {
     // the place of an item that may be removed
     let place = found.filter(|_| len > 1);
     match call.name {
+        "run_set" => out.told(run_set(set, call)),
         "swap_remove" => out.told(place.map(|place| set.swap_remove(place)).is_some()),
         "shift_remove" => out.told(place.map(|place| set.remove(place)).is_some()),
         "swap_take" => out.told(place.map(|place| set.swap_remove(place))),

@@ -7,7 +7,6 @@ use nonempty_collections::{
 };
 use std::collections::hash_map::RandomState;
 use std::collections::{BTreeMap, BTreeSet, HashMap, HashSet};
-use std::num::NonZeroUsize;
 
 pub type TreeMap = NEBTreeMap<Key, u32>;
 pub type HashedMap = NEMap<Key, u32>;
@@ -15,15 +14,6 @@ pub type IndexedMap = NEIndexMap<Key, u32>;
 pub type TreeSet = NEBTreeSet<Key>;
 pub type HashedSet = NESet<Key>;
 pub type IndexedSet = NEIndexSet<Key>;
-
-// The reply to a call. It is only printed.
-#[allow(dead_code)]
-#[derive(Debug)]
-enum MapReply {
-    Old(Option<u32>),
-    Has(bool),
-    Len(NonZeroUsize),
-}
 
 // Calls that all maps have.
 macro_rules! any_map {
@@ -41,25 +31,6 @@ macro_rules! any_map {
             }
             "insert" => out.told(map.insert(key, value)),
             "extend_one" => map.extend([(key, value)]),
-            // The Rust crate has no function that makes a list of calls, so they are made one by
-            // one.
-            "run_map" => {
-                let mut replies = Vec::new();
-                for three in call.numbers.chunks(3) {
-                    let key = Key::new(three.get(1).copied().unwrap_or(0));
-                    let value = three.get(2).copied().unwrap_or(0);
-                    replies.push(match three[0] % 4 {
-                        0 => MapReply::Old(map.insert(key, value)),
-                        1 => {
-                            let place = map.get_mut(&key);
-                            MapReply::Old(place.map(|place| std::mem::replace(place, value)))
-                        }
-                        2 => MapReply::Has(map.contains_key(&key)),
-                        _ => MapReply::Len(map.len()),
-                    });
-                }
-                out.told(replies)
-            }
             "extend" => map.extend(call.pairs()),
             "get_mut" => write(map.get_mut(&key), value, out),
             "iter_mut" => rewrite(map.iter_mut(), call.first),

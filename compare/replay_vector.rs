@@ -9,7 +9,7 @@ use nonempty_collections::{
 use std::borrow::Cow;
 use std::collections::{BTreeMap, BTreeSet, HashMap, HashSet};
 use std::hash::{DefaultHasher, Hash, Hasher};
-use std::num::{NonZeroUsize, Wrapping};
+use std::num::Wrapping;
 use std::path::PathBuf;
 
 pub fn made(items: &mut NEVec<u32>, call: &Call, out: &mut Transcript) {
@@ -72,42 +72,8 @@ fn edited(items: &mut NEVec<u32>, call: &Call, out: &mut Transcript) {
         }
         "extend" => items.extend(call.numbers.iter().copied()),
         "truncate" => items.truncate(call.size),
-        "run_vec" => run(items, call, out),
         _ => kept(items, call, out),
     }
-}
-
-// The reply to a call. It is only printed.
-#[allow(dead_code)]
-#[derive(Debug)]
-enum VecReply {
-    Done,
-    Taken(Option<u32>),
-    Len(NonZeroUsize),
-    Refused,
-}
-
-// The Rust crate has no function that makes a list of calls, so they are made one by one.
-fn run(items: &mut NEVec<u32>, call: &Call, out: &mut Transcript) {
-    let mut replies = Vec::new();
-    for pair in call.numbers.chunks(2) {
-        let (number, len) = (pair.get(1).copied().unwrap_or(0), items.len().get());
-        let place = number as usize;
-        let mut reply = VecReply::Done;
-        match pair[0] % 8 {
-            0 => items.push(number),
-            1 => reply = VecReply::Taken(items.pop()),
-            2 if len == 1 || place < len => reply = VecReply::Taken(items.remove(place)),
-            3 if len == 1 || place < len => reply = VecReply::Taken(items.swap_remove(place)),
-            4 if place <= len => items.insert(place, number),
-            5 => items.truncate(NonZeroUsize::new(place).unwrap_or(NonZeroUsize::MIN)),
-            6 => items.reverse(),
-            7 => reply = VecReply::Len(items.len()),
-            _ => reply = VecReply::Refused,
-        }
-        replies.push(reply);
-    }
-    out.told(replies)
 }
 
 fn kept(items: &mut NEVec<u32>, call: &Call, out: &mut Transcript) {

@@ -10,6 +10,10 @@ use crate::keyed::{
     tree_set_iterated,
 };
 use crate::transcript::{Transcript, Written, put_kept};
+use ne_laws::map_calls::run_map;
+use ne_laws::maps::NonEmptyMap;
+use ne_laws::set_calls::run_set;
+use ne_laws::sets::NonEmptySet;
 use std::alloc::AllocError;
 use std::fmt::Debug;
 
@@ -52,10 +56,27 @@ fn changed(value: u32, number: u32) -> u32 {
     value.wrapping_mul(31).wrapping_add(number)
 }
 
+// Makes a list of calls on a map.
+fn listed_on_map<M: NonEmptyMap<Key, u32>>(
+    map: &mut M,
+    call: &Call,
+    out: &mut Transcript,
+) -> Written {
+    let calls = call.map_calls(out.alloc)?;
+    out.made(run_map(out.alloc, map, calls))
+}
+
+// Makes a list of calls on a set.
+fn listed_on_set<S: NonEmptySet<Key>>(set: &mut S, call: &Call, out: &mut Transcript) -> Written {
+    let calls = call.set_calls(out.alloc)?;
+    out.made(run_set(out.alloc, set, calls))
+}
+
 /// Calls on a tree map.
 pub fn tree_map_added(map: &mut TreeMap, call: &Call, out: &mut Transcript) -> Written {
     let (key, other) = (call.key(0), call.key(1));
     match call.name {
+        "run_map" => listed_on_map(map, call, out),
         "remove" => out.result(map.remove(&key)),
         "remove_entry" => out.result(map.remove_entry(&key)),
         "first_key_value" => out.result(map.first_key_value()),
@@ -79,6 +100,7 @@ pub fn tree_map_added(map: &mut TreeMap, call: &Call, out: &mut Transcript) -> W
 pub fn hashed_map_added(map: &mut HashedMap, call: &Call, out: &mut Transcript) -> Written {
     let key = call.key(0);
     match call.name {
+        "run_map" => listed_on_map(map, call, out),
         "remove" => out.result(map.remove(&key)),
         "remove_entry" => out.result(map.remove_entry(&key)),
         "values_mut" => Ok(rewrite_values(map.values_mut(), call.first)),
@@ -95,6 +117,7 @@ pub fn hashed_map_added(map: &mut HashedMap, call: &Call, out: &mut Transcript) 
 pub fn indexed_map_added(map: &mut IndexedMap, call: &Call, out: &mut Transcript) -> Written {
     let (key, value) = (call.key(0), call.number(1));
     match call.name {
+        "run_map" => listed_on_map(map, call, out),
         "swap_remove" => out.result(map.swap_remove(&key)),
         "shift_remove" => out.result(map.shift_remove(&key)),
         "swap_remove_entry" => out.result(map.swap_remove_entry(&key)),
@@ -116,6 +139,7 @@ pub fn indexed_map_added(map: &mut IndexedMap, call: &Call, out: &mut Transcript
 pub fn tree_set_added(set: &mut TreeSet, call: &Call, out: &mut Transcript) -> Written {
     let (item, other) = (call.key(0), call.key(1));
     match call.name {
+        "run_set" => listed_on_set(set, call, out),
         "remove" => out.result(set.remove(&item)),
         "take" => out.result(set.take(&item)),
         "first" => out.result(set.first()),
@@ -138,6 +162,7 @@ pub fn tree_set_added(set: &mut TreeSet, call: &Call, out: &mut Transcript) -> W
 pub fn hashed_set_added(set: &mut HashedSet, call: &Call, out: &mut Transcript) -> Written {
     let item = call.key(0);
     match call.name {
+        "run_set" => listed_on_set(set, call, out),
         "remove" => out.result(set.remove(&item)),
         "take" => out.result(set.take(&item)),
         "retain" => {
@@ -153,6 +178,7 @@ pub fn hashed_set_added(set: &mut HashedSet, call: &Call, out: &mut Transcript) 
 pub fn indexed_set_added(set: &mut IndexedSet, call: &Call, out: &mut Transcript) -> Written {
     let item = call.key(0);
     match call.name {
+        "run_set" => listed_on_set(set, call, out),
         "swap_remove" => out.result(set.swap_remove(&item)),
         "shift_remove" => out.result(set.shift_remove(&item)),
         "swap_take" => out.result(set.swap_take(&item)),

@@ -5,6 +5,7 @@
 use crate::closure::Closure;
 use crate::key::Key;
 use ne_laws::map_calls::MapCall;
+use ne_laws::set_calls::SetCall;
 use ne_laws::vector_calls::VecCall;
 use nonempty_collections::NEVec;
 use std::alloc::{AllocError, Global};
@@ -132,12 +133,12 @@ impl<'t> Call<'t> {
     }
 
     /// Its numbers two by two as calls on a vector: which call it is, and its index, length or
-    /// item.
+    /// item. A swap makes two indices of it, and what is appended has it and its half.
     pub fn vector_calls(&self, alloc: Global) -> Result<Vec<VecCall<u32>>, AllocError> {
         let mut calls = Vec::new(alloc);
         for pair in self.numbers.as_slice().chunks(2) {
             let (number, place) = (at(pair, 1), at(pair, 1) as usize);
-            calls.push(match at(pair, 0) % 8 {
+            calls.push(match at(pair, 0) % 11 {
                 0 => VecCall::Push(number),
                 1 => VecCall::Pop,
                 2 => VecCall::Remove(place),
@@ -145,7 +146,10 @@ impl<'t> Call<'t> {
                 4 => VecCall::Insert(place, number),
                 5 => VecCall::Truncate(sized(number)),
                 6 => VecCall::Reverse,
-                _ => VecCall::Len,
+                7 => VecCall::Len,
+                8 => VecCall::Swap(place / 8, place % 8),
+                9 => VecCall::SplitOff(sized(number)),
+                _ => VecCall::Append(vec![in alloc; number, number / 2]?),
             })?;
         }
         Ok(calls)
@@ -156,11 +160,28 @@ impl<'t> Call<'t> {
         let mut calls = Vec::new(alloc);
         for three in self.numbers.as_slice().chunks(3) {
             let (key, value) = (Key::new(at(three, 1)), at(three, 2));
-            calls.push(match at(three, 0) % 4 {
+            calls.push(match at(three, 0) % 5 {
                 0 => MapCall::Insert(key, value),
                 1 => MapCall::Write(key, value),
                 2 => MapCall::Has(key),
-                _ => MapCall::Len,
+                3 => MapCall::Len,
+                _ => MapCall::Remove(key),
+            })?;
+        }
+        Ok(calls)
+    }
+
+    /// Its numbers two by two as calls on a set: which call it is, and its item.
+    pub fn set_calls(&self, alloc: Global) -> Result<Vec<SetCall<Key>>, AllocError> {
+        let mut calls = Vec::new(alloc);
+        for pair in self.numbers.as_slice().chunks(2) {
+            let item = Key::new(at(pair, 1));
+            calls.push(match at(pair, 0) % 5 {
+                0 => SetCall::Insert(item),
+                1 => SetCall::Remove(item),
+                2 => SetCall::Replace(item),
+                3 => SetCall::Has(item),
+                _ => SetCall::Len,
             })?;
         }
         Ok(calls)

@@ -11,8 +11,6 @@ use crate::call::Call;
 use crate::key::Key;
 use crate::transcript::{Transcript, Written, put, put_ok, put_some, write};
 use indexmap::{IndexMap, IndexSet, map as index_map, set as index_set};
-use ne_laws::map_calls::run_map;
-use ne_laws::maps::NonEmptyMap;
 use nonempty_collections::{
     FromNonEmptyIterator, IntoNonEmptyIterator, NEBTreeMap, NEBTreeSet, NEIndexMap, NEIndexSet,
     NEMap, NESet, NonEmptyIterator, Singleton, nebtm, nebts, neim, neis, nem, nes,
@@ -130,7 +128,6 @@ macro_rules! changed_map {
         match $call.name {
             "insert" => $out.made($map.insert(key, value)),
             "extend_one" => $map.extend_one((key, value)),
-            "run_map" => run($map, $call, $out),
             "extend" => $map.extend($call.pairs($out.alloc)?),
             "get_mut" => write($map.get_mut(&key), value, $out),
             "iter_mut" => Ok(rewrite($map.iter_mut(), $call.first)),
@@ -142,12 +139,6 @@ macro_rules! changed_map {
             _ => $next($map, $call, $out),
         }
     }};
-}
-
-// Makes a list of calls.
-fn run<M: NonEmptyMap<Key, u32>>(map: &mut M, call: &Call, out: &mut Transcript) -> Written {
-    let calls = call.map_calls(out.alloc)?;
-    out.made(run_map(out.alloc, map, calls))
 }
 
 // A call that index maps lack.

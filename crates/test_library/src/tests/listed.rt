@@ -4,10 +4,12 @@
 use super::{bump, is, list, prints};
 use ne_laws::map_calls::{MapCall, run_map};
 use ne_laws::reader::take_runs;
+use ne_laws::set_calls::{SetCall, run_set};
 use ne_laws::vector_calls::{VecCall, run_vec};
-use nonempty_collections::{IntoNonEmptyIterator, NEBTreeMap, NEVec, NonEmptyIterator};
+use nonempty_collections::{IntoNonEmptyIterator, NEBTreeMap, NEBTreeSet, NEVec, NonEmptyIterator};
 use std::alloc::Global;
 use std::cell::Cell;
+use std::num::NonZeroUsize;
 use std::test::Fail;
 
 // Takes `k` runs of the items, each its own key. Fails unless they and the run that the reader then
@@ -49,13 +51,24 @@ fn replies(rt: HostRuntime) -> Result<(), Fail> {
     let calls = vec![in alloc; MapCall::Insert(2, 'b'), MapCall::Has(3), MapCall::Len]?;
     let text = "[Old(None), Has(false), Len(2)]";
     prints(alloc, &run_map(alloc, &mut map, calls)?, text)?;
+    let mut set = NEBTreeSet::new(alloc, 1u32)?;
+    let calls = vec![in alloc;
+        SetCall::Remove(1),
+        SetCall::Insert(2),
+        SetCall::Replace(2),
+        SetCall::Has(3),
+        SetCall::Len,
+    ]?;
+    let text = "[Removed(false), Added(true), Old(Some(2)), Has(false), Len(2)]";
+    prints(alloc, &run_set(alloc, &mut set, calls)?, text)?;
     let mut v = NEVec::new(alloc, 1u32)?;
     let calls = vec![in alloc;
         VecCall::Push(2),
         VecCall::Pop,
         VecCall::Len,
         VecCall::Insert(9, 3),
+        VecCall::SplitOff(NonZeroUsize::MIN),
     ]?;
-    let text = "[Done, Taken(Some(2)), Len(1), Refused]";
+    let text = "[Done, Taken(Some(2)), Len(1), Refused, Split([])]";
     prints(alloc, &run_vec(alloc, &mut v, calls)?, text)
 }

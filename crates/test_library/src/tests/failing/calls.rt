@@ -2,8 +2,9 @@
 
 use super::{holds, pair, report};
 use ne_laws::map_calls::{MapCall, run_map};
+use ne_laws::set_calls::{SetCall, run_set};
 use ne_laws::vector_calls::{VecCall, run_vec};
-use nonempty_collections::NEBTreeMap;
+use nonempty_collections::{NEBTreeMap, NEBTreeSet};
 use std::alloc::{AllocError, Global};
 use std::test::Fail;
 
@@ -53,4 +54,33 @@ fn on_a_map(rt: HostRuntime) -> Result<(), Fail> {
     holds(call, keys == 15 || keys == 16 && map.contains_key(&16))?;
     holds(call, value == Some(1))?;
     report(&rt, "refused", call)
+}
+
+// The set grows for a sixteenth item, and the list of the replies for its first.
+#[test]
+fn on_a_set(rt: HostRuntime) -> Result<(), Fail> {
+    let call = "run_set";
+    let alloc = rt.alloc();
+    let calls = vec![in alloc; SetCall::Insert(16), SetCall::Remove(1)];
+    let (Ok(mut set), Ok(calls)) = (full_set(alloc), calls) else {
+        return report(&rt, "not reached", call);
+    };
+    let result = run_set(alloc, &mut set, calls);
+    let (items, is_last_made) = (set.len().get(), !set.contains(&1));
+    if result.is_ok() {
+        holds(call, items == 15 && is_last_made)?;
+        return report(&rt, "made", call);
+    }
+    holds(call, items == 15 || items == 16 && set.contains(&16))?;
+    holds(call, !is_last_made)?;
+    report(&rt, "refused", call)
+}
+
+// The numbers up to 15, which fill a node of the set.
+fn full_set(alloc: Global) -> Result<NEBTreeSet<u32>, AllocError> {
+    let mut set = NEBTreeSet::new(alloc, 1)?;
+    for item in 2..16 {
+        set.insert(item)?;
+    }
+    Ok(set)
 }

@@ -80,12 +80,13 @@ enum Make {
     Written,
 }
 
-// The calls on a table. A map has `Put`, an index map also `OrInsert`, a set has `Replace`, and a
-// tree does not shrink.
+// The calls on a table. An index map also has `OrInsert`, a set has `Add` and `Replace`, and a tree
+// does not shrink.
 #[derive(Clone, Copy, PartialEq, Eq)]
 enum Change {
     Insert,
     Put,
+    Add,
     OrInsert,
     Replace,
     ExtendOne,
@@ -121,7 +122,7 @@ trait Table: Singleton<Item = Item> + FromNonEmptyIterator<Item> + Clone + Drop 
 
     fn make(alloc: Global, call: Make, item: Item) -> Result<Self, AllocError>;
 
-    // `Insert`, `Put`, `OrInsert`, `Replace`, `ExtendOne` or `ShrinkToFit`.
+    // `Insert`, `Put`, `Add`, `OrInsert`, `Replace`, `ExtendOne` or `ShrinkToFit`.
     fn change(&mut self, call: Change, item: Item) -> Result<(), AllocError>;
 
     fn extend_by(&mut self, items: Items<'_>) -> Result<(), AllocError>;

@@ -2,6 +2,7 @@
 
 use super::{Change, Item, Items, Key, Make, Needs, Owner, Row, Table, every_call};
 use ne_laws::maps::NonEmptyMap;
+use ne_laws::sets::NonEmptySet;
 use nonempty_collections::{
     NEBTreeMap, NEBTreeSet, NEIndexMap, NEIndexSet, NEMap, NESet, Singleton, neim, neis, nem, nes,
 };
@@ -46,6 +47,8 @@ macro_rules! changed_set {
     ($set:expr, $call:expr, $item:expr) => {
         match $call {
             Change::Insert => $set.insert($item).map(|_| ()),
+            Change::Add => $set.add($item).map(|_| ()),
+            Change::Put => $set.put($item).map(|_| ()),
             Change::Replace => $set.replace($item).map(|_| ()),
             Change::ExtendOne => $set.extend_one($item),
             _ => $set.shrink_to_fit(),
@@ -124,6 +127,8 @@ impl Table for NEBTreeSet<Item> {
     fn change(&mut self, call: Change, item: Item) -> Result<(), AllocError> {
         match call {
             Change::Insert => self.insert(item).map(|_| ()),
+            Change::Add => self.add(item).map(|_| ()),
+            Change::Put => self.put(item).map(|_| ()),
             Change::Replace => self.replace(item).map(|_| ()),
             _ => self.extend_one(item),
         }
@@ -239,7 +244,7 @@ fn tree_map(rt: HostRuntime) -> Result<(), Fail> {
 
 #[test]
 fn tree_set(rt: HostRuntime) -> Result<(), Fail> {
-    let rows: [Row; 5] = [
+    let rows: [Row; 7] = [
         (
             (Make::New, "NEBTreeSet::new"),
             (Change::Insert, "NEBTreeSet::insert"),
@@ -251,6 +256,14 @@ fn tree_set(rt: HostRuntime) -> Result<(), Fail> {
         ((Make::New, ""), (Change::Extend, "NEBTreeSet::extend")),
         ((Make::New, ""), (Change::Clone, "NEBTreeSet::clone")),
         ((Make::New, ""), (Change::Replace, "NEBTreeSet::replace")),
+        (
+            (Make::New, ""),
+            (Change::Add, "NonEmptySet::add of a tree set"),
+        ),
+        (
+            (Make::New, ""),
+            (Change::Put, "NonEmptySet::put of a tree set"),
+        ),
     ];
     every_call::<NEBTreeSet<Item>>(&rt, rt.alloc(), &rows, "collect into NEBTreeSet")
 }
@@ -288,7 +301,7 @@ fn hashed_map(rt: HostRuntime) -> Result<(), Fail> {
 
 #[test]
 fn hashed_set(rt: HostRuntime) -> Result<(), Fail> {
-    let rows: [Row; 6] = [
+    let rows: [Row; 8] = [
         ((Make::New, "NESet::new"), (Change::Insert, "NESet::insert")),
         (
             (Make::Singleton, "Singleton::singleton of a hashed set"),
@@ -312,6 +325,14 @@ fn hashed_set(rt: HostRuntime) -> Result<(), Fail> {
         (
             (Make::Written, "nes of one item"),
             (Change::Replace, "NESet::replace"),
+        ),
+        (
+            (Make::New, ""),
+            (Change::Add, "NonEmptySet::add of a hashed set"),
+        ),
+        (
+            (Make::New, ""),
+            (Change::Put, "NonEmptySet::put of a hashed set"),
         ),
     ];
     every_call::<NESet<Item>>(&rt, rt.alloc(), &rows, "collect into NESet")
@@ -354,7 +375,7 @@ fn index_map(rt: HostRuntime) -> Result<(), Fail> {
 
 #[test]
 fn index_set(rt: HostRuntime) -> Result<(), Fail> {
-    let rows: [Row; 6] = [
+    let rows: [Row; 8] = [
         (
             (Make::New, "NEIndexSet::new"),
             (Change::Insert, "NEIndexSet::insert"),
@@ -381,6 +402,14 @@ fn index_set(rt: HostRuntime) -> Result<(), Fail> {
         (
             (Make::Written, "neis of one item"),
             (Change::Replace, "NEIndexSet::replace"),
+        ),
+        (
+            (Make::New, ""),
+            (Change::Add, "NonEmptySet::add of an index set"),
+        ),
+        (
+            (Make::New, ""),
+            (Change::Put, "NonEmptySet::put of an index set"),
         ),
     ];
     every_call::<NEIndexSet<Item>>(&rt, rt.alloc(), &rows, "collect into NEIndexSet")
