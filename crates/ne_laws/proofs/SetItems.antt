@@ -1,7 +1,7 @@
 -- The items of a set after a change, read by equality.
 use Rattle.std.proofs.Common.{◌≡◌, ◌∙◌, ℕ, suc, ◌+◌, ◌<◌, ◌-◌, Bool, true, false, cond, not, List}
-use Rattle.std.proofs.Common.{[], ◌∷◌, ◌++◌, length, Option, None, Some, is_some, ap, refl, sym, arith}
-use Rattle.std.proofs.Common.{true≢false, inl, inr, Result, Ok, Err, IfOk, OnOk}
+use Rattle.std.proofs.Common.{[], ◌∷◌, ◌++◌, length, Option, None, Some, is_some, ap, refl, sym}
+use Rattle.std.proofs.Common.{arith, true≢false, inl, inr, Result, Ok, Err, IfOk, OnOk}
 use Rattle.std.specs.Prelude.{◌||◌, ◌⊎◌, MatchBool, MatchOption, if◌then◌else◌, position}
 use Rattle.std.specs.Prelude.{slice_index_or, swap_remove}
 use Rattle.std.specs.Bool.{OnFalse, OnTrue}

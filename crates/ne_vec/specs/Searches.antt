@@ -1,5 +1,5 @@
--- The precondition of searches, `retain` and `retain_mut` on a closure, which they call with items of
--- a list in any order. It is a record, as the automatic proof finds one where it stands as a fact.
+-- The precondition of searches, `retain` and `retain_mut` on a closure, which they call with items
+-- of a list in any order. It is a record, as the automatic proof finds one where it is known.
 use Rattle.std.specs.Prelude.{◌≡◌, List, All, Contains}
 use Rattle.std.specs.Borrow.{Bor, MutBor}
 use Rattle.std.specs.Fn.{Mut, CalledAt, CalledAtMut, Takes, TakesAt}

@@ -569,8 +569,8 @@ impl<T> NEVec<T> {
         }
     }
 
-    /// Returns the items as a `Vec`, in the same memory. It doesn't allocate. Not in the Rust crate,
-    /// which has only `Vec::from`.
+    /// Returns the items as a `Vec`, in the same memory. It doesn't allocate. The Rust crate has only
+    /// `From`, which is here too.
     ///
     /// ```
     /// let vec = nev![alloc; 4, 6, 8]?.into_vec(); // [4, 6, 8]

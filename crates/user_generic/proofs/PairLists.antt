@@ -1,8 +1,8 @@
 -- A list of pairs: the first that passes a test, one that is written, one that is added, and one
 -- that is removed.
 use Rattle.std.proofs.Common.{◌≡◌, ℕ, zero, suc, ◌+◌, ◌<◌, Bool, true, false, cond, not, List, []}
-use Rattle.std.proofs.Common.{◌∷◌, ◌++◌, length, slice_set, refl, sym, ap, subst, ◌∙◌, arith, Option}
-use Rattle.std.proofs.Common.{None, Some, is_some, true≢false, ◌⊎◌, inl, inr, ◌≤◌}
+use Rattle.std.proofs.Common.{◌∷◌, ◌++◌, length, slice_set, refl, sym, ap, subst, ◌∙◌, arith}
+use Rattle.std.proofs.Common.{Option, None, Some, is_some, true≢false, ◌⊎◌, inl, inr, ◌≤◌}
 use Rattle.std.specs.Prelude.{nat_lt, get_or, remove, slice_get, unwrap_or, MatchOption}
 use Rattle.std.specs.Cmp.{IsEquivalence}
 use Rattle.std.specs.List.{find, position, position_or_len, IsDistinct}
