@@ -1,9 +1,17 @@
-//! Items that count their owners: what leaves a vector is dropped once, and nothing else is.
+//! Items and keys that count their owners, or those alive: what a call drops is dropped once, and
+//! nothing else is.
 
-use super::{is, of};
-use nonempty_collections::{IntoNonEmptyIterator, NEVec, NonEmptyIterator, Singleton};
-use std::alloc::Global;
+use super::{bump, is, list, of};
+use ne_laws::map_calls::{MapCall, run_map};
+use ne_laws::vector_calls::{VecCall, run_vec};
+use nonempty_collections::{
+    IntoNonEmptyIterator, NEBTreeMap, NEBTreeSet, NEVec, NonEmptyIterator, NonEmptyItertools,
+    Singleton,
+};
+use std::alloc::{AllocError, Global};
+use std::cell::Cell;
 use std::convert::AsSlice;
+use std::num::NonZeroUsize;
 use std::rc::Rc;
 use std::test::Fail;
 
@@ -169,4 +177,182 @@ fn sorted_and_reversed(rt: HostRuntime) -> Result<(), Fail> {
     let held = left(&token);
     drop(sorted);
     is([held, left(&token)], [30, 0])
+}
+
+// A number that counts those alive. Comparisons ignore the count. A clone of 0 fails.
+#[derive_where(PartialEq, Eq, PartialOrd, Ord, Hash)]
+struct Living<'a> {
+    number: u32,
+    #[derive_where(skip(EqHashOrd))]
+    alive: &'a Cell<u32>,
+}
+
+impl<'a> Drop for Living<'a> {
+    fn drop(self) {
+        let Living { number: _, alive } = self;
+        alive.set(alive.get().wrapping_sub(1));
+    }
+}
+
+impl<'a> Clone for Living<'a> {
+    fn clone(&self) -> Result<Living<'a>, AllocError> {
+        if self.number == 0 {
+            return Err(AllocError);
+        }
+        Ok(born(self.number, self.alive))
+    }
+}
+
+fn born(number: u32, alive: &Cell<u32>) -> Living<'_> {
+    bump(alive);
+    Living { number, alive }
+}
+
+// 1, 2 and 1.
+fn three(alive: &Cell<u32>) -> [Living<'_>; 3] {
+    [born(1, alive), born(2, alive), born(1, alive)]
+}
+
+// Fails unless only this item is alive, and drops it.
+fn is_alone(item: Living<'_>) -> Result<(), Fail> {
+    is(item.alive.get(), 1)
+}
+
+#[test]
+fn beaten_and_passed_over(_rt: HostRuntime) -> Result<(), Fail> {
+    let alive = Cell::new(0u32);
+    let source = || three(&alive).into_nonempty_iter();
+    is_alone(source().max())?;
+    is_alone(source().min())?;
+    is_alone(source().max_by(|a, b| a.cmp(b)))?;
+    is_alone(source().min_by(|a, b| a.cmp(b)))?;
+    is_alone(source().max_by_key(|it| born(it.number, &alive)))?;
+    is_alone(source().min_by_key(|it| born(it.number, &alive)))?;
+    is_alone(source().reduce(|a, _| a))?;
+    is_alone(source().fold(born(3, &alive), |_, it| it))?;
+    is_alone(source().nth(1).ok_or("no item")?)?;
+    is_alone(source().find(|it| it.number == 2).ok_or("no item")?)?;
+    is((source().all(|it| it.number == 1), alive.get()), (false, 0))?;
+    is((source().any(|it| it.number == 2), alive.get()), (true, 0))
+}
+
+// Where the adapters of std leave items out, and where those of this library hold one.
+#[test]
+fn left_out(_rt: HostRuntime) -> Result<(), Fail> {
+    let alive = Cell::new(0u32);
+    let source = || three(&alive).into_nonempty_iter();
+    let odd = source().filter(|it| it.number % 2 == 1).count();
+    let skipped = source().skip_while(|it| it.number == 1).count();
+    let before = source().take_while(|it| it.number == 1).count();
+    let taken = source().take(of(2)?).zip(three(&alive)).count();
+    let spread = source()
+        .flat_map(|it| [born(it.number, &alive), it])
+        .count();
+    let peeked = source().peekable().chain(three(&alive)).count();
+    let scanned = source().scan(born(3, &alive), |_, it| it).count();
+    is([odd, skipped, before], [2, 2, 1])?;
+    let counts = [taken.get(), spread.get(), peeked.get(), scanned.get()];
+    is((counts, alive.get()), ([2, 6, 6, 3], 0))
+}
+
+// The key of an item that continues a run, and that of the run.
+#[test]
+fn keys_of_runs(rt: HostRuntime) -> Result<(), Fail> {
+    let alive = Cell::new(0u32);
+    let ones = [born(1, &alive), born(1, &alive), born(2, &alive)];
+    let runs: Result<NEVec<NEVec<Living>>, AllocError> = ones
+        .into_nonempty_iter()
+        .group_by(rt.alloc(), |it| born(it.number, &alive))
+        .collect(rt.alloc())?;
+    let held = alive.get();
+    drop(runs);
+    is((held, alive.get()), (3, 0))
+}
+
+// The keys that a vector's methods and `sorted_by_key` compare.
+#[test]
+fn keys(rt: HostRuntime) -> Result<(), Fail> {
+    let alive = Cell::new(0u32);
+    let sorted = [3u32, 1, 3, 2]
+        .into_nonempty_iter()
+        .sorted_by_key(rt.alloc(), |x| born(*x, &alive))?;
+    let mut items: NEVec<u32> = sorted.collect(rt.alloc())?;
+    items.sort_by_key(|x| born(*x, &alive))?;
+    items.sort_unstable_by_key(|x| born(*x, &alive));
+    let place = items.binary_search_by_key(&born(2, &alive), |x| born(*x, &alive));
+    is((place, alive.get()), (Ok(1), 0))
+}
+
+// The item that was drawn before its separator could not be cloned.
+#[test]
+fn failed_separator(_rt: HostRuntime) -> Result<(), Fail> {
+    let alive = Cell::new(0u32);
+    let mut items = three(&alive)
+        .into_nonempty_iter()
+        .intersperse(born(0, &alive))
+        .into_iter();
+    let first = items.next();
+    let drawn = alive.get();
+    let has_failed = matches!(items.next(), Some(Err(AllocError)));
+    let left = alive.get();
+    drop((first, items));
+    is((drawn, has_failed, left, alive.get()), (4, true, 3, 0))
+}
+
+#[test]
+fn repeated(rt: HostRuntime) -> Result<(), Fail> {
+    let alive = Cell::new(0u32);
+    let source = || three(&alive).into_nonempty_iter();
+    is((source().all_unique(rt.alloc())?, alive.get()), (false, 0))?;
+    let set: NEBTreeSet<Living> = source().collect(rt.alloc())?;
+    let held = alive.get();
+    drop(set);
+    let pairs = source().map(|it| (it, born(3, &alive)));
+    let parts: (NEBTreeSet<Living>, NEVec<Living>) = pairs.unzip(rt.alloc())?;
+    let parted = alive.get();
+    drop(parts);
+    is((held, parted, alive.get()), (2, 5, 0))
+}
+
+// Items and replies of a list of calls, of which one is refused and one cuts an item off.
+#[test]
+fn listed_on_a_vector(rt: HostRuntime) -> Result<(), Fail> {
+    let (alloc, alive) = (rt.alloc(), Cell::new(0u32));
+    let of = |number: u32| born(number, &alive);
+    let mut items = NEVec::new(alloc, of(1))?;
+    let calls = vec![in alloc;
+        VecCall::Push(of(2)),
+        VecCall::Insert(9, of(3)),
+        VecCall::Push(of(4)),
+        VecCall::Pop,
+        VecCall::Truncate(NonZeroUsize::MIN),
+    ]?;
+    let replies = run_vec(alloc, &mut items, calls)?;
+    let held = alive.get();
+    drop(replies);
+    let left = alive.get();
+    drop(items);
+    is([held, left, alive.get()], [2, 1, 0])
+}
+
+// Keys, values and replies of a list of calls.
+#[test]
+fn listed_on_a_map(rt: HostRuntime) -> Result<(), Fail> {
+    let (alloc, alive) = (rt.alloc(), Cell::new(0u32));
+    let of = |number: u32| born(number, &alive);
+    let mut map = NEBTreeMap::new(alloc, of(1), of(10))?;
+    let calls = vec![in alloc;
+        MapCall::Insert(of(1), of(11)),
+        MapCall::Insert(of(2), of(20)),
+        MapCall::Write(of(1), of(12)),
+        MapCall::Write(of(3), of(30)),
+        MapCall::Has(of(2)),
+        MapCall::Len,
+    ]?;
+    let replies = run_map(alloc, &mut map, calls)?;
+    let held = alive.get();
+    drop(replies);
+    let left = alive.get();
+    drop(map);
+    is([held, left, alive.get()], [6, 4, 0])
 }

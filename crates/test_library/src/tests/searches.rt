@@ -1,7 +1,8 @@
-//! Searches of a vector, beside those of its slice by std.
+//! Searches of a vector and sorts by keys, beside those of its slice by std.
 
-use super::{is, list};
+use super::{is, list, same};
 use nonempty_collections::{NEVec, nev};
+use std::cell::Cell;
 use std::convert::AsSlice;
 use std::test::Fail;
 use user_generic::vectors::{large_quotients, place, place_and_calls, place_of_quotient};
@@ -14,28 +15,33 @@ fn of_found_places(rt: HostRuntime) -> Result<(), Fail> {
     is(found.partition_point(|x| *x < 5), 7)
 }
 
-// A search of the vector, and a search of its slice by std, return the same, and pass the same
-// items to the closure.
+// Adds an item to the digits of those before it.
+fn told(digits: &Cell<u32>, item: u8) -> u8 {
+    digits.set(digits.get().wrapping_mul(31).wrapping_add(u32::from(item)));
+    item
+}
+
+// Each search of the vector, and that of its slice by std, return the same, and pass the same items
+// to the closure.
 fn searched_alike(v: &NEVec<u8>, wanted: u8) -> Result<(), Fail> {
-    let (mut ours, mut theirs) = (0u32, 0u32);
-    let place = v.binary_search_by(|x| {
-        ours = ours.wrapping_mul(31).wrapping_add(u32::from(*x));
-        x.cmp(&wanted)
-    });
-    let place_by_std = v.as_slice().binary_search_by(|x| {
-        theirs = theirs.wrapping_mul(31).wrapping_add(u32::from(*x));
-        x.cmp(&wanted)
-    });
-    is((place, ours), (place_by_std, theirs))?;
+    let (ours, theirs) = (Cell::new(0u32), Cell::new(0u32));
     is(
-        v.binary_search_by_key(&wanted, |x| x.wrapping_add(1)),
+        v.binary_search_by(|x| told(&ours, *x).cmp(&wanted)),
         v.as_slice()
-            .binary_search_by_key(&wanted, |x| x.wrapping_add(1)),
+            .binary_search_by(|x| told(&theirs, *x).cmp(&wanted)),
     )?;
+    is(ours.take(), theirs.take())?;
     is(
-        v.partition_point(|x| *x < wanted),
-        v.as_slice().partition_point(|x| *x < wanted),
-    )
+        v.binary_search_by_key(&wanted, |x| told(&ours, *x).wrapping_add(1)),
+        v.as_slice()
+            .binary_search_by_key(&wanted, |x| told(&theirs, *x).wrapping_add(1)),
+    )?;
+    is(ours.take(), theirs.take())?;
+    is(
+        v.partition_point(|x| told(&ours, *x) < wanted),
+        v.as_slice().partition_point(|x| told(&theirs, *x) < wanted),
+    )?;
+    is(ours.take(), theirs.take())
 }
 
 #[test]
@@ -59,4 +65,17 @@ fn as_by_std(rt: HostRuntime) -> Result<(), Fail> {
         }
     }
     Ok(())
+}
+
+// Sorts by keys ask for as many keys as std's, in the same order.
+#[test]
+fn sorted_as_by_std(rt: HostRuntime) -> Result<(), Fail> {
+    let unsorted = [5, 3, 8, 1, 9, 9, 2, 7, 0, 4, 6, 3, 5];
+    let (ours, theirs) = (Cell::new(0u32), Cell::new(0u32));
+    let mut items = list(rt.alloc(), &unsorted)?;
+    let mut plain = unsorted;
+    items.sort_unstable_by_key(|x| told(&ours, *x) / 2);
+    plain.sort_unstable_by_key(|x| told(&theirs, *x) / 2);
+    same(items.as_slice(), &plain)?;
+    is(ours.take(), theirs.take())
 }

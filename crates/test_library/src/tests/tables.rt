@@ -13,7 +13,8 @@ type Owner = Rc<u32>;
 
 // A map or a set. In a map the value of a key is one more owner of the key's token.
 trait Table: Clone + Drop {
-    // Inserts the key, and in a set puts it in place of the equal one.
+    // Inserts the key, and in a set puts it in place of the equal one. In an index map it also
+    // passes the key to `or_insert`, where it is there already.
     fn put(&mut self, key: Owner) -> Result<(), AllocError>;
 
     // Extends the table by the key.
@@ -95,7 +96,8 @@ impl<S: BuildHasher + Clone + Drop> Table for NEMap<Owner, Owner, S> {
 
 impl<S: BuildHasher + Clone + Drop> Table for NEIndexMap<Owner, Owner, S> {
     fn put(&mut self, key: Owner) -> Result<(), AllocError> {
-        drop(self.insert(key.clone()?, key)?);
+        drop(self.insert(key.clone()?, key.clone()?)?);
+        let _value = self.or_insert(key.clone()?, key)?;
         Ok(())
     }
 

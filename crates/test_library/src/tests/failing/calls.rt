@@ -1,11 +1,14 @@
-//! Lists of calls: if an allocation fails, the calls at the front were made.
+//! Lists of calls: if an allocation fails, the calls at the front were made, and the others are
+//! dropped.
 
+use super::owners::{Key, key, owned, token};
 use super::{holds, pair, report};
 use ne_laws::map_calls::{MapCall, run_map};
 use ne_laws::set_calls::{SetCall, run_set};
 use ne_laws::vector_calls::{VecCall, run_vec};
 use nonempty_collections::{NEBTreeMap, NEBTreeSet};
 use std::alloc::{AllocError, Global};
+use std::rc::Rc;
 use std::test::Fail;
 
 // The vector grows for its third item, and the list of the replies for its first.
@@ -28,10 +31,10 @@ fn on_a_vector(rt: HostRuntime) -> Result<(), Fail> {
 }
 
 // The numbers up to 15, each with itself, which fill a node of the map.
-fn full(alloc: Global) -> Result<NEBTreeMap<u32, u32>, AllocError> {
-    let mut map = NEBTreeMap::new(alloc, 1, 1)?;
-    for key in 2..16 {
-        map.insert(key, key)?;
+fn full(alloc: Global, token: &Rc<u32>) -> Result<NEBTreeMap<Key, Key>, AllocError> {
+    let mut map = NEBTreeMap::new(alloc, key(alloc, token, 1)?, key(alloc, token, 1)?)?;
+    for number in 2..16 {
+        map.insert(key(alloc, token, number)?, key(alloc, token, number)?)?;
     }
     Ok(map)
 }
@@ -41,17 +44,25 @@ fn full(alloc: Global) -> Result<NEBTreeMap<u32, u32>, AllocError> {
 fn on_a_map(rt: HostRuntime) -> Result<(), Fail> {
     let call = "run_map";
     let alloc = rt.alloc();
-    let calls = vec![in alloc; MapCall::Insert(16, 16), MapCall::Write(1, 5)];
-    let (Ok(mut map), Ok(calls)) = (full(alloc), calls) else {
+    let Ok(token) = token(alloc) else {
         return report(&rt, "not reached", call);
     };
-    let result = run_map(alloc, &mut map, calls);
-    let (keys, value) = (map.len().get(), map.get(&1).copied());
-    if result.is_ok() {
+    let of = |number: u32| key(alloc, &token, number);
+    let calls = vec![in alloc;
+        MapCall::Insert(of(16)?, of(16)?),
+        MapCall::Write(of(1)?, of(5)?),
+    ];
+    let (Ok(mut map), Ok(calls)) = (full(alloc, &token), calls) else {
+        return report(&rt, "not reached", call);
+    };
+    let is_made = run_map(alloc, &mut map, calls).is_ok();
+    let (keys, value) = (map.len().get(), map.get(&of(1)?).map(|it| it.0));
+    owned(call, &token, keys.wrapping_mul(2))?;
+    if is_made {
         holds(call, keys == 16 && value == Some(5))?;
         return report(&rt, "made", call);
     }
-    holds(call, keys == 15 || keys == 16 && map.contains_key(&16))?;
+    holds(call, keys == 15 || keys == 16 && map.contains_key(&of(16)?))?;
     holds(call, value == Some(1))?;
     report(&rt, "refused", call)
 }

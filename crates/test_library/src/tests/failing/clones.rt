@@ -1,5 +1,6 @@
 //! The calls that clone. A clone allocates, so a later clone can fail after an earlier one is made.
 
+use super::owners::{key, owned, token};
 use super::{holds, report};
 use nonempty_collections::{IntoNonEmptyIterator, NEEither, NEVec, NonEmptyIterator};
 use std::alloc::{AllocError, Global};
@@ -132,18 +133,22 @@ fn cloned(rt: HostRuntime) -> Result<(), Fail> {
     report(&rt, outcome, "NonEmptyIterator::cloned")
 }
 
-// Each separator is a clone. A failed one is an `Err` in its place, and the last item.
+// Each separator is a clone. A failed one is an `Err` in its place, and the last item; the item
+// that was to come after it is dropped.
 #[test]
 fn intersperse(rt: HostRuntime) -> Result<(), Fail> {
-    let three = [1u32, 2, 3]
-        .into_nonempty_iter()
-        .map(|value| fresh(rt.alloc(), value));
-    let items = three.intersperse(fresh(rt.alloc(), 5)).into_iter();
-    let digits = items.map(|item| item.map_or(9, |it| it.value)).fold(
+    let call = "NonEmptyIterator::intersperse";
+    let Ok(token) = token(rt.alloc()) else {
+        return report(&rt, "not reached", call);
+    };
+    let of = |number: u32| key(rt.alloc(), &token, number);
+    let three = [of(1)?, of(2)?, of(3)?].into_nonempty_iter();
+    let items = three.intersperse(of(5)?).into_iter();
+    let digits = items.map(|item| item.map_or(9, |it| it.0)).fold(
         0u32,
         |digits, digit| digits.wrapping_mul(10).wrapping_add(digit),
     );
-    holds("intersperse", [15253, 19, 1529].contains(&digits))?;
-    let outcome = if digits == 15253 { "made" } else { "refused" };
-    report(&rt, outcome, "NonEmptyIterator::intersperse")
+    owned(call, &token, 0)?;
+    holds(call, [15253, 19, 1529].contains(&digits))?;
+    report(&rt, if digits == 15253 { "made" } else { "refused" }, call)
 }

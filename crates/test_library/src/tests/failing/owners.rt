@@ -36,6 +36,11 @@ pub(super) fn one_more(alloc: Global, token: &Rc<u32>) -> Result<Owner, AllocErr
 
 pub(super) type Key = (u32, Owner);
 
+// The number, with one more owner of the token. It does not allocate.
+pub(super) fn key(alloc: Global, token: &Rc<u32>, number: u32) -> Result<Key, AllocError> {
+    Ok((number, one_more(alloc, token)?))
+}
+
 // Fails unless the token has `count` owners besides `token` itself.
 pub(super) fn owned(call: &str, token: &Rc<u32>, count: usize) -> Result<(), Fail> {
     if Rc::strong_count(token) - 1 == count {

@@ -8,7 +8,8 @@ use nonempty_collections::{IntoNonEmptyIterator, NonEmptyIterator, NonEmptyItert
 use std::cell::Cell;
 use std::test::Fail;
 
-// Ten items: the set of the items seen so far is made for the first, and grows for the last.
+// Ten items, and one of them again: the set of the items seen so far is made for the first, and
+// grows for the tenth.
 #[test]
 fn all_unique(rt: HostRuntime) -> Result<(), Fail> {
     let call = "NonEmptyItertools::all_unique";
@@ -16,9 +17,10 @@ fn all_unique(rt: HostRuntime) -> Result<(), Fail> {
         return report(&rt, "not reached", call);
     };
     let source = once(item(rt.alloc(), &token, 1)?).chain(Items::new(rt.alloc(), &token, 2, 9));
+    let source = source.chain([item(rt.alloc(), &token, 1)?]);
     let result = source.all_unique(rt.alloc());
     owned(call, &token, 0)?;
-    holds(call, result.unwrap_or(true))?;
+    holds(call, !result.unwrap_or(false))?;
     report(&rt, if result.is_ok() { "made" } else { "refused" }, call)
 }
 

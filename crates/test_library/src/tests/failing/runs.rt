@@ -1,5 +1,6 @@
 //! Readers of runs, whose runs are allocated when they are read.
 
+use super::owners::{key, owned, token};
 use super::{holds, is, report};
 use ne_laws::reader::take_runs;
 use nonempty_collections::{IntoNonEmptyIterator, NonEmptyIterator};
@@ -67,12 +68,16 @@ impl<'a> Drop for Weighed<'a> {
     }
 }
 
-// 5, 5, 6 and 6, each with a digit of its own in the sum of what was dropped. One run is taken; it
-// is made of its first item, and the list of the runs grows for it. The reader then holds the first
-// 6, and the other is still in the source. Whatever fails, each item is dropped once.
+// 5, 5, 6 and 6, each with a digit of its own in the sum of what was dropped, and with owners as
+// keys. One run is taken; it is made of its first item, and the list of the runs grows for it. The
+// reader then holds the first 6 with its key, and the other is still in the source. Whatever fails,
+// each item and each key is dropped once.
 #[test]
 fn taken(rt: HostRuntime) -> Result<(), Fail> {
     let call = "take_runs";
+    let Ok(token) = token(rt.alloc()) else {
+        return report(&rt, "not reached", call);
+    };
     let dropped = Cell::new(0u32);
     let of = |value: u32, weight: u32| Weighed {
         value,
@@ -80,13 +85,17 @@ fn taken(rt: HostRuntime) -> Result<(), Fail> {
         dropped: &dropped,
     };
     let items = [of(5, 1), of(5, 10), of(6, 100), of(6, 1000)].into_nonempty_iter();
-    let Ok((runs, reader)) = take_runs(rt.alloc(), items, |item| item.value, 1) else {
+    let key_of = |item: &Weighed| key(rt.alloc(), &token, item.value);
+    let Ok((runs, reader)) = take_runs(rt.alloc(), items, key_of, 1) else {
         is(call, dropped.get() as usize, 1111)?;
+        owned(call, &token, 0)?;
         return report(&rt, "refused", call);
     };
     holds(call, runs.len() == 1 && dropped.get() == 0)?;
+    owned(call, &token, 1)?;
     drop(reader);
     is(call, dropped.get() as usize, 1100)?;
+    owned(call, &token, 0)?;
     drop(runs);
     is(call, dropped.get() as usize, 1111)?;
     report(&rt, "made", call)

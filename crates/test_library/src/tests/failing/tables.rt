@@ -9,7 +9,7 @@ mod kinds;
 ghost use Rattle.std.specs.Prelude.{◌+◌};
 ghost use Rattle.std.specs.Iterator.{at_most};
 
-use super::owners::{Key, Owner, one_more, owned, token};
+use super::owners::{Key, Owner, key, one_more, owned, token};
 use super::report;
 use nonempty_collections::iter::once;
 use nonempty_collections::{FromNonEmptyIterator, NonEmptyIterator, Singleton};
@@ -22,8 +22,7 @@ pub(super) type Item = (Key, Owner);
 
 // The item of this number. It does not allocate.
 pub(super) fn item(alloc: Global, token: &Rc<u32>, number: u32) -> Result<Item, AllocError> {
-    let key = (number, one_more(alloc, token)?);
-    Ok((key, one_more(alloc, token)?))
+    Ok((key(alloc, token, number)?, one_more(alloc, token)?))
 }
 
 // Items with numbers from `next` on, `left` of them. The hint is 0 at first.
@@ -33,7 +32,7 @@ pub(super) struct Items<'a> {
     token: &'a Rc<u32>,
     next: u32,
     left: u32,
-    hint: usize,
+    pub(super) hint: usize,
 }
 
 impl<'a> Items<'a> {
@@ -177,7 +176,8 @@ fn made<C: Table>(
     Ok(Some(table))
 }
 
-// Makes the call on a table that is full. What is there already needs no memory in a tree.
+// Makes the call on a table that is full. What is there already needs no memory in a tree, nor does
+// `or_insert` of it.
 fn changed<C: Table>(
     rt: &impl Print,
     alloc: Global,
@@ -186,7 +186,8 @@ fn changed<C: Table>(
     change: (Change, &str),
 ) -> Result<(), Fail> {
     let full = C::needs().room;
-    if C::needs().none_again && table.change(change.0, item(alloc, token, 3)?).is_err() {
+    let none_again = C::needs().none_again || change.0 == Change::OrInsert;
+    if none_again && table.change(change.0, item(alloc, token, 3)?).is_err() {
         return Err(Fail::new(format_args!("{}: it is there already", change.1)));
     }
     let result = table.change(change.0, item(alloc, token, full.wrapping_add(1))?);
