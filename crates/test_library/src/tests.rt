@@ -4,6 +4,7 @@
 mod composed;
 mod draws;
 mod drops;
+mod equality;
 mod extremes;
 mod failing;
 mod generic;
