@@ -1,12 +1,12 @@
 //! The adapter chains of the crate `user_generic`.
 
 use super::{list, of, same};
-use nonempty_collections::{IntoNonEmptyIterator, NESlice, NEVec};
+use nonempty_collections::{IntoNonEmptyIterator, NEEither, NESlice, NEVec, vector};
 use std::convert::AsSlice;
 use std::num::NonZeroU32;
 use std::test::Fail;
 use user_generic::{
-    Countdown, numbered_halves, parted, run_lengths, spread_countdown, spread_pairs,
+    Countdown, mapped_side, numbered_halves, parted, run_lengths, spread_countdown, spread_pairs,
 };
 
 #[test]
@@ -49,4 +49,15 @@ fn lengths_of_runs(rt: HostRuntime) -> Result<(), Fail> {
     let slice = NESlice::try_from_slice(&items).ok_or("no item")?;
     let lengths = run_lengths(rt.alloc(), &slice, |a, b| a.abs_diff(*b) < 2)?;
     same(lengths.as_slice(), &[3, 1])
+}
+
+#[test]
+fn one_of_two_sources(rt: HostRuntime) -> Result<(), Fail> {
+    let alloc = rt.alloc();
+    let three = Countdown::new(NonZeroU32::new(3).ok_or("0 is no start")?);
+    let left: NEEither<Countdown, vector::IntoIter<u32>> = NEEither::Left(three);
+    same(mapped_side(alloc, left, |x| x / 2)?.as_slice(), &[1, 1, 0])?;
+    let two = list(alloc, &[8u32, 6])?.into_nonempty_iter();
+    let right: NEEither<Countdown, vector::IntoIter<u32>> = NEEither::Right(two);
+    same(mapped_side(alloc, right, |x| x / 2)?.as_slice(), &[4, 3])
 }
