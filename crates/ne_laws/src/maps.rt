@@ -23,7 +23,7 @@ use std::num::NonZeroUsize;
 /// let absent = map.put(2, 20)?; // None
 /// let old = map.set(&1, 11); // Some(10)
 /// let (has, size) = (map.has(&2), map.size().get()); // true and 2
-/// let (taken, only) = (map.take(&1), map.take(&2)); // Some(11), and None: the only key stays
+/// let (taken, only) = (map.take(&1), map.take(&2)); // Some(11) and None
 /// ```
 pub trait NonEmptyMap<K: Eq, V> {
     /// The keys with their values, in some order.

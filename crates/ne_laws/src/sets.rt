@@ -22,7 +22,7 @@ use std::num::NonZeroUsize;
 /// let mut set = NESet::new(alloc, 1)?;
 /// let (new, old) = (set.add(2)?, set.put(2)?); // true and Some(2)
 /// let (has, size) = (set.has(&2), set.size().get()); // true and 2
-/// let (removed, only) = (set.discard(&1), set.discard(&2)); // true, and false: the only one stays
+/// let (removed, only) = (set.discard(&1), set.discard(&2)); // true and false
 /// ```
 pub trait NonEmptySet<T: Eq> {
     /// The items, in some order.

@@ -1,5 +1,5 @@
 //! What is dropped, called, drawn, cloned, evaluated and printed, chains over a user's own sources,
-//! and calls with failing allocations.
+//! example cases, and calls with failing allocations.
 
 mod composed;
 mod draws;
@@ -15,6 +15,7 @@ mod numbers;
 mod own_sources;
 mod products;
 mod random;
+mod rows;
 mod runs;
 mod searches;
 mod separators;

@@ -1,12 +1,11 @@
 //! Which runs are taken, and how often the source is drawn from and the key is called for that; the
-//! texts of replies to lists of calls.
+//! texts of replies to lists of calls on a set and on a vector.
 
 use super::{bump, is, list, prints};
-use ne_laws::map_calls::{MapCall, run_map};
 use ne_laws::reader::take_runs;
 use ne_laws::set_calls::{SetCall, run_set};
 use ne_laws::vector_calls::{VecCall, run_vec};
-use nonempty_collections::{IntoNonEmptyIterator, NEBTreeMap, NEBTreeSet, NEVec, NonEmptyIterator};
+use nonempty_collections::{IntoNonEmptyIterator, NEBTreeSet, NEVec, NonEmptyIterator};
 use std::alloc::Global;
 use std::cell::Cell;
 use std::num::NonZeroUsize;
@@ -47,10 +46,6 @@ fn first_runs(rt: HostRuntime) -> Result<(), Fail> {
 #[test]
 fn replies(rt: HostRuntime) -> Result<(), Fail> {
     let alloc = rt.alloc();
-    let mut map = NEBTreeMap::new(alloc, 1u32, 'a')?;
-    let calls = vec![in alloc; MapCall::Insert(2, 'b'), MapCall::Has(3), MapCall::Len]?;
-    let text = "[Old(None), Has(false), Len(2)]";
-    prints(alloc, &run_map(alloc, &mut map, calls)?, text)?;
     let mut set = NEBTreeSet::new(alloc, 1u32)?;
     let calls = vec![in alloc;
         SetCall::Remove(1),
