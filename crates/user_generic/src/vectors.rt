@@ -334,7 +334,7 @@ pub fn indices_of_large(v: NEVec<usize>, table: &[u32]) -> Option<NEVec<usize>>
 }
 
 /// Replaces each item by a quotient, and keeps those above 2.
-pub fn large_quotients(v: NEVec<u32>, n: u32) -> Option<NEVec<u32>>
+pub fn quotients_above_two(v: NEVec<u32>, n: u32) -> Option<NEVec<u32>>
     requires { All (λ x. 0 < x) v }
     ensures { IfSome result (λ kept.
         kept ≡ map (λ x. n / x) (filter (λ x. ltb 2 (n / x)) v)) }
