@@ -238,20 +238,22 @@ fn beaten_and_passed_over(_rt: HostRuntime) -> Result<(), Fail> {
 
 // Where the adapters of std leave items out, and where those of this library hold one.
 #[test]
-fn left_out(_rt: HostRuntime) -> Result<(), Fail> {
+fn left_out(rt: HostRuntime) -> Result<(), Fail> {
     let alive = Cell::new(0u32);
     let source = || three(&alive).into_nonempty_iter();
     let odd = source().filter(|it| it.number % 2 == 1).count();
     let skipped = source().skip_while(|it| it.number == 1).count();
     let before = source().take_while(|it| it.number == 1).count();
     let taken = source().take(of(2)?).zip(three(&alive)).count();
-    let spread = source()
+    let spread: NEVec<Living> = source()
         .flat_map(|it| [born(it.number, &alive), it])
-        .count();
+        .collect(rt.alloc())?;
+    let six = spread.len();
+    drop(spread);
     let peeked = source().peekable().chain(three(&alive)).count();
     let scanned = source().scan(born(3, &alive), |_, it| it).count();
     is([odd, skipped, before], [2, 2, 1])?;
-    let counts = [taken.get(), spread.get(), peeked.get(), scanned.get()];
+    let counts = [taken.get(), six.get(), peeked.get(), scanned.get()];
     is((counts, alive.get()), ([2, 6, 6, 3], 0))
 }
 
