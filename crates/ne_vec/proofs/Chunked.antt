@@ -17,7 +17,7 @@ use Rattle.std.proofs.lemmas.List.{drop-drop, length-drop, length-take, length-a
 use Rattle.std.proofs.lemmas.List.{take-append-drop}
 use Rattle.ne_vec.specs.Divisions.{concat}
 use Rattle.ne_vec.specs.Chunks.{chunk, chunks}
-use Rattle.ne_vec.proofs.Lists.{nil_is_no_append, head_is, tail_is}
+use Rattle.ne_vec.specs.DivisionLaws.{nil_is_no_append, head_is, tail_is}
 
 no_items : {X : Type 0} (xs : List X) → length xs ≡ 0 → xs ≡ []
 no_items [] e = refl

@@ -11,7 +11,7 @@ use Rattle.std.specs.Iterator.{Yields}
 use Rattle.ne_vec.specs.Divisions.{Adjacent, IsRun, Breaks, IsDivision, by_previous}
 use Rattle.ne_vec.specs.SliceRuns.{Cutting, ActsAsAtPair, CallableAtPairs, CutsRun, IsFirstRun}
 use Rattle.ne_vec.specs.SliceRuns.{TakesPair}
-use Rattle.ne_vec.proofs.Divisions.{run_one, run_more}
+use Rattle.ne_vec.specs.DivisionLaws.{run_one, run_more}
 
 -- the item at place n is the last of the first n + 1 items
 take_one_more : {A : Type 0} (xs : List A) (n : ℕ) (x : A)

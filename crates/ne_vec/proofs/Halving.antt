@@ -2,16 +2,25 @@
 -- by a test, whose closures call another one.
 use Rattle.std.proofs.Common.{◌≡◌, ◌⊎◌, inl, inr, ℕ, zero, suc, ◌+◌, ◌<◌, ◌≤◌, Bool, true, false}
 use Rattle.std.proofs.Common.{List, [], ◌∷◌, length, refl, sym, ap, subst, ◌∙◌, arith}
-use Rattle.std.specs.Prelude.{cond, slice_index_or, All, Contains, Result, Ok, Err}
+use Rattle.std.proofs.Common.{⊎_elim}
+use Rattle.std.proofs.lemmas.Bool.{cases_lt}
+use Rattle.std.proofs.lemmas.List.Elements.{All-map}
+use Rattle.std.proofs.lemmas.List.Sorted.{searchable_from_sorted}
+use Rattle.std.proofs.lemmas.Option.{slice_get_cases, slice_get-map}
+use Rattle.std.specs.Prelude.{cond, slice_index_or, All, Contains, Result, Ok, Err, MatchResult}
+use Rattle.std.specs.Prelude.{map, ◌≢◌}
+use Rattle.std.specs.Option.{option_map}
+use Rattle.std.specs.Cmp.{IsTotalOrder}
 use Rattle.std.specs.Borrow.{Bor}
 use Rattle.std.specs.Fn.{Mut, Called, CalledAt, TakesAt, AlwaysReturns, ReturnsEach, ComputesKey}
 use Rattle.std.specs.List.{FoldsTo, AllWithin, HoldsAt}
 use Rattle.std.specs.List.Sorted.{IsBinarySearchResult, IsNonDecreasingBy, IsPartitionedBy}
-use Rattle.std.specs.List.Sorted.{IsPartitionPoint}
-use Rattle.std.specs.Ordering.{is_gt, ordering_index}
+use Rattle.std.specs.List.Sorted.{IsPartitionPoint, IsSearchInRange, IsSortedBy}
+use Rattle.std.specs.Ordering.{is_gt, is_lt, ordering_index}
 use Rattle.std.specs.declared.cmp.Ordering.{Ordering}
 use Rattle.std.specs.declared.cmp.Ordering.TheVariants.{Less, Equal, Greater}
-use Rattle.ne_vec.specs.Searches.{CallableAtItems}
+use Rattle.ne_vec.specs.KeyOrder.{KeysAscend}
+use Rattle.ne_vec.specs.Searches.{CallableAtItems, HasKeyAt}
 use denote.Param.Always.{always_mut, mut_next}
 
 pub all_cons : {A : Type 0} (P : A → Type 0) (x : A) (xs : List A) → P x → All P xs → All P (x ∷ xs)
@@ -191,3 +200,45 @@ partition_of meets xs r i parted found (inr e) =
     let sides = subst (IsBinarySearchResult (λ y. cond (meets y) Less Greater) xs) e found
     (λ k j d a b. not_less _ _ (parted k j d a b)) in
     (λ k d a b. met _ (sides.0 k d a b), λ k d a b. unmet _ (sides.1 k d a b))
+
+unequal : (o : Ordering) → o ≡ Equal → (o ≡ Less) ⊎ (o ≡ Greater) → ⊥
+unequal o e (inl l) = absurd cc
+unequal o e (inr l) = absurd cc
+
+module _ {A K : Type 0} {cmp : K → K → Ordering} (total : IsTotalOrder cmp) (key : A → K) (k : K)
+    (xs : List A) where
+  adjacent : KeysAscend key cmp xs → IsSortedBy (λ x y. is_lt (cmp (key x) (key y))) xs
+  unfolding KeysAscend
+  adjacent up i d a b = up i (i + 1) d (omega arith) (omega arith)
+
+  key_at : (i : ℕ) → i < length xs → HoldsAt (λ y. cmp (key y) k ≡ Equal) xs i
+      → HasKeyAt key cmp k xs i
+  key_at i inside equal =
+      elim (slice_get_cases xs i).1 [
+        | inl s ↦ (
+          s.0,
+          s.2,
+          slice_get-map key xs i ∙ ap (option_map key) s.2,
+          subst (λ y. cmp (key y) k ≡ Equal) s.3 (equal s.0),
+        )
+        | inr s ↦ absurd (omega (arith, s.0))
+      ]
+
+  -- what a search finds among items whose keys ascend
+  pub items_of : (r : Result ℕ ℕ) → IsSearchInRange r (length xs)
+      → IsBinarySearchResult (λ y. cmp (key y) k) xs r → KeysAscend key cmp xs
+      → MatchResult r (HasKeyAt key cmp k xs) (λ _. All (λ x. cmp (key x) k ≢ Equal) xs)
+  items_of (Ok i) inside equal up = key_at i inside equal
+  items_of (Err i) inside parted up =
+      let p = parted (searchable_from_sorted total key xs k (adjacent up)) in
+      λ j d lt e. unequal _ e
+      (⊎_elim (λ l. inl (p.0 j d (omega arith) l)) (λ l. inr (p.1 j d l lt)) (cases_lt j i))
+
+  -- from a search among items to one among their keys
+  pub keys_of : (r : Result ℕ ℕ) → IsSearchInRange r (length xs)
+      → IsBinarySearchResult (λ y. cmp (key y) k) xs r
+      → MatchResult r (HasKeyAt key cmp k xs)
+      (λ _. KeysAscend key cmp xs → All (λ s. cmp s k ≢ Equal) (map key xs))
+  keys_of (Ok i) inside equal = key_at i inside equal
+  keys_of (Err i) inside parted =
+      λ up. All-map (λ s. cmp s k ≢ Equal) key xs (items_of (Err i) inside parted up)

@@ -3,12 +3,8 @@ use Rattle.std.proofs.Common.{◌≡◌, ◌<◌, Bool, true, false, cond, List,
 use Rattle.std.proofs.Common.{refl, ap, subst, ◌∙◌, arith}
 use Rattle.std.specs.List.{filter, dedup, dedup_from}
 use Rattle.std.specs.List.Retain.{RetainsInTurn, DedupsFrom, IsDeduped}
-use Rattle.std.specs.Fn.{CalledAtMut, ComparesKeys}
-use Rattle.std.specs.Borrow.{MutBor}
-use Rattle.ne_vec.specs.Divisions.{by_first, heads, runs_from}
-use Rattle.ne_vec.specs.Kept.{KeepsFirsts, ActsAsAtMut}
-use Rattle.ne_vec.proofs.Divisions.{divides}
-use denote.Param.Members.{Mut}
+use Rattle.ne_vec.specs.Divisions.{by_first, heads, runs_from, runs_of}
+use Rattle.ne_vec.specs.Kept.{KeepsFirsts}
 
 -- ---- `retain_mut`, by a test that is a function of the item
 
@@ -59,13 +55,11 @@ module _ {A : Type 0} (same : A → A → Bool) where
       ]
 
   -- the items that `dedup` keeps are the first items of the runs
-  pub keeps_firsts : (xs ys : List A) → ys ≡ dedup same xs → KeepsFirsts same xs ys
-  keeps_firsts [] ys e = ([], divides goes_on [], e)
-  keeps_firsts (x ∷ xs) ys e = (
-    runs_from goes_on (x ∷ []) xs,
-    divides goes_on (x ∷ xs),
-    e ∙ firsts_from xs x [],
-  )
+  pub keeps_firsts : (xs ys : List A) → ys ≡ dedup same xs
+      → KeepsFirsts (λ kept later. same later kept) xs ys
+  unfolding runs_of
+  keeps_firsts [] ys e = e
+  keeps_firsts (x ∷ xs) ys e = e ∙ firsts_from xs x []
 
   kept_from : (xs : List A) (k : A) → 0 < length (dedup_from same k xs)
   kept_from [] k = Prim.omega arith
@@ -76,18 +70,3 @@ module _ {A : Type 0} (same : A → A → Bool) where
   pub some_kept : (xs ys : List A) → ys ≡ dedup same xs → 0 < length xs → 0 < length ys
   some_kept [] ys e some = absurd (Prim.omega (arith, some))
   some_kept (x ∷ xs) ys e some = rw e (kept_from xs x)
-
--- a comparison by keys, if the key is a function of the item
-pub compares : {F X K : Type 0} (g : Mut F (MutBor X × Unit {0}) (K × (MutBor X × Unit {0})))
-    (eq : K → K → Bool) (read : X → K) (f : F) → ActsAsAtMut g f read (λ x. x)
-    → (x y : X) (b : Bool) (f' : F) (x' y' : X) → ComparesKeys g eq f x y b f' x' y'
-    → (b ≡ eq (read x) (read y)) × (f' ≡ f) × (x' ≡ x) × (y' ≡ y)
-compares g eq read f pure x y b f' x' y' c =
-    let first = pure x c.key c.between x' c.first in
-    let second = pure y c.other f' y' (subst (λ s. CalledAtMut g s y c.other f' y') first.0
-    c.second) in (
-      c.compared ∙ ap (λ k. eq k c.other) first.1 ∙ ap (eq (read x)) second.1,
-      second.0,
-      first.2,
-      second.2,
-    )

@@ -1,5 +1,3 @@
-pub mod Lists
-pub mod Divisions
 pub mod Relations
 pub mod Halving
 pub mod Sifts
@@ -7,6 +5,5 @@ pub mod Kept
 pub mod SortedKeys
 pub mod Chunked
 pub mod Compared
-pub mod MappedRuns
 pub mod FirstRuns
 pub mod PartLists

@@ -8,8 +8,8 @@ use Rattle.ne_vec.specs.Chunks.{ChunksGive}
 use Rattle.ne_vec.specs.Divisions.{runs_of}
 use Rattle.ne_vec.specs.Lists.{IsPrefix, Lists}
 use Rattle.ne_vec.specs.ListLaws.{first_prefix, lists_of, triggered}
-use Rattle.ne_vec.specs.SliceRuns.{Cutting, ActsAsAtPair, CutsRun, RunsGive}
-use Rattle.ne_vec.proofs.Divisions.{divide, divides, divide_only}
+use Rattle.ne_vec.specs.SliceRuns.{Cutting, ActsAsAtPair, BecomesCutter, CutsRun, RunsGive}
+use Rattle.ne_vec.specs.DivisionLaws.{divide, divides, divide_only}
 use Rattle.ne_vec.proofs.FirstRuns.{runs_before}
 
 module _ {X : Type 0} (c parts : List (List X)) (same : c ≡ parts) where
@@ -25,6 +25,7 @@ module _ {A F : Type 0} (calls : Shared F (Bor A × (Bor A × Unit {0})) Bool)
     (place : (A → A → Bool) → List A → A → Bool) where
   is_divide : (same : A → A → Bool) (xs : List A)
       → divide (place same) xs ≡ runs_of place same xs
+  unfolding runs_of
   is_divide same [] = refl
   is_divide same (x ∷ xs) = refl
 
@@ -40,12 +41,11 @@ module _ {A F : Type 0} (calls : Shared F (Bor A × (Bor A × Unit {0})) Bool)
       ∙ ap (λ l. rs ++ l) (is_divide same t.left)
 
   pub run_lists : (s : Cutting A F) (same : A → A → Bool) → ActsAsAtPair calls s.closure same
-      → Lists (λ (s it : Cutting A F). (0 < length s.left) × (it ≡ s)) (CutsRun calls place)
-      (λ x. x)
-      s (runs_of place same s.left)
+      → Lists BecomesCutter (CutsRun calls place) (λ x. x) s (runs_of place same s.left)
+  unfolding runs_of
   run_lists s same acts = lists_of _ _ s (runs_of place same s.left) (λ it made whole ys given.
       let t = given.0 in
-      let yields = subst (λ q. Yields (CutsRun calls place) q ys t) made.1 given.1 in (
+      let yields = subst (λ q. Yields (CutsRun calls place) q ys t) made.2 given.1 in (
         runs_of place same t.left,
         runs_came same s t ys acts yields,
         λ w. ap (runs_of place same) (given.2 w).1.1.0,
@@ -53,12 +53,12 @@ module _ {A F : Type 0} (calls : Shared F (Bor A × (Bor A × Unit {0})) Bool)
 
   pub runs_give : (f : F) (s : Cutting A F) (xs : List A) → s.closure ≡ f → s.left ≡ xs
       → RunsGive calls place f s xs
-  runs_give f s xs same_closure same_items same acts = (
+  runs_give f s xs same_closure same_items same ys is_xs acts = (
     refl,
     (
-      triggered s (runs_of place same xs),
-      subst (λ l. Lists (λ (s it : Cutting A F). (0 < length s.left) × (it ≡ s))
-          (CutsRun calls place) (λ x. x) s (runs_of place same l)) same_items
+      triggered s (runs_of place same ys),
+      subst (λ l. Lists BecomesCutter (CutsRun calls place) (λ x. x) s (runs_of place same l))
+          (same_items ∙ sym is_xs)
           (run_lists s same (subst (λ g. ActsAsAtPair calls g same) (sym same_closure) acts)),
     ),
   )

@@ -2,8 +2,8 @@
 use Rattle.std.proofs.Common.{◌≡◌, Bool, true, false, cond, List, [], ◌∷◌, ◌++◌, refl, sym, ap}
 use Rattle.std.proofs.Common.{subst, ◌∙◌, ◌⊎◌, inl, inr}
 use Rattle.std.specs.Cmp.{IsPartialEquivalence, per_alike}
-use Rattle.ne_vec.specs.Divisions.{IsDivision, by_first, by_previous, runs_from}
-use Rattle.ne_vec.proofs.Divisions.{divide, divides, divide_only}
+use Rattle.ne_vec.specs.Divisions.{IsDivision, by_first, by_previous, runs_from, runs_of}
+use Rattle.ne_vec.specs.DivisionLaws.{divide, divides, divide_only}
 
 module _ {A : Type 0} (on off : List A → A → Bool) (alike : (r : List A) (x : A) → on r x ≡ off r x)
   where
@@ -31,14 +31,22 @@ module _ {A : Type 0} (on off : List A → A → Bool) (alike : (r : List A) (x 
         (sym (divide_only on xs rs d ∙ divide_alike xs)) (divides off xs)
 
 module _ {A : Type 0} (same : A → A → Bool) where
-  pub division_converse : ((x y : A) → same x y ≡ same y x) → (xs : List A) (rs : List (List A))
-      → IsDivision (by_first same) xs rs → IsDivision (by_first (λ x y. same y x)) xs rs
-  division_converse symm xs rs d = division_alike (by_first same) (by_first (λ x y. same y x))
-      (λ r x. first_converse r x) xs rs d
-    where
-      first_converse : (r : List A) (x : A) → by_first same r x ≡ by_first (λ x y. same y x) r x
-      first_converse [] x = refl
-      first_converse (f ∷ r) x = symm f x
+  module _ (symm : (x y : A) → same x y ≡ same y x) where
+    first_converse : (r : List A) (x : A) → by_first same r x ≡ by_first (λ x y. same y x) r x
+    first_converse [] x = refl
+    first_converse (f ∷ r) x = symm f x
+
+    pub division_converse : (xs : List A) (rs : List (List A)) → IsDivision (by_first same) xs rs
+        → IsDivision (by_first (λ x y. same y x)) xs rs
+    division_converse xs rs d = division_alike (by_first same) (by_first (λ x y. same y x))
+        first_converse xs rs d
+
+    pub runs_converse : (xs : List A)
+        → runs_of by_first (λ x y. same y x) xs ≡ runs_of by_first same xs
+    unfolding runs_of
+    runs_converse [] = refl
+    runs_converse (x ∷ xs) = sym (cut_alike (by_first same) (by_first (λ x y. same y x))
+        first_converse (x ∷ []) xs)
 
   -- ---- the first item and the previous one
 

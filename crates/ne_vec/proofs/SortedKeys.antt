@@ -57,7 +57,7 @@ module _ {A K : Type 0} {cmp : K → K → Ordering} (total : IsTotalOrder cmp) 
         ∙ sym (filter_agree test _ (ties_at k x at) xs))
 
 module _ {A K F : Type 0} (calls : Mut F (Bor A × Unit {0}) K) (f : F) where
-  computes : (h : A → K) → ActsAsAt calls f h → ComputesKey calls h f
+  pub computes : (h : A → K) → ActsAsAt calls f h → ComputesKey calls h f
   computes h acts = always_returns_same calls (λ a r. r ≡ h a.0.now) f (λ a r g called.
       let m = acts a.0.now r g (record { shown = a.0; shows = refl; called = called }) in
       (m.1, m.0))

@@ -56,7 +56,8 @@ module _ {A : Type 0} (goes_on : List A → A → Bool) where
       cond (goes_on r x) (runs_from (r ++ x ∷ []) xs) (r ∷ runs_from (x ∷ []) xs)
 
 module _ {A : Type 0} (place : (A → A → Bool) → List A → A → Bool) (same : A → A → Bool) where
-  -- the one division of xs into runs by the test `same`; `place` is `by_first` or `by_previous`
-  abbrev pub runs_of : List A → List (List A)
+  -- `place` is `by_first` or `by_previous`. `grind` does not unfold `runs_of`.
+  -- The runs of xs by the test `same`: the one division of xs.
+  unfoldable pub runs_of : List A → List (List A)
   runs_of [] = []
   runs_of (x ∷ xs) = runs_from (place same) (x ∷ []) xs

@@ -1,9 +1,9 @@
 -- The items that `retain`, `dedup_by` and their variants keep, and when their closures are pure.
 use Rattle.std.specs.Prelude.{◌≡◌, Bool, Result, Ok, Err, List}
 use Rattle.std.specs.Borrow.{MutBor}
-use Rattle.std.specs.Fn.{CalledAtMut, CalledAtPairMut}
+use Rattle.std.specs.Fn.{CalledAtMut, CalledAtPairMut, ComparesKeys}
 use Rattle.std.specs.Global.{Vec}
-use Rattle.ne_vec.specs.Divisions.{by_first, IsDivision, heads}
+use Rattle.ne_vec.specs.Divisions.{by_first, heads, runs_of}
 use denote.Param.Members.{Mut}
 
 -- the items that are returned, in a non-empty vector or in the empty one
@@ -23,7 +23,14 @@ abbrev pub ActsAsAtPairMut : {F X : Type 0} → Mut F (MutBor X × (MutBor X × 
 ActsAsAtPairMut {F} {X} g f h = (x y : X) (r : Bool) (f' : F) (x' y' : X)
     → CalledAtPairMut g f x y r f' x' y' → (f' ≡ f) × (r ≡ h x y) × (x' ≡ x) × (y' ≡ y)
 
--- ys are the first items of the runs of xs; an item continues a run if `same item first` is true
+-- each call of f for the key of y, and then for that of x, finds keys that are `eq` exactly if
+-- `same x y` is true, and leaves x, y and f unchanged
+abbrev pub ComparesKeysAs : {F X K : Type 0}
+    → Mut F (MutBor X × Unit {0}) (K × (MutBor X × Unit {0})) → (K → K → Bool) → F
+    → (X → X → Bool) → Type 0
+ComparesKeysAs {F} {X} g eq f same = (x y : X) (r : Bool) (f' : F) (y' x' : X)
+    → ComparesKeys g eq f y x r f' y' x' → (f' ≡ f) × (r ≡ same x y) × (y' ≡ y) × (x' ≡ x)
+
+-- ys are the first items of the runs of xs; an item continues a run if `same first item` is true
 abbrev pub KeepsFirsts : {X : Type 0} → (X → X → Bool) → List X → List X → Type 0
-KeepsFirsts {X} same xs ys = (rs : List (List X))
-    × IsDivision (by_first (λ kept later. same later kept)) xs rs × (ys ≡ heads rs)
+KeepsFirsts same xs ys = ys ≡ heads (runs_of by_first same xs)

@@ -1,4 +1,5 @@
 pub mod Divisions
+pub mod DivisionLaws
 pub mod SliceRuns
 pub mod Kept
 pub mod KeyOrder

@@ -1,9 +1,12 @@
 -- The precondition of searches, `retain` and `retain_mut` on a closure, which they call with items
--- of a list in any order. It is a record, as the automatic proof finds one where it is known.
-use Rattle.std.specs.Prelude.{◌≡◌, List, All, Contains}
+-- of a list in any order, and what a search by a key finds. The precondition is a record, as the
+-- automatic proof finds one where it is known.
+use Rattle.std.specs.Prelude.{◌≡◌, ℕ, List, All, Contains, Some, slice_get, map}
 use Rattle.std.specs.Borrow.{Bor, MutBor}
 use Rattle.std.specs.Fn.{Mut, CalledAt, CalledAtMut, Takes, TakesAt}
 use Rattle.std.specs.List.{FoldsTo}
+use Rattle.std.specs.declared.cmp.Ordering.{Ordering}
+use Rattle.std.specs.declared.cmp.Ordering.TheVariants.{Equal}
 
 -- f may be called with each item of xs, also after any calls with items of xs
 pub record CallableAtItems {F A R : Type 0} (calls : Mut F (Bor A × Unit {0}) R) (f : F)
@@ -23,3 +26,8 @@ pub record CallableAtItemsMut {F A R : Type 0}
   pub at : (shown : List A) (g : F) → All (Contains xs) shown
       → FoldsTo (λ p x q. (r : R) × (y : A) × CalledAtMut calls p x r q y) f shown g
       → All (TakesAtMut calls g) xs
+
+-- there is an item at the index i, whose key equals k by cmp
+abbrev pub HasKeyAt : {A K : Type 0} → (A → K) → (K → K → Ordering) → K → List A → ℕ → Type 0
+HasKeyAt {A} key cmp k xs i = (x : A) × (slice_get xs i ≡ Some x)
+    × (slice_get (map key xs) i ≡ Some (key x)) × (cmp (key x) k ≡ Equal)

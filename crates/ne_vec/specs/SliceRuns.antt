@@ -1,8 +1,8 @@
 -- The runs of a slice, in order, for a closure that compares two items. `place` is `by_first` or
 -- `by_previous`: it makes of a test of two items the test of whether an item continues a run. What
 -- `next` takes is a run if the closure acts as a test, and is not empty with any other closure.
-use Rattle.std.specs.Prelude.{◌≡◌, ◌≢◌, ℕ, ◌<◌, length, Bool, List, [], ◌++◌, take, drop, Option}
-use Rattle.std.specs.Prelude.{MatchOption, All}
+use Rattle.std.specs.Prelude.{◌≡◌, ◌≢◌, ℕ, ◌^◌, ◌<◌, length, Bool, List, [], ◌++◌, take, drop}
+use Rattle.std.specs.Prelude.{Option, MatchOption, All}
 use Rattle.std.specs.Borrow.{Bor}
 use Rattle.std.specs.Fn.{Shared, FnReturnsAtPair}
 use Rattle.ne_vec.specs.Divisions.{IsRun, Breaks, runs_of}
@@ -16,6 +16,11 @@ IsFirstRun goes_on xs n = IsRun goes_on (take n xs) × Breaks goes_on (take n xs
 pub record Cutting (A F : Type 0) : Type 0 where
   pub left : List A
   pub closure : F
+
+-- The source s of runs becomes the iterator `it`. The number of its items fits in a `usize`, and so
+-- does the number of runs.
+abbrev pub BecomesCutter : {A F : Type 0} → Cutting A F → Cutting A F → Type 0
+BecomesCutter s it = (0 < length s.left) × (length s.left < 2 ^ 64) × (it ≡ s)
 
 module _ {A F : Type 0} (calls : Shared F (Bor A × (Bor A × Unit {0})) Bool) where
   -- each call of f with references to x and y returns same x y
@@ -39,9 +44,9 @@ module _ {A F : Type 0} (calls : Shared F (Bor A × (Bor A × Unit {0})) Bool) w
       × ((same : A → A → Bool) → ActsAsAtPair s.closure same
       → IsRun (place same) run × Breaks (place same) run t.left))
 
+  -- The list is a variable, ys, so that `grind` finds the fact at the runs that a goal names.
   -- The source s of runs yields the runs of xs, if its closure f acts as a test of two items.
   abbrev pub RunsGive : ((A → A → Bool) → List A → A → Bool)
       → F → Cutting A F → List A → Type 0
-  RunsGive place f s xs = (same : A → A → Bool) → ActsAsAtPair f same
-      → Naming (runs_of place same xs)
-      (Listed (λ s it. (0 < length s.left) × (it ≡ s)) (CutsRun place) (λ x. x) s)
+  RunsGive place f s xs = (same : A → A → Bool) (ys : List A) → ys ≡ xs → ActsAsAtPair f same
+      → Naming (runs_of place same ys) (Listed BecomesCutter (CutsRun place) (λ x. x) s)

@@ -10,7 +10,7 @@ ghost use Rattle.std.specs.declared.cmp.Ordering.TheVariants.{Less, Equal, Great
 ghost use Rattle.std.specs.Iterator.{Yields};
 ghost use Rattle.ne_vec.specs.declared.Error.{Error};
 ghost use Rattle.ne_vec.specs.Divisions.{IsDivision, by_first, by_previous, concat, heads, runs_of};
-ghost use Rattle.ne_vec.specs.Kept.{KeepsFirsts};
+ghost use Rattle.ne_vec.specs.Kept.{ActsAsAtMut, ComparesKeysAs, KeepsFirsts};
 ghost use Rattle.ne_vec.specs.Searches.{CallableAtItems, CallableAtItemsMut};
 ghost use Rattle.ne_vec.specs.Chunks.{chunks};
 ghost use Rattle.ne_vec.specs.SliceRuns.{Cutting, ActsAsAtPair, CutsRun};
@@ -71,14 +71,13 @@ pub fn converse_has_the_same_division<T>()
 /// If the key is a function of the item alone and doesn't change the item, [`NEVec::dedup_by_key`]
 /// keeps the first item of each run of equal keys. These are the runs of `group_by` with the same
 /// key.
-pub fn dedup_by_key_keeps_the_first_items<T, K: PartialEq>()
-    ensures { (read : T → K) (xs ys : List T) (runs : List (List T))
-        → KeepsFirsts (λ later kept. K.eq (read later) (read kept)) xs ys
-        → IsDivision (by_first (λ x y. K.eq (read x) (read y))) xs runs
-        → ys ≡ heads runs }
+pub fn dedup_by_key_keeps_the_first_items<T, K: PartialEq, F: FnMut(&mut T) -> K>()
+    ensures compares { (f : F) (read : T → K) → ActsAsAtMut F.FnMut f read (λ x. x)
+        → ComparesKeysAs F.FnMut K.eq f (λ x y. K.eq (read x) (read y)) }
+    ensures firsts { (same : T → T → Bool) (xs ys : List T) (runs : List (List T))
+        → KeepsFirsts same xs ys → IsDivision (by_first same) xs runs → ys ≡ heads runs }
 {
-    has_one_division::<T>();
-    converse_has_the_same_division::<T>();
+    computed_runs_are_the_division::<T>();
 }
 
 /// The runs of a mapped list are the mapped runs, if a mapped item continues a mapped run exactly

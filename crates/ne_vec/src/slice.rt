@@ -25,7 +25,8 @@ use std::{fmt, slice};
 
 /// A borrowed slice that holds at least one item.
 ///
-/// In contracts its value is the list of its items. None of its methods allocates.
+/// In contracts its value is the list of its items. None of its methods allocates. References and
+/// parts that they return, but those of `as_slice` and of indexing, may outlive the `NESlice`.
 ///
 /// ```
 /// let items = nev![alloc; 4, 6, 8]?;
@@ -59,7 +60,7 @@ impl<'a, T> NESlice<'a, T> {
     /// let items = nev![alloc; 4, 6, 8]?;
     /// let first = *items.as_nonempty_slice().first(); // 4
     /// ```
-    pub fn first(&self) -> &T
+    pub fn first(&self) -> &'a T
         ensures { slice_get self.now 0 ≡ Some result.now }
     {
         &self.inner[0]
@@ -71,7 +72,7 @@ impl<'a, T> NESlice<'a, T> {
     /// let items = nev![alloc; 4, 6, 8]?;
     /// let last = *items.as_nonempty_slice().last(); // 8
     /// ```
-    pub fn last(&self) -> &T
+    pub fn last(&self) -> &'a T
         ensures { slice_get self.now (length self.now - 1) ≡ Some result.now }
     {
         &self.inner[self.inner.len() - 1]
@@ -131,7 +132,7 @@ impl<'a, T> NESlice<'a, T> {
     /// let slice = items.as_nonempty_slice();
     /// let halves: Vec<u32> = slice.iter().map(|x| *x / 2).collect(alloc)?; // [2, 3]
     /// ```
-    pub fn iter(&self) -> slice::Iter<'_, T>
+    pub fn iter(&self) -> slice::Iter<'a, T>
         ensures { IteratesOver self.now result }
     {
         self.inner.iter()
@@ -144,7 +145,7 @@ impl<'a, T> NESlice<'a, T> {
     /// let slice = items.as_nonempty_slice();
     /// let same: Vec<u32> = slice.nonempty_iter().copied().collect(alloc)?; // the same items
     /// ```
-    pub fn nonempty_iter(&self) -> Iter<'_, T>
+    pub fn nonempty_iter(&self) -> Iter<'a, T>
         ensures items { result ≡ self.now }
         ensures lists { ListsItems result self.now }
     {
@@ -159,7 +160,7 @@ impl<'a, T> NESlice<'a, T> {
     /// let (slice, size) = (items.as_nonempty_slice(), NonZeroUsize::new(2).unwrap());
     /// let chunks = slice.nonempty_chunks(size); // [3, 1] and [4]
     /// ```
-    pub fn nonempty_chunks(&'a self, chunk_size: NonZeroUsize) -> NEChunks<'a, T>
+    pub fn nonempty_chunks(&self, chunk_size: NonZeroUsize) -> NEChunks<'a, T>
         ensures items { result ≡ chunks (non_zero_usize_get chunk_size) self.now }
         ensures lists { ChunksGive result (chunks (non_zero_usize_get chunk_size) self.now) }
     {
@@ -184,7 +185,7 @@ impl<'a, T> NESlice<'a, T> {
     /// let slice = items.as_nonempty_slice();
     /// let runs = slice.runs_by(|a, b| a.abs_diff(*b) < 2); // [1, 2] and [3]
     /// ```
-    pub fn runs_by<F: Fn(&T, &T) -> bool>(&'a self, same: F) -> SliceRuns<'a, T, F>
+    pub fn runs_by<F: Fn(&T, &T) -> bool>(&self, same: F) -> SliceRuns<'a, T, F>
         ensures holds { result ≡ record { left = self.now; closure = same } }
         ensures ends { CallableAtPairs F.Fn same self.now
             → IsFiniteIterable (⟦<SliceRuns<'a, T, F> as IntoIterator>⟧.into_iter_gives)
@@ -214,7 +215,7 @@ impl<'a, T> NESlice<'a, T> {
     /// let slice = items.as_nonempty_slice();
     /// let runs = slice.adjacent_runs(|a, b| a.abs_diff(*b) < 2); // [1, 2, 3]
     /// ```
-    pub fn adjacent_runs<F: Fn(&T, &T) -> bool>(&'a self, same: F) -> AdjacentRuns<'a, T, F>
+    pub fn adjacent_runs<F: Fn(&T, &T) -> bool>(&self, same: F) -> AdjacentRuns<'a, T, F>
         ensures holds { result ≡ record { left = self.now; closure = same } }
         ensures ends { CallableAtPairs F.Fn same self.now
             → IsFiniteIterable (⟦<AdjacentRuns<'a, T, F> as IntoIterator>⟧.into_iter_gives)

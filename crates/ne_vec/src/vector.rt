@@ -26,7 +26,7 @@ mod search;
 mod sort;
 mod traits;
 
-use crate::slice::{NEChunks, NESlice};
+use crate::slice::{AdjacentRuns, AdjacentRunsIter, NEChunks, NESlice, SliceRuns, SliceRunsIter};
 pub use iter::{IntoIter, Iter, IterMut};
 use std::alloc::{AllocError, Global};
 use std::marker::Model;
@@ -65,6 +65,8 @@ impl<T> NEVec<T> {
     ghost use Rattle.ne_vec.specs.VectorLends.{std_iterator};
     ghost use Rattle.ne_vec.specs.Iterators.{IteratesOver, IteratesOverMut, ListsItems};
     ghost use Rattle.ne_vec.specs.Chunks.{chunks, ChunksGive};
+    ghost use Rattle.ne_vec.specs.Divisions.{by_first, by_previous};
+    ghost use Rattle.ne_vec.specs.SliceRuns.{CallableAtPairs, RunsGive};
     ghost use Rattle.ne_vec.specs.Taken.{TakesUnlessLast};
 
     /// Returns a vector of one item, `head`.
@@ -569,8 +571,8 @@ impl<T> NEVec<T> {
         }
     }
 
-    /// Returns the items as a `Vec`, in the same memory. It doesn't allocate. The Rust crate has only
-    /// `From`, which is here too.
+    /// Returns the items as a `Vec`, in the same memory. It doesn't allocate. The Rust crate has
+    /// only `From`, which is here too.
     ///
     /// ```
     /// let vec = nev![alloc; 4, 6, 8]?.into_vec(); // [4, 6, 8]
@@ -724,5 +726,45 @@ impl<T> NEVec<T> {
         NEChunks {
             inner: self.inner.as_slice().chunks(chunk_size.get()),
         }
+    }
+
+    /// Returns the runs of the items, in order. An item continues the run if
+    /// `same(first item of the run, item)` returns `true`; otherwise it begins the next run. They
+    /// are those of [`NESlice::runs_by`], parts of the vector, so nothing is copied. The Rust crate
+    /// has no such method.
+    ///
+    /// ```
+    /// let items = nev![alloc; 1u32, 2, 3]?;
+    /// let runs = items.runs_by(|a, b| a.abs_diff(*b) < 2); // [1, 2] and [3]
+    /// ```
+    pub fn runs_by<'a, F: Fn(&T, &T) -> bool>(&'a self, same: F) -> SliceRuns<'a, T, F>
+        ensures holds { result ≡ record { left = self.now; closure = same } }
+        ensures ends { CallableAtPairs F.Fn same self.now
+            → IsFiniteIterable (⟦<SliceRuns<'a, T, F> as IntoIterator>⟧.into_iter_gives)
+            (⟦<SliceRunsIter<'a, T, F> as Iterator>⟧.can_next)
+            (⟦<SliceRunsIter<'a, T, F> as Iterator>⟧.remaining) result }
+        ensures lists { RunsGive F.Fn by_first same result self.now }
+    {
+        self.as_nonempty_slice().runs_by(same)
+    }
+
+    /// Returns the runs of the items, in order. An item continues the run if
+    /// `same(item before it, item)` returns `true`; otherwise it begins the next run. They are
+    /// those of [`NESlice::adjacent_runs`], parts of the vector, so nothing is copied. The Rust
+    /// crate has no such method.
+    ///
+    /// ```
+    /// let items = nev![alloc; 1u32, 2, 3]?;
+    /// let runs = items.adjacent_runs(|a, b| a.abs_diff(*b) < 2); // [1, 2, 3]
+    /// ```
+    pub fn adjacent_runs<'a, F: Fn(&T, &T) -> bool>(&'a self, same: F) -> AdjacentRuns<'a, T, F>
+        ensures holds { result ≡ record { left = self.now; closure = same } }
+        ensures ends { CallableAtPairs F.Fn same self.now
+            → IsFiniteIterable (⟦<AdjacentRuns<'a, T, F> as IntoIterator>⟧.into_iter_gives)
+            (⟦<AdjacentRunsIter<'a, T, F> as Iterator>⟧.can_next)
+            (⟦<AdjacentRunsIter<'a, T, F> as Iterator>⟧.remaining) result }
+        ensures lists { RunsGive F.Fn by_previous same result self.now }
+    {
+        self.as_nonempty_slice().adjacent_runs(same)
     }
 }

@@ -2,7 +2,8 @@
 ghost use Rattle.std.specs.Prelude.{◌≡◌, ◌<◌, ◌≤◌, Bool, List, Some, length, slice_get};
 ghost use Rattle.std.specs.Iterator.{item_count};
 ghost use Rattle.ne_vec.specs.Divisions.{by_first, by_previous};
-ghost use Rattle.ne_vec.specs.SliceRuns.{ActsAsAtPair, CallableAtPairs, CutsRun, IsFirstRun};
+ghost use Rattle.ne_vec.specs.SliceRuns.{ActsAsAtPair, BecomesCutter, CallableAtPairs, CutsRun};
+ghost use Rattle.ne_vec.specs.SliceRuns.{IsFirstRun};
 
 use super::NESlice;
 use std::marker::{Model, PhantomData};
@@ -85,7 +86,7 @@ impl<'a, T, F: Fn(&T, &T) -> bool, C: Comparison<T>> IntoIterator for Runs<'a, T
 
     type IntoIter = RunsIter<'a, T, F, C>;
 
-    ghost into_iter_gives = { λ s it. (0 < length s.left) × (it ≡ s) };
+    ghost into_iter_gives = { BecomesCutter };
 
     fn into_iter(self) -> RunsIter<'a, T, F, C> {
         RunsIter {

@@ -6,7 +6,7 @@ ghost use Rattle.std.specs.Fn.{CalledAtPairMut, ComparesKeys};
 use super::NEVec;
 
 impl<T: Drop> NEVec<T> {
-    ghost use Rattle.ne_vec.specs.Kept.{ActsAsAtMut, ActsAsAtPairMut, KeepsFirsts};
+    ghost use Rattle.ne_vec.specs.Kept.{ActsAsAtPairMut, ComparesKeysAs, KeepsFirsts};
 
     /// Drops each item whose key equals the key of the last item kept. So of each run of items
     /// whose keys equal the key of the run's first item, the first item stays.
@@ -23,8 +23,8 @@ impl<T: Drop> NEVec<T> {
     pub fn dedup_by_key<K: PartialEq + Drop, F: FnMut(&mut T) -> K>(&mut self, key: F)
         requires { F.IsAlwaysCallable key }
         ensures stays { 0 < length self.new }
-        ensures firsts { (read : T → K) → ActsAsAtMut F.FnMut key read (λ x. x)
-            → KeepsFirsts (λ later kept. K.eq (read later) (read kept)) self.old self.new }
+        ensures firsts { (same : T → T → Bool) → ComparesKeysAs F.FnMut K.eq key same
+            → KeepsFirsts same self.old self.new }
         ensures called { IsDeduped (ComparesKeys F.FnMut K.eq) key self.old self.new }
     {
         self.inner.dedup_by_key(key);
@@ -45,7 +45,8 @@ impl<T: Drop> NEVec<T> {
     pub fn dedup_by<F: FnMut(&mut T, &mut T) -> bool>(&mut self, same_bucket: F)
         requires { F.IsAlwaysCallable same_bucket }
         ensures stays { 0 < length self.new }
-        ensures firsts { (same : T → T → Bool) → ActsAsAtPairMut F.FnMut same_bucket same
+        ensures firsts { (same : T → T → Bool)
+            → ActsAsAtPairMut F.FnMut same_bucket (λ later kept. same kept later)
             → KeepsFirsts same self.old self.new }
         ensures called { IsDeduped (CalledAtPairMut F.FnMut) same_bucket self.old self.new }
     {

@@ -3,13 +3,17 @@
 //! They call the closure with the same items as std's searches do, in the same order, and return
 //! the same results. Their loop is written out here because std's searches need a closure that can
 //! be called with any value, while these need only one that can be called with the vector's items.
-ghost use Rattle.std.specs.Prelude.{◌≡◌, ◌<◌, ◌≤◌, Bool, true, false, cond, length};
+ghost use Rattle.std.specs.Prelude.{◌≡◌, ◌≢◌, ◌<◌, ◌≤◌, Bool, true, false, cond, length, map};
+ghost use Rattle.std.specs.Prelude.{All, MatchResult};
 ghost use Rattle.std.specs.List.Sorted.{IsBinarySearchResult, IsSearchInRange, IsPartitionedBy};
 ghost use Rattle.std.specs.List.Sorted.{IsPartitionPoint};
 ghost use Rattle.std.specs.Fn.{CalledAt, ComputesKey, TakesAt};
+ghost use Rattle.std.specs.Iterator.{ActsAsAt};
 ghost use Rattle.std.specs.declared.cmp.Ordering.{Ordering};
-ghost use Rattle.std.specs.declared.cmp.Ordering.TheVariants.{Less, Greater};
-ghost use Rattle.ne_vec.specs.Searches.{CallableAtItems};
+ghost use Rattle.std.specs.declared.cmp.Ordering.TheVariants.{Less, Equal, Greater};
+ghost use Rattle.ne_vec.specs.KeyOrder.{KeysAscend};
+ghost use Rattle.ne_vec.specs.Lists.{Naming};
+ghost use Rattle.ne_vec.specs.Searches.{CallableAtItems, HasKeyAt};
 
 use super::NEVec;
 use std::cmp::Ordering;
@@ -77,7 +81,9 @@ impl<T> NEVec<T> {
     /// the keys stay sorted. If several keys equal `b`, the index is that of any such item.
     ///
     /// `f` must be callable with the vector's items, in any order. The indices have this meaning if
-    /// the key depends only on the item. For `Err` the vector must also be sorted by the key.
+    /// the key depends only on the item. For `Err` the vector must also be sorted by the key: then
+    /// no key equals `b`. Both `keys` and `ascending` say so, for contracts that name the list of
+    /// the keys or that name their order.
     ///
     /// ```
     /// let items = nev![alloc; 500u32, 100, 10]?;
@@ -92,6 +98,13 @@ impl<T> NEVec<T> {
         ensures bound { IsSearchInRange result (length self.now) }
         ensures position { (key : T → B) → ComputesKey F.FnMut key f
             → IsBinarySearchResult (λ y. B.cmp (key y) b.now) self.now result }
+        ensures keys { (key : T → B) → ActsAsAt F.FnMut f key
+            → Naming (map key self.now) (λ keys. MatchResult result
+            (HasKeyAt key B.cmp b.now self.now)
+            (λ _. KeysAscend key B.cmp self.now → All (λ k. B.cmp k b.now ≢ Equal) keys)) }
+        ensures ascending { (key : T → B) → KeysAscend key B.cmp self.now
+            → ActsAsAt F.FnMut f key → MatchResult result (HasKeyAt key B.cmp b.now self.now)
+            (λ _. All (λ x. B.cmp (key x) b.now ≢ Equal) self.now) }
     {
         self.binary_search_by(
             |x|

@@ -1,12 +1,23 @@
 use Rattle.ne_vec.proofs.laws.dedup_by_key_keeps_the_first_items.Goals as goal
-use Rattle.std.proofs.Common.{ap, ◌∙◌, Bool}
+use Rattle.std.proofs.Common.{ap, sym, subst, ◌∙◌}
+use Rattle.std.specs.Fn.{CalledAtMut}
 use Rattle.ne_vec.specs.Divisions.{by_first, heads}
 
 pub returns : goal.returns
-returns g c read xs ys runs keeps divides =
+returns g c =
     let eq = g.K.PartialEq.eq in
-    let same : g.row.T.Denot → g.row.T.Denot → Bool = λ x y. eq (read x) (read y) in
-    let turned = c.converse_has_the_same_division.ensures (λ kept later. same later kept) xs keeps.0
-    (λ x y. g.met.K.PartialEq.laws.symm (read y) (read x)) keeps.1 in
-    let one = c.has_one_division.ensures.unique (by_first same) xs keeps.0 runs turned divides in
-    keeps.2 ∙ ap heads one
+    record {
+      compares = λ f read pure x y r f' y' x' h.
+          let one = pure y h.key h.between y' h.first in
+          let two = pure x h.other f' x' (subst (λ s. CalledAtMut g.F.FnMut s x h.other f' x') one.0
+          h.second) in (
+            two.0,
+            h.compared ∙ ap (λ k. eq k h.other) one.1 ∙ ap (eq (read y)) two.1
+                ∙ g.met.K.PartialEq.laws.symm (read y) (read x),
+            one.2,
+            two.2,
+          );
+      firsts = λ same xs ys runs keeps divides.
+          keeps ∙ sym (ap heads
+          (c.computed_runs_are_the_division.ensures.only by_first same xs runs divides));
+    }

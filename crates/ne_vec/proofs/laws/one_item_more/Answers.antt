@@ -1,5 +1,5 @@
 use Rattle.ne_vec.proofs.laws.one_item_more.Goals as goal
-use Rattle.ne_vec.proofs.Divisions.{division_goes_on, division_breaks}
+use Rattle.ne_vec.specs.DivisionLaws.{division_goes_on, division_breaks}
 
 pub returns-clause-goes_on : goal.returns-clause-goes_on
 returns-clause-goes_on g c goes_on xs x rs last h on = division_goes_on goes_on xs x rs last h on

@@ -1,6 +1,7 @@
 use Rattle.ne_vec.proofs.vector.NEVec.binary_search_by_key.Goals as goal
 use Rattle.std.proofs.Common.{◌≡◌, refl, rules}
-use Rattle.ne_vec.proofs.Halving.{callable_under, computes_under}
+use Rattle.ne_vec.proofs.Halving.{callable_under, computes_under, items_of, keys_of}
+use Rattle.ne_vec.proofs.SortedKeys.{computes}
 
 pub binary_search_by-requires : goal.binary_search_by-requires
 binary_search_by-requires g c =
@@ -13,3 +14,16 @@ returns-clause-position g c key computes =
     c.binary_search_by.ensures.position _
     (computes_under g.F.FnMut _ (λ p. p.0.now) (λ p. p.1.now ≡ c.args.b.now)
     (λ k. g.B.Ord.cmp k c.args.b.now) (λ p q x r one. search (rules, one)) key _ refl computes)
+
+pub returns-clause-keys : goal.returns-clause-keys
+returns-clause-keys g c key acts = (
+  refl,
+  keys_of g.met.B.Ord.total key c.args.b.now c.args.self.now _
+      c.binary_search_by.ensures.bound
+      (returns-clause-position g c key (computes g.F.FnMut c.args.f key acts)),
+)
+
+pub returns-clause-ascending : goal.returns-clause-ascending
+returns-clause-ascending g c key up acts =
+    items_of g.met.B.Ord.total key c.args.b.now c.args.self.now _ c.binary_search_by.ensures.bound
+    (returns-clause-position g c key (computes g.F.FnMut c.args.f key acts)) up

@@ -10,11 +10,6 @@ returns-clause-stays g c = stays _ _ _ _ c.dedup_by.ensures.filtered c.self.inva
 
 pub returns-clause-firsts : goal.returns-clause-firsts
 returns-clause-firsts g c same pure =
-    rw (← c.self.view_is)
-    (keeps_firsts same _ _ (dedup_same _ same _
-    (λ x y r f' x' y' k. (
-      (pure x y r f' x' y' k).1,
-      (pure x y r f' x' y' k).0,
-      (pure x y r f' x' y' k).2,
-      (pure x y r f' x' y' k).3,
-    )) _ _ c.dedup_by.ensures.filtered))
+    rw (← c.self.view_is) (keeps_firsts _ _ _ (dedup_same _ (λ later kept. same kept later) _
+    (λ y x r f' y' x' k.
+    let p = pure y x r f' y' x' k in (p.1, p.0, p.2, p.3)) _ _ c.dedup_by.ensures.filtered))

@@ -1,9 +1,21 @@
--- The division of a list as a function. There is no other division; further items extend it.
+-- Proofs, also for the crates above: the division of a list as a function. There is no other
+-- division; further items extend it; that of a mapped list is the mapped one.
 use Rattle.std.proofs.Common.{◌≡◌, ◌≢◌, Bool, true, false, cond, List, [], ◌∷◌, ◌++◌, refl, sym, ap}
-use Rattle.std.proofs.Common.{subst, ◌∙◌, ◌⊎◌, inl, inr, append_assoc, append-nil}
+use Rattle.std.proofs.Common.{subst, ◌∙◌, ◌⊎◌, inl, inr, append_assoc, append-nil, map}
+use Rattle.std.proofs.lemmas.List.{map_push}
 use Rattle.std.specs.List.{AllByRecursion}
 use Rattle.ne_vec.specs.Divisions.{concat, Adjacent, IsRun, Breaks, IsDivision, runs_from}
-use Rattle.ne_vec.proofs.Lists.{nil_is_no_append, head_is, tail_is}
+
+pub nil_is_no_append : {A : Type 0} (prefix : List A) (y : A) (back : List A)
+    → [] ≡ prefix ++ y ∷ back → ⊥
+nil_is_no_append [] y back e = cc
+nil_is_no_append (f ∷ prefix) y back e = cc
+
+pub head_is : {A : Type 0} {x y : A} {xs ys : List A} → x ∷ xs ≡ y ∷ ys → x ≡ y
+head_is e = cc
+
+pub tail_is : {A : Type 0} {x y : A} {xs ys : List A} → x ∷ xs ≡ y ∷ ys → xs ≡ ys
+tail_is e = cc
 
 -- an item y in a split of the list r, followed by x, is x itself or an item of r
 split_last : {A : Type 0} (r prefix : List A) (x y : A) (back : List A)
@@ -208,3 +220,33 @@ module _ {A : Type 0} (goes_on : List A → A → Bool) where
       (divide_append xs (x ∷ []) rs last (sym (divide_only xs (rs ++ last ∷ []) h))
       ∙ (ap (λ l. rs ++ l) (cut_off last x [] off)
       ∙ sym (append_assoc rs (last ∷ []) ((x ∷ []) ∷ [])))) (divides (xs ++ x ∷ []))
+
+module _ {A B : Type 0} (f : A → B) (goes_on : List A → A → Bool) (mapped_on : List B → B → Bool)
+    (alike : (r : List A) (x : A) → mapped_on (map f r) (f x) ≡ goes_on r x) where
+  cut_mapped : (r xs : List A) → runs_from mapped_on (map f r) (map f xs)
+      ≡ map (map f) (runs_from goes_on r xs)
+  cut_mapped r [] = refl
+  cut_mapped r (x ∷ xs) =
+      subst (λ v. cond v (runs_from mapped_on (map f r ++ f x ∷ []) (map f xs))
+      (map f r ∷ runs_from mapped_on (f x ∷ []) (map f xs))
+      ≡ map (map f) (cond (goes_on r x) (runs_from goes_on (r ++ x ∷ []) xs)
+      (r ∷ runs_from goes_on (x ∷ []) xs))) (sym (alike r x)) (
+      elim (goes_on r x) as (λ v. cond v (runs_from mapped_on (map f r ++ f x ∷ []) (map f xs))
+      (map f r ∷ runs_from mapped_on (f x ∷ []) (map f xs))
+      ≡ map (map f) (cond v (runs_from goes_on (r ++ x ∷ []) xs)
+      (r ∷ runs_from goes_on (x ∷ []) xs))) [
+        | true ↦ ap (λ l. runs_from mapped_on l (map f xs)) (sym (map_push f r x))
+            ∙ cut_mapped (r ++ x ∷ []) xs
+        | false ↦ ap (λ l. map f r ∷ l) (cut_mapped (x ∷ []) xs)
+      ]
+      )
+
+  divide_mapped : (xs : List A) → divide mapped_on (map f xs) ≡ map (map f) (divide goes_on xs)
+  divide_mapped [] = refl
+  divide_mapped (x ∷ xs) = cut_mapped (x ∷ []) xs
+
+  pub division_mapped : (xs : List A) (rs : List (List A)) → IsDivision goes_on xs rs
+      → IsDivision mapped_on (map f xs) (map (map f) rs)
+  division_mapped xs rs d = subst (IsDivision mapped_on (map f xs))
+      (divide_mapped xs ∙ ap (map (map f)) (sym (divide_only goes_on xs rs d)))
+      (divides mapped_on (map f xs))
