@@ -9,7 +9,7 @@ use Rattle.std.proofs.lemmas.Map.Entries.{length-keys_of}
 use Rattle.std.proofs.lemmas.Map.Keys.{IsDistinct-from_sorted}
 use Rattle.std.proofs.lemmas.Map.Made.{is_some-lookup, is_some-update_all}
 use Rattle.std.specs.BTreeMap.{BTreeMap, IsOrdered, btree_map_len}
-use Rattle.std.specs.BTreeSet.{BTreeSet, IsOrdered as AreOrdered, btree_set_len}
+use Rattle.std.specs.BTreeSet.{BTreeSet, btree_set_len}
 use Rattle.std.specs.HashMap.{HashMap, hash_map_len}
 use Rattle.std.specs.HashSet.{HashSet, hash_set_len}
 use Rattle.std.specs.Cmp.{IsEquivalence, IsTotalOrder, eq_by_cmp_equiv}
@@ -77,12 +77,12 @@ module _ {K : Type 0} {eq : K → K → Bool} {cmp : K → K → Ordering} (tota
       )
 
   pub tree_set_made : (xs : List K) (s : BTreeSet K) → 0 < length xs
-      → tree_set.IsFromIterResult cmp xs s → IsSetOf eq xs s.keys × AreOrdered cmp s
-      × (0 < btree_set_len s)
+      → tree_set.IsFromIterResult cmp xs s → IsSetOf eq xs s.keys
+      × tree_set.IsFromIterResult cmp xs s × (0 < btree_set_len s)
   tree_set_made xs s some h =
       let laws = eq_by_cmp_equiv total in (
         subst (λ (e : K → K → Bool). IsSetOf e xs s.keys) by_cmp
             (IsDistinct-from_sorted cmp _ h.1, h.0),
-        h.1,
+        h,
         some_key laws xs s.keys h.0 some,
       )

@@ -16,7 +16,7 @@ use Rattle.ne_iter.specs.declared.iter.group_by.State.{State}
 use Rattle.ne_iter.specs.declared.iter.group_by.State.TheVariants.{Unread, Held, Ended}
 use Rattle.ne_iter.specs.Grouping.{Grouping}
 
-joined_mapped : {A B : Type 0} (f : A → B) (rs : List (List A))
+pub joined_mapped : {A B : Type 0} (f : A → B) (rs : List (List A))
     → concat (map (map f) rs) ≡ map f (concat rs)
 joined_mapped f [] = refl
 joined_mapped f (r ∷ rs) = ap (λ l. map f r ++ l) (joined_mapped f rs)

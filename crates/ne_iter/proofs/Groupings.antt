@@ -15,7 +15,7 @@ use Rattle.ne_iter.specs.declared.iter.group_by.State.{State}
 use Rattle.ne_iter.specs.declared.iter.group_by.State.TheVariants.{Unread, Held, Ended}
 use Rattle.ne_iter.specs.Grouping.{Grouping}
 
-one_more_is_some : {A : Type 0} (xs : List A) (y : A) → xs ++ y ∷ [] ≢ []
+pub one_more_is_some : {A : Type 0} (xs : List A) (y : A) → xs ++ y ∷ [] ≢ []
 one_more_is_some [] y = λ e. cc
 one_more_is_some (x ∷ xs) y = λ e. cc
 

@@ -1,7 +1,7 @@
 -- `intersperse`: from a run of its iterator to the list that it yields.
-use Rattle.std.proofs.Common.{rules, subst, sym, ap, ◌∙◌, append_assoc, append-nil}
+use Rattle.std.proofs.Common.{arith, rules, subst, sym, ap, ◌∙◌, append_assoc, append-nil}
 use Rattle.std.specs.Prelude.{◌≡◌, List, [], ◌∷◌, ◌++◌, Option, Some, None, refl, Bool, true, false}
-use Rattle.std.specs.Prelude.{◌&&◌, Result, Ok, Err, is_ok, MatchResult, map}
+use Rattle.std.specs.Prelude.{◌&&◌, Result, Ok, Err, is_ok, MatchResult, map, length, ◌*◌, ◌-◌}
 use Rattle.std.specs.Iterator.{DrainsIf}
 use Rattle.std.specs.List.{list_all, flat_map, join_by}
 use Rattle.std.proofs.lemmas.Bool.{MatchBool-at_true, MatchBool-at_false, and_from}
@@ -13,7 +13,7 @@ use Rattle.std.proofs.lemmas.List.{map-append}
 use Rattle.ne_vec.specs.Lists.{IsPrefix}
 use Rattle.ne_iter.specs.Intersperse.{Interspersed, drawn_from, clones_of, in_hand, is_over}
 use Rattle.ne_iter.specs.Intersperse.{DrawsNext, InterspersesNext, interspersed, OnlyItsValues}
-use Rattle.ne_iter.specs.Intersperse.{IntersperseRuns, IsInterspersed}
+use Rattle.ne_iter.specs.Intersperse.{IntersperseRuns, IsInterspersed, JoinsLists}
 use Rattle.ne_iter.specs.declared.iter.intersperse.RawIntersperse.{RawIntersperse}
 use Rattle.ne_iter.specs.Cloned.{TriesClone}
 use Rattle.ne_iter.specs.Sources.{ReadsList, EachReading, Reads}
@@ -144,10 +144,23 @@ behind_separators f s [] = refl
 behind_separators f s (x ∷ xs) = ap (λ l. f s ++ (f x ++ l)) (behind_separators f s xs)
     ∙ sym (append_assoc (f s) (f x) (flat_map (λ y. f s ++ f y) xs))
 
-pub joined_items : {A X : Type 0} (f : A → List X) (s : A) (xs : List A)
+joined_items : {A X : Type 0} (f : A → List X) (s : A) (xs : List A)
     → flat_map f (interspersed s xs) ≡ join_by f (f s) xs
 joined_items f s [] = refl
 joined_items f s (x ∷ xs) = ap (λ l. f x ++ l) (behind_separators f s xs)
+
+separators_count : {A : Type 0} (s : A) (xs : List A)
+    → length (flat_map (λ x. s ∷ x ∷ []) xs) ≡ 2 * length xs
+separators_count s [] = refl
+separators_count s (x ∷ xs) = omega (arith, separators_count s xs)
+
+count_interspersed : {A : Type 0} (s : A) (xs : List A)
+    → length (interspersed s xs) ≡ 2 * length xs - 1
+count_interspersed s [] = refl
+count_interspersed s (x ∷ xs) = omega (arith, separators_count s xs)
+
+pub joins_lists : {A : Type 0} (s : A) (xs : List A) → JoinsLists s xs
+joins_lists s xs = (count_interspersed s xs, λ f. joined_items f s xs)
 
 module _ {A : Type 0} (E : Type 0) where
   pub values_are : (xs ys : List A) → map {B = Result A E} Ok xs ≡ map Ok ys → xs ≡ ys

@@ -7,7 +7,10 @@ pub mod Best
 pub mod Keyed
 pub mod Groupings
 pub mod Grouped
+pub mod GroupedLists
 pub mod Divided
+pub mod CutRuns
+pub mod CutLists
 pub mod SliceDivisions
 pub mod Collects
 pub mod Consumers

@@ -1,17 +1,18 @@
 -- `peekable`: from a run of its iterator to the list that it yields.
 use Rattle.std.proofs.Common.{rules, subst, sym, ap, ◌∙◌}
 use Rattle.std.specs.Prelude.{◌≡◌, List, [], ◌∷◌, ◌++◌, length, Option, Some, None, refl, Bool}
-use Rattle.std.specs.Prelude.{true, false, ltb, ◌||◌, IfSome}
+use Rattle.std.specs.Prelude.{true, false, ltb, ◌||◌, IfSome, map, slice_get}
 use Rattle.std.specs.Iterator.{DrainsIf}
 use Rattle.std.specs.Iterator.Runs.{Run}
 use Rattle.std.specs.Iterator.Adapters.{once_item, once_steps, chain_first, chain_second}
 use Rattle.std.specs.Iterator.Adapters.{chain_first_done, chain_second_done, chain_steps}
 use Rattle.std.specs.declared.iter.Once.{Once}
 use Rattle.std.specs.declared.iter.Chain.{Chain}
-use Rattle.ne_vec.specs.Lists.{IsPrefix}
+use Rattle.std.proofs.lemmas.Simd.{map-map}
+use Rattle.ne_vec.specs.Lists.{IsPrefix, View}
 use Rattle.ne_iter.specs.Peekable.{PutsFirst, YieldsRest, with_head, PeekableGives}
-use Rattle.ne_iter.specs.Peekable.{peekable_first, peekable_rest}
-use Rattle.ne_iter.specs.Sources.{ReadsList, Reads}
+use Rattle.ne_iter.specs.Peekable.{peekable_first, peekable_rest, YieldsPeeked}
+use Rattle.ne_iter.specs.Sources.{ReadsList, ReadsListThrough, Reads}
 use Rattle.ne_iter.specs.declared.iter.peekable.Peekable.{Peekable}
 use Rattle.ne_vec.specs.RunLaws.{run_drains}
 use Rattle.ne_iter.proofs.Chain.{DrainsIf-chain}
@@ -93,3 +94,32 @@ module _ {U S A : Type 0} (becomes : U → S → Type 0) (steps : S → Option A
     pub yields_rest : YieldsRest steps (peekable_rest v) xs
     yields_rest p seen second fresh live whole =
         rest_of p second fresh live whole (once_item (chain_first p.from)) refl
+
+  module _ {u : U} {v : Peekable S A} (gives : PeekableGives (Reads becomes steps) Peeks u v)
+      (view : View A) (xs : List view.Target)
+      (list : ReadsListThrough (Reads becomes steps) view.of u xs) where
+    begins_with : (first : A) → Reads becomes steps false u (first ∷ [])
+        → slice_get xs 0 ≡ Some (view.of first)
+    begins_with first read = rw ((list false (first ∷ []) read).1) refl
+
+    yields_list : (p : Run (chain_steps once_steps steps))
+        → PutsFirst (peekable_first v) (peekable_rest v) p.from → p.whole ≡ true
+        → map view.of p.items ≡ xs
+    yields_list p puts whole =
+        let parts = gives (peekable_first v) true p.items (record {
+          it = p.from;
+          made = puts;
+          given = subst (λ b. DrainsIf (chain_steps once_steps steps) (b ≡ true) p.from p.items)
+              whole (run_drains _ p p.from refl);
+        }) in
+        whole_prefix xs (map view.of p.items) (list true p.items
+        (subst (Reads becomes steps true u) (sym parts.1) parts.0))
+
+    pub yields_peeked : Reads becomes steps false u (peekable_first v ∷ [])
+        → YieldsPeeked view steps v xs
+    yields_peeked read = (
+      begins_with (peekable_first v) read,
+      λ p seen puts whole.
+          let is = yields_list p puts whole in
+          (is, λ h. sym (map-map h view.of p.items) ∙ ap (map h) is),
+    )

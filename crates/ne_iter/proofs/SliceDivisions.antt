@@ -1,10 +1,10 @@
 -- The runs that the iterators over the runs of a slice yield.
-use Rattle.std.proofs.Common.{◌≡◌, ◌<◌, Bool, true, List, [], ◌++◌, length, subst}
+use Rattle.std.proofs.Common.{◌≡◌, Bool, true, List, [], ◌++◌, subst}
 use Rattle.std.specs.Borrow.{Bor}
 use Rattle.std.specs.Fn.{Shared}
 use Rattle.std.specs.Iterator.{Yields}
 use Rattle.ne_vec.specs.Divisions.{IsDivision}
-use Rattle.ne_vec.specs.SliceRuns.{Cutting, ActsAsAtPair, CutsRun}
+use Rattle.ne_vec.specs.SliceRuns.{Cutting, ActsAsAtPair, BecomesCutter, CutsRun}
 use Rattle.ne_iter.specs.Sources.{ReadsList, Reads}
 use Rattle.ne_iter.proofs.Groupings.{division_of_none}
 
@@ -19,7 +19,7 @@ module _ {A F : Type 0} (calls : Shared F (Bor A × (Bor A × Unit {0})) Bool)
     → ActsAsAtPair calls s.closure same → Yields (CutsRun calls place) s rs t
     → IsDivision (place same) t.left all → IsDivision (place same) s.left (rs ++ all)) where
   abbrev reads_runs : Bool → Cutting A F → List (List A) → Type 0
-  reads_runs = Reads (λ c it. (0 < length c.left) × (it ≡ c)) (CutsRun calls place)
+  reads_runs = Reads BecomesCutter (CutsRun calls place)
 
   pub gives_division : (s : Cutting A F) (same : A → A → Bool) → ActsAsAtPair calls s.closure same
       → (rs : List (List A)) × IsDivision (place same) s.left rs × ReadsList reads_runs s rs
@@ -31,7 +31,7 @@ module _ {A F : Type 0} (calls : Shared F (Bor A × (Bor A × Unit {0})) Bool)
       gives rs divides whole ys reads =
           let t = reads.given.0 in
           let from_s = λ (q : Cutting A F). Yields (CutsRun calls place) q ys t in
-          let yields = subst from_s reads.made.1 reads.given.1 in
+          let yields = subst from_s reads.made.2 reads.given.1 in
           let rest = exists (place same) t.left in
           let joins = taken place same s t ys rest.0 acts yields rest.1 in
           let ended = λ (w : whole ≡ true). subst (λ l. IsDivision (place same) l rest.0)

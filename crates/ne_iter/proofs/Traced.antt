@@ -66,9 +66,10 @@ indexes (x ∷ xs) v = let h = indexes xs v in (ap (λ n. suc n) h.0, λ k d l. 
     at (suc k) d l h = h k d (omega (arith, l))
 
 -- a run after a first item
-pub begins : {S A : Type 0} (steps : S → Option A → S → Type 0) (it : S) (x : A) (rest : S)
-    → steps it (Some x) rest → BeginsRuns steps x rest it
-begins steps it x rest h p seen from =
+pub begins : {S A : Type 0} (steps : S → Option A → S → Type 0) (P : List A → Type 0)
+    → ((xs : List A) → P xs) → (it : S) (x : A) (rest : S) → steps it (Some x) rest
+    → BeginsRuns steps P x rest it
+begins steps P law it x rest h p seen from =
     let t = took p in (
       run steps it (x ∷ p.items) p.whole (
         t.0,
@@ -76,5 +77,5 @@ begins steps it x rest h p seen from =
         t.2,
       ),
       refl,
-      (refl, omega (arith, p.long), refl),
+      (refl, omega (arith, p.long), refl, law (x ∷ p.items)),
     )

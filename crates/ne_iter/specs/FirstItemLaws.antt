@@ -11,7 +11,7 @@ use Rattle.std.specs.declared.slice.Iter.{Iter}
 use Rattle.std.specs.declared.slice.IterMut.{IterMut}
 use Rattle.std.specs.declared.vec.IntoIter.{IntoIter}
 use Rattle.ne_vec.specs.Iterators.{IteratesOver, IteratesByValue}
-use Rattle.ne_vec.specs.SliceRuns.{Cutting, CutsRun}
+use Rattle.ne_vec.specs.SliceRuns.{Cutting, BecomesCutter, CutsRun}
 use Rattle.ne_iter.specs.Sources.{HasFirst}
 
 pub HasFirst-iter : {X : Type 0} (xs : List X) (it : Iter X) → IteratesOver xs it → HasFirst
@@ -32,6 +32,6 @@ HasFirst-chunks c it made t ended = omega (arith, made.0, ap length made.1, ap l
 
 pub HasFirst-cuts : {X F : Type 0} (calls : Shared F (Bor X × (Bor X × Unit {0})) Bool)
     (place : (X → X → Bool) → List X → X → Bool) (c it : Cutting X F)
-    → (0 < length c.left) × (it ≡ c) → HasFirst (CutsRun calls place) it
+    → BecomesCutter c it → HasFirst (CutsRun calls place) it
 HasFirst-cuts calls place c it made t ended =
-    omega (arith, made.0, ap (λ q. length q.left) made.1, ap length ended.1.0)
+    omega (arith, made.0, ap (λ q. length q.left) made.2, ap length ended.1.0)

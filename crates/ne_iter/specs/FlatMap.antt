@@ -1,5 +1,6 @@
 -- `flat_map`: its parts, and what it yields.
-use Rattle.std.specs.Prelude.{◌≡◌, Bool, List, Option}
+use Rattle.std.specs.Prelude.{◌≡◌, Bool, ◌||◌, List, Option}
+use Rattle.std.specs.Bool.{OnFalse}
 use Rattle.std.specs.Fn.{Mut, Called}
 use Rattle.std.specs.List.{flat_map}
 use Rattle.std.specs.Iterator.Adapters.{map_steps, flatten_steps}
@@ -7,7 +8,7 @@ use Rattle.std.specs.Iterator.Runs.{EachRunFrom, SomeRun, IsFlatMapRun}
 use Rattle.std.specs.declared.iter.Map.{Map as StdMap}
 use Rattle.std.specs.declared.iter.Flatten.{Flatten as StdFlatten}
 use Rattle.ne_vec.specs.Divisions.{concat}
-use Rattle.ne_vec.specs.Lists.{Naming, EachList}
+use Rattle.ne_vec.specs.Lists.{Naming, EachList, View, itself}
 use Rattle.ne_iter.specs.declared.iter.flat_map.FlatMap.{FlatMap}
 use Rattle.ne_iter.specs.Calls.{Calls}
 use Rattle.ne_iter.specs.Flatten.{ReadsEach}
@@ -48,6 +49,27 @@ abbrev pub SpreadsLists : {U A W B V F : Type 0} → Mut F (A × Unit {0}) W →
 SpreadsLists {A = A} {B = B} calls f lists becomes gives u v = EachList lists u (λ xs.
     (inner : A → List B) → Naming (flat_map inner xs) (λ ys.
     ReturnsLists calls f becomes inner → gives v ys))
+
+-- the same through a view of the source's items and one of the items of the inner sources
+abbrev pub SpreadsThrough : {U A W B V F : Type 0} → Mut F (A × Unit {0}) W → F → (view : View A)
+    → (inner : View B) → ((view : View A) → U → List view.Target → Type 0)
+    → ((inner : View B) → W → List inner.Target → Type 0)
+    → ((inner : View B) → V → List inner.Target → Type 0) → U → V → Type 0
+SpreadsThrough calls f view inner lists becomes gives u v = EachList (lists view) u (λ xs.
+    (h : view.Target → List inner.Target) → Naming (flat_map h xs) (λ ys.
+    ReturnsLists calls f (becomes inner) (λ x. h (view.of x)) → gives inner v ys))
+
+-- The list is said of the items themselves, and through the views that are not `itself`.
+-- `flat_map` yields the lists of the sources that f returns, through each view.
+abbrev pub SpreadsViews : {U A W B V F : Type 0} → Mut F (A × Unit {0}) W → F → (view : View A)
+    → (inner : View B) → ((view : View A) → U → List view.Target → Type 0)
+    → ((inner : View B) → W → List inner.Target → Type 0)
+    → ((inner : View B) → V → List inner.Target → Type 0) → U → V → Type 0
+SpreadsViews calls f view inner lists becomes gives u v =
+    OnFalse view.is_itself (SpreadsThrough calls f view itself lists becomes gives u v)
+    × OnFalse inner.is_itself (SpreadsThrough calls f itself inner lists becomes gives u v)
+    × OnFalse (view.is_itself || inner.is_itself)
+    (SpreadsThrough calls f view inner lists becomes gives u v)
 
 -- A run of what `flat_map` yields is made of runs of the sources that the closure returns.
 abbrev pub FlatMapsRuns : {S A W J B F : Type 0} → (S → Option A → S → Type 0)

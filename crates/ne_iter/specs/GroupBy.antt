@@ -21,6 +21,16 @@ abbrev pub and_held : {A : Type 0} → List (List A) → Option A → List (List
 and_held rs None = rs
 and_held rs (Some x) = rs ++ (x ∷ []) ∷ []
 
+-- A source yields runs, each in `Ok`, of which P holds. An `Err` may be yielded in place of a run,
+-- and nothing after it; P holds of the runs before it.
+abbrev pub GivesRuns : {V A E : Type 0} → (Bool → V → List (Result (List A) E) → Type 0)
+    → (Bool → List (List A) → Type 0) → V → Type 0
+GivesRuns {A = A} {E = E} yields P v
+    = ((whole : Bool) (rs : List (List A)) → yields whole v (map Ok rs) → P whole rs)
+    × ((whole : Bool) (xs : List (Result (List A) E)) → yields whole v xs
+    → (rs : List (List A)) × ((xs ≡ map Ok rs)
+    ⊎ ((e : E) × (xs ≡ map Ok rs ++ Err e ∷ []) × P false rs)))
+
 module _ {U A K F : Type 0} (reads : Bool → U → List A → Type 0)
     (calls : Mut F (Bor A × Unit {0}) K) (eq : K → K → Bool) where
   -- The items taken from the source are divided by their keys into the runs rs and a held item. f
@@ -41,9 +51,5 @@ module _ {U A K F : Type 0} (reads : Bool → U → List A → Type 0)
   -- `Err` may be yielded in place of a run, and nothing after it.
   abbrev pub GroupByGives : {V E : Type 0} → (Bool → V → List (Result (List A) E) → Type 0) → U → F
       → V → Type 0
-  GroupByGives {E = E} grouped source f result
-      = ((whole : Bool) (rs : List (List A)) → grouped whole result (map Ok rs)
-      → HasRuns whole source f rs)
-      × ((whole : Bool) (xs : List (Result (List A) E)) → grouped whole result xs
-      → (rs : List (List A)) × ((xs ≡ map Ok rs)
-      ⊎ ((e : E) × (xs ≡ map Ok rs ++ Err e ∷ []) × HasRuns false source f rs)))
+  GroupByGives grouped source f result =
+      GivesRuns grouped (λ whole rs. HasRuns whole source f rs) result

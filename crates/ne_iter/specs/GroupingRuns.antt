@@ -8,7 +8,8 @@ use Rattle.std.specs.Iterator.{ActsAsAt, Yields, YieldsThen, Count, IsFinite, at
 use Rattle.std.specs.Iterator.Runs.{EachRunFrom, SomeRun}
 use Rattle.std.specs.declared.alloc.AllocError.{AllocError}
 use Rattle.ne_vec.specs.Divisions.{IsDivision, by_first}
-use Rattle.ne_vec.specs.Lists.{Naming}
+use Rattle.std.specs.Bool.{OnFalse}
+use Rattle.ne_vec.specs.Lists.{Naming, EachList, View}
 use Rattle.ne_iter.specs.Calls.{CallsEachAt}
 use Rattle.ne_iter.specs.Keys.{items_of, same_key, IsDividedBy}
 use Rattle.ne_iter.specs.declared.iter.group_by.State.{State}
@@ -101,3 +102,17 @@ GroupsRuns {K = K} {A = A} steps calls eq g = EachRunFrom (GivesRun steps calls 
     → Naming (map {B = Result (List A) AllocError} Ok rs)
     (λ _. SomeRun steps g.source (λ q. (q.whole ≡ true)
     × ((h : A → K) → ActsAsAt calls g.closure h → IsDividedBy h eq q.items rs))))
+
+-- The runs of the items themselves are said by `GroupsRuns`.
+-- If the closure acts as a function h of the items through `view`, `group_by` yields, through
+-- `view`, the runs of the source's list by h.
+abbrev pub GroupsLists : {U A K F V G E : Type 0} (view : View A)
+    → ((view : View A) → U → List view.Target → Type 0) → U → Mut F (Bor A × Unit {0}) K
+    → (K → K → Bool) → F → (V → G → Type 0) → (G → Option (Result (List A) E) → G → Type 0) → V
+    → Type 0
+GroupsLists {A = A} {K = K} {G = G} {E = E} view lists u calls eq f made next v =
+    OnFalse view.is_itself (EachList (lists view) u (λ xs. (it : G) → made v it
+    → EachRunFrom next it (λ p. (rs : List (List A)) → p.items ≡ map Ok rs → p.whole ≡ true
+    → Naming (map {B = Result (List A) E} Ok rs) (λ _. (h : view.Target → K)
+    → ActsAsAt calls f (λ x. h (view.of x))
+    → IsDividedBy h eq xs (map (λ r. map view.of r) rs)))))

@@ -1,7 +1,7 @@
 -- `intersperse`: its parts, the list with separators, one call of its iterator, and what it yields.
 use Rattle.std.specs.Prelude.{◌≡◌, ℕ, ◌+◌, ◌*◌, Bool, false, List, [], ◌∷◌, map, true, Option, None}
 use Rattle.std.specs.Prelude.{Some, MatchOption, IsSomeAnd, Result, Ok, MatchResult, ◌&&◌, ◌++◌}
-use Rattle.std.specs.Prelude.{is_ok}
+use Rattle.std.specs.Prelude.{is_ok, length, ◌-◌}
 use Rattle.std.specs.Bool.{MatchBool}
 use Rattle.std.specs.Option.{option_len}
 use Rattle.std.specs.Iterator.{Count, count_map, count_unless}
@@ -44,10 +44,12 @@ Interspersed {A} {E} clones (x ∷ y ∷ xs) zs = (c : Result A E) × (more : Li
 abbrev pub interspersed : {A : Type 0} → A → List A → List A
 interspersed s xs = join_by (λ x. x ∷ []) (s ∷ []) xs
 
--- For the automatic proof: the lists that f makes of the items and of the separators, one after the
--- other, are std's `join` of the items, for an f that gives the bytes of texts.
+-- For the automatic proof: how many items there are with the separators; and the lists that f makes
+-- of all these, one after the other, are std's `join` of the items, for an f that gives the bytes
+-- of texts.
 abbrev pub JoinsLists : {A : Type 0} → A → List A → Type 0
-JoinsLists {A} s xs = (f : A → List ℕ) → flat_map f (interspersed s xs) ≡ join_by f (f s) xs
+JoinsLists {A} s xs = (length (interspersed s xs) ≡ 2 * length xs - 1)
+    × ((f : A → List ℕ) → flat_map f (interspersed s xs) ≡ join_by f (f s) xs)
 
 -- For the automatic proof: if `map Ok values` equals `map Ok (interspersed s xs)`, `values` equals
 -- `interspersed s xs`.

@@ -9,3 +9,4 @@ pub mod Extends
 pub mod ExtendLaws
 pub mod KeyList
 pub mod SameMap
+pub mod TakenLaws

@@ -28,6 +28,8 @@ pub mod Flatten
 pub mod FlatMap
 pub mod Scan
 pub mod GroupBy
+pub mod RunsBy
+pub mod RunsByLaws
 pub mod Intersperse
 pub mod Peekable
 pub mod Filter

@@ -1,10 +1,12 @@
 -- `peekable`: its parts, and what it yields.
-use Rattle.std.specs.Prelude.{◌≡◌, ◌∷◌, [], Bool, List, Option, Some, IfSome, false, true}
+use Rattle.std.specs.Prelude.{◌≡◌, ◌∷◌, [], ℕ, Bool, List, Option, Some, IfSome, false, true, map}
+use Rattle.std.specs.Prelude.{slice_get}
 use Rattle.std.specs.Iterator.Adapters.{chain_steps, once_steps, once_item, chain_first}
 use Rattle.std.specs.Iterator.Adapters.{chain_second, chain_first_done, chain_second_done}
 use Rattle.std.specs.Iterator.Runs.{Run, Trigger}
 use Rattle.std.specs.declared.iter.Chain.{Chain}
 use Rattle.std.specs.declared.iter.Once.{Once}
+use Rattle.ne_vec.specs.Lists.{View}
 use Rattle.ne_iter.specs.declared.iter.peekable.Peekable.{Peekable}
 
 -- the item that was taken, and the iterator over the items after it
@@ -44,3 +46,13 @@ YieldsRest steps rest xs = (p : Run (chain_steps once_steps steps)) → Trigger 
     → chain_second p.from ≡ rest → chain_first_done p.from ≡ false
     → chain_second_done p.from ≡ false → p.whole ≡ true
     → IfSome (once_item (chain_first p.from)) (λ w. p.items ≡ with_head w xs)
+
+-- For the automatic proof: xs, the list of the source through `view`, begins with the first item,
+-- and a whole run of the iterator that the unchanged source v becomes yields xs through `view`.
+abbrev pub YieldsPeeked : {I A : Type 0} (view : View A) → (I → Option A → I → Type 0)
+    → Peekable I A → List view.Target → Type 0
+YieldsPeeked view steps v xs = (slice_get xs 0 ≡ Some (view.of (peekable_first v)))
+    × ((p : Run (chain_steps once_steps steps)) → Trigger p.len
+    → PutsFirst (peekable_first v) (peekable_rest v) p.from → p.whole ≡ true
+    → (map view.of p.items ≡ xs)
+    × ((h : view.Target → ℕ) → map (λ x. h (view.of x)) p.items ≡ map h xs))

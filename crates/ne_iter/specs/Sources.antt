@@ -54,10 +54,12 @@ module _ {U S A : Type 0} (becomes : U → S → Type 0) (steps : S → Option A
   abbrev pub RunsWhole : Type 0
   RunsWhole = Becomes becomes u (λ it. WholeRun steps it P)
 
--- If `it` returned x and became `rest`, each run of `rest` with x before it is a run of `it`.
-abbrev pub BeginsRuns : {S A : Type 0} → (S → Option A → S → Type 0) → A → S → S → Type 0
-BeginsRuns steps x rest it = EachRunFrom steps rest (λ p.
-    SomeRun steps it (λ q. (q.whole ≡ p.whole) × (q.len ≡ p.len + 1) × (q.items ≡ x ∷ p.items)))
+-- If `it` returned x and became `rest`, each run of `rest` with x before it is a run of `it`, and P
+-- holds for its items.
+abbrev pub BeginsRuns : {S A : Type 0} → (S → Option A → S → Type 0) → (List A → Type 0) → A → S
+    → S → Type 0
+BeginsRuns steps P x rest it = EachRunFrom steps rest (λ p. SomeRun steps it (λ q.
+    (q.whole ≡ p.whole) × (q.len ≡ p.len + 1) × (q.items ≡ x ∷ p.items) × P q.items))
 
 -- The source u yields the list xs and no other: a prefix of xs so far, and at its end all of xs.
 abbrev pub ReadsList : {U A : Type 0} → (Bool → U → List A → Type 0) → U → List A → Type 0

@@ -2,7 +2,7 @@
 //! specified which of several equal ones is kept.
 ghost use Rattle.std.specs.Prelude.{◌<◌, length};
 ghost use Rattle.std.specs.BTreeMap.{IsOrdered};
-ghost use Rattle.std.specs.BTreeSet.{IsOrdered as AreOrdered};
+ghost use Rattle.std.specs.BTreeSet.{IsFromIterResult};
 ghost use Rattle.ne_iter.specs.Collected.{IsMapOfPairs, IsSetOf};
 
 use crate::iter::{FromNonEmptyIterator, IntoNonEmptyIterator, NonEmptyIterator};
@@ -68,7 +68,8 @@ impl<T: Eq + Hash + Drop, S: BuildHasher + Default + Drop> FromNonEmptyIterator<
 /// let set: BTreeSet<u32> = halves.collect(alloc)?; // {0, 1, 2, 3, 4}
 /// ```
 impl<T: Ord + Drop> FromNonEmptyIterator<T> for BTreeSet<T> {
-    ghost collected = { λ xs s. IsSetOf T.eq xs s.keys × AreOrdered T.cmp s × (0 < length s.keys) };
+    ghost collected = { λ xs s. IsSetOf T.eq xs s.keys × IsFromIterResult T.cmp xs s
+        × (0 < length s.keys) };
 
     fn from_nonempty_iter<I: IntoNonEmptyIterator<Item = T>>(
         alloc: Global,

@@ -21,6 +21,7 @@ pub use crate::iter::group_by::group_by_ends;
 pub use crate::iter::map::map_ends;
 pub use crate::iter::one_item::once_ends;
 pub use crate::iter::peekable::peekable_ends;
+pub use crate::iter::runs_by::runs_by_ends;
 pub use crate::iter::scan::scan_ends;
 pub use crate::iter::take::take_ends;
 pub use crate::iter::zip::zip_ends;
@@ -32,7 +33,7 @@ pub use collected::{
     interspersed_lists_have_their_places, results_are_read_whole, results_make_a_vector,
     vectors_one_by_one_are_collected,
 };
-pub use extremes::{numbers_have_one_greatest, numbers_have_one_least};
+pub use extremes::{numbers_have_one_greatest, numbers_have_one_least, sums_are_bounded};
 pub use firsts::first_items_stay_first;
 pub use groupings::{
     groupings_stand_at_any_moment, runs_by_a_function, runs_by_keys_are_the_division,

@@ -22,3 +22,11 @@ ActsAsAtEntry {F} {K} {V} g f keeps writes = (k : K) (v : V) (kept : Bool) (w : 
 abbrev pub kept_entries : {K V : Type 0} → (K → V → Bool) → (K → V → V) → List (K × V)
     → List (K × V)
 kept_entries keeps writes es = map (λ e. (e.0, writes e.0 e.1)) (filter (λ e. keeps e.0 e.1) es)
+
+-- Each call of f with a `&` to the key k and a `&mut` to the value v of an entry returns
+-- `keeps (k, v)`, and leaves v and f unchanged.
+abbrev pub TestsEntries : {F K V : Type 0}
+    → Mut F (Bor K × (MutBor V × Unit {0})) (Bool × (MutBor V × Unit {0}))
+    → F → (K × V → Bool) → Type 0
+TestsEntries {F} {K} {V} g f keeps = (k : K) (v : V) (kept : Bool) (w : V) (f' : F)
+    → CalledAtPair g f k v kept w f' → (f' ≡ f) × (kept ≡ keeps (k, v)) × (w ≡ v)

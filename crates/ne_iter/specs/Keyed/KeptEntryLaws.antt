@@ -22,3 +22,16 @@ module _ {F K V : Type 0} (called : F → K → V → Bool → V → F → Type 
       ≡ map (λ e. (e.0, writes e.0 e.1))
       (cond v (e ∷ filter (λ e. keeps e.0 e.1) es)
       (filter (λ e. keeps e.0 e.1) es))) [ true ↦ refl | false ↦ refl ]
+
+module _ {F K V : Type 0} (called : F → K → V → Bool → V → F → Type 0) (keeps : K × V → Bool)
+    (f : F)
+    (tests : (k : K) (v : V) (b : Bool) (w : V) (f' : F) → called f k v b w f'
+    → (f' ≡ f) × (b ≡ keeps (k, v)) × (w ≡ v)) where
+  pub retains_filtered : (es kept : List (K × V)) → RetainsPairs called f es kept
+      → kept ≡ filter keeps es
+  retains_filtered [] kept r = r
+  retains_filtered (e ∷ es) kept (b, w, f', rest, call, others, is) =
+      let p = tests e.0 e.1 b w f' call in
+      let kept_rest : rest ≡ filter keeps es = retains_filtered es rest
+      (subst (λ v. RetainsPairs called v es rest) p.0 others) in
+      rw (is, p.1, p.2, kept_rest) refl

@@ -53,6 +53,8 @@ impl<U: IntoNonEmptyIterator, I: NonEmptyIterator, F: FnMut(I::Item) -> U> NonEm
     ghost use Rattle.ne_iter.specs.Flatten.{HasFirst-flatten};
     ghost use Rattle.ne_iter.specs.SourceLaws.{IsNonEmpty-into};
 
+    ghost item_view = { U.IntoNEIter.item_view };
+
     ghost not_empty = { λ s it made. HasFirst-flatten
         (⟦<iter::Map<I::IntoIter, F> as Iterator>⟧.next_gives) U.into_iter_gives
         U.IntoIter.next_gives it made.2 made.4

@@ -74,7 +74,7 @@ pub struct GroupBy<I, K, V, F> {
 // What is ahead: nothing was taken yet; or one item, with its key, was taken after the runs that
 // were returned; or nothing more comes.
 #[derive(Drop)]
-enum State<K, V> {
+pub(super) enum State<K, V> {
     Unread,
     Held(K, V),
     Ended,

@@ -42,7 +42,7 @@ ghost use Rattle.ne_iter.specs.Chain.{ChainsLists, chain_first, chain_second, Is
 ghost use Rattle.ne_iter.specs.Flatten.{FlattensLists, flatten_source, IsFlattened};
 ghost use Rattle.ne_iter.specs.Enumerate.{NumbersLists, enumerate_source, IsEnumerated};
 ghost use Rattle.ne_iter.specs.FlatMap.{SpreadsLists, flat_map_source, flat_map_callee};
-ghost use Rattle.ne_iter.specs.FlatMap.{IsFlatMapped};
+ghost use Rattle.ne_iter.specs.FlatMap.{IsFlatMapped, SpreadsViews};
 ghost use Rattle.ne_iter.specs.Zip.{ZipsLists, zip_first, zip_second, IsZipped};
 ghost use Rattle.ne_iter.specs.Intersperse.{interspersed, JoinsLists, OnlyItsValues};
 ghost use Rattle.ne_iter.specs.Intersperse.{intersperse_first, intersperse_rest};
@@ -56,18 +56,22 @@ ghost use Rattle.ne_iter.specs.Take.{take_source, take_count, IsTaken};
 ghost use Rattle.ne_iter.specs.Copied.{copied_source, IsCopied};
 ghost use Rattle.ne_iter.specs.Scan.{scan_source, scan_init, scan_callee};
 ghost use Rattle.ne_iter.specs.Scan.{CallableInScan, IsScanned};
-ghost use Rattle.ne_iter.specs.GroupBy.{group_by_source, group_by_callee, GroupByGives};
+ghost use Rattle.ne_iter.specs.GroupBy.{group_by_source, group_by_callee, GroupByGives, GivesRuns};
+ghost use Rattle.ne_iter.specs.GroupingRuns.{GroupsLists};
+ghost use Rattle.ne_iter.specs.RunsBy.{runs_by_source, runs_by_callee, CutsLists, HasCut};
+ghost use Rattle.ne_iter.specs.Map.{MapsThrough};
 ghost use Rattle.ne_iter.specs.Filter.{IsFiltered, IsFilterMapped};
 ghost use Rattle.ne_iter.specs.Skip.{IsSkipped, IsSkippedWhile};
 ghost use Rattle.ne_iter.specs.TakeWhile.{IsTakenWhile};
 ghost use Rattle.ne_iter.specs.Peekable.{peekable_first, peekable_rest, PeekableGives, YieldsRest};
+ghost use Rattle.ne_iter.specs.Peekable.{YieldsPeeked};
 
 use super::best::{best, best_by_key};
 use super::collected::FromNonEmptyIterator;
 use super::sources::{IntoNonEmptyIterator, ItemSource};
 use super::{
     Chain, Cloned, Copied, Enumerate, FlatMap, Flatten, GroupBy, Intersperse, Map, NEGroupBy,
-    Peekable, Scan, Take, Zip,
+    Peekable, RunsBy, RunsByIter, Scan, Take, Zip,
 };
 use ne_vec::{NEVec, Singleton, vector};
 use std::alloc::{AllocError, Global};
@@ -138,7 +142,9 @@ pub trait NonEmptyIterator: IntoIterator {
             (⟦<Peekable<Self::IntoIter> as ItemSource>⟧.reads) self result }
         ensures lists { EachList (⟦<Self as ItemSource>⟧.lists itself) self (λ xs.
             ⟦<Peekable<Self::IntoIter> as ItemSource>⟧.yields_items result xs
-            × YieldsRest Self.IntoIter.next_gives (peekable_rest result) xs) }
+            × YieldsRest Self.IntoIter.next_gives (peekable_rest result) xs)
+            × OnFalse item_view.is_itself (EachList (⟦<Self as ItemSource>⟧.lists item_view) self
+            (YieldsPeeked item_view Self.IntoIter.next_gives result)) }
     {
         let (first, rest) = self.next();
         Peekable { first, rest }
@@ -437,7 +443,11 @@ pub trait NonEmptyIterator: IntoIterator {
         ensures lists { SpreadsLists F.FnMut f (⟦<Self as ItemSource>⟧.lists itself)
             (BecomesList U.into_nonempty_iter_gives U.IntoNEIter.into_iter_gives
             U.IntoNEIter.IntoIter.next_gives itself)
-            (⟦<FlatMap<Self, U, F> as ItemSource>⟧.yields_items) self result }
+            (⟦<FlatMap<Self, U, F> as ItemSource>⟧.yields_items) self result
+            × SpreadsViews F.FnMut f item_view U.IntoNEIter.item_view (⟦<Self as ItemSource>⟧.lists)
+            (BecomesList U.into_nonempty_iter_gives U.IntoNEIter.into_iter_gives
+            U.IntoNEIter.IntoIter.next_gives) (⟦<FlatMap<Self, U, F> as ItemSource>⟧.yields_through)
+            self result }
     {
         FlatMap {
             iter: self,
@@ -491,6 +501,9 @@ pub trait NonEmptyIterator: IntoIterator {
             (h : B → view.Target → B)
             → ActsAsOnTwo F.FnMut f (λ total x. h total (view.of x))
             → result ≡ list_fold h init xs) }
+        ensures runs { RunsWhole Self.into_iter_gives Self.IntoIter.next_gives self (λ p.
+            (h : B → Self.Item → B) → ActsAsOnTwo F.FnMut f h
+            → result ≡ list_fold h init p.items) }
     {
         self.into_iter().fold(init, f)
     }
@@ -506,6 +519,9 @@ pub trait NonEmptyIterator: IntoIterator {
     ///
     /// `f` must be callable with the items of the source, in order; it may reject any other value.
     /// For example, if all items are above 0, the key may be `|x| 100 / *x`.
+    ///
+    /// A key that clones, as `|e| e.service.clone()`, is a `Result`: if a clone fails, the `Err` is
+    /// a key of its own, and the runs are others. [`runs_by`](Self::runs_by) needs no clone.
     ///
     /// A run is allocated from `alloc` when it is requested; nothing is allocated for the next run
     /// yet. If an allocation for a run fails, `Err` is returned in its place. The items that were
@@ -531,10 +547,59 @@ pub trait NonEmptyIterator: IntoIterator {
             → ⟦<NEGroupBy<Self, F> as ItemSource>⟧.ends result }
         ensures gives { GroupByGives (⟦<Self as ItemSource>⟧.reads) F.FnMut K.eq
             (⟦<NEGroupBy<Self, F> as ItemSource>⟧.reads) self f result }
+        ensures lists { GroupsLists item_view (⟦<Self as ItemSource>⟧.lists) self F.FnMut K.eq f
+            (⟦<NEGroupBy<Self, F> as IntoIterator>⟧.into_iter_gives)
+            (⟦<GroupBy<Self::IntoIter, K, Self::Item, F> as Iterator>⟧.next_gives) result }
     {
         NEGroupBy {
             iter: self,
             f,
+            alloc,
+        }
+    }
+
+    /// Returns a source of the runs of items that `same` puts together: each run is a vector, in
+    /// `Ok`, of consecutive items. Each item is compared with the first one of its run, by
+    /// `same(first, item)`: if that is `true` the item continues the run, and otherwise it begins
+    /// the next one. So no item is compared with the one before it.
+    ///
+    /// Unlike [`group_by`](Self::group_by) it needs no key, and so no clone of a part of an item.
+    /// The runs are those of [`NESlice::runs_by`](ne_vec::NESlice::runs_by) with the same closure.
+    /// Nothing is taken before the first run is requested. A run is returned when the first item of
+    /// the next one was taken, or when the source has ended; at most one item after the returned
+    /// runs has been taken.
+    ///
+    /// `same` must be callable with any two items of the source. A run is allocated from `alloc`
+    /// when it is requested. If an allocation for it fails, `Err` is returned in its place; the
+    /// items that were taken and not returned are then dropped, and `None` follows. The Rust crate
+    /// has no such method.
+    ///
+    /// ```
+    /// let runs = [3u32, 2, 1].into_nonempty_iter().runs_by(alloc, |x, y| *x / 2 == *y / 2);
+    /// let runs: Result<NEVec<NEVec<u32>>, AllocError> = runs.collect(alloc)?; // Ok([[3, 2], [1]])
+    /// ```
+    final fn runs_by<F: Fn(&Self::Item, &Self::Item) -> bool + Drop>(
+        self,
+        alloc: Global,
+        same: F,
+    ) -> RunsBy<Self, F>
+    where
+        Self: Sized,
+        Self::Item: Drop,
+        ensures holds { (runs_by_source result ≡ self) × (runs_by_callee result ≡ same) }
+        ensures ends { ⟦<Self as ItemSource>⟧.ends self
+            → ((it : Self.IntoIter) → Self.into_iter_gives self it
+            → CallableOnTwo Self.IntoIter.next_gives F.Fn it same)
+            → ⟦<RunsBy<Self, F> as ItemSource>⟧.ends result }
+        ensures gives { GivesRuns (⟦<RunsBy<Self, F> as ItemSource>⟧.reads)
+            (HasCut (⟦<Self as ItemSource>⟧.reads) F.Fn self same) result }
+        ensures lists { CutsLists item_view (⟦<Self as ItemSource>⟧.lists) self F.Fn same
+            (⟦<RunsBy<Self, F> as IntoIterator>⟧.into_iter_gives)
+            (⟦<RunsByIter<Self::IntoIter, Self::Item, F> as Iterator>⟧.next_gives) result }
+    {
+        RunsBy {
+            iter: self,
+            same,
             alloc,
         }
     }
@@ -569,7 +634,7 @@ pub trait NonEmptyIterator: IntoIterator {
             (map Ok (interspersed separator xs)))
             × JoinsLists separator xs × OnlyItsValues AllocError separator xs) }
         ensures runs { Becomes Self.into_iter_gives self (BeginsRuns Self.IntoIter.next_gives
-            (intersperse_first result) (intersperse_rest result)) }
+            (JoinsLists separator) (intersperse_first result) (intersperse_rest result)) }
     {
         let (first, rest) = self.next();
         Intersperse {
@@ -594,6 +659,9 @@ pub trait NonEmptyIterator: IntoIterator {
         ensures lists { EachView item_view (⟦<Self as ItemSource>⟧.lists) self (λ view xs.
             (h : view.Target → U) → ActsAs F.FnMut f (λ x. h (view.of x))
             → Naming (map h xs) (⟦<Map<Self, F> as ItemSource>⟧.yields_items result)) }
+        ensures through { EachView item_view (⟦<Self as ItemSource>⟧.lists) self
+            (MapsThrough F.FnMut f (⟦<Map<Self, F> as IntoIterator>⟧.into_iter_gives)
+            (⟦<iter::Map<Self::IntoIter, F> as Iterator>⟧.next_gives) result) }
     {
         Map { iter: self, f }
     }

@@ -1,5 +1,5 @@
-//! Laws about the greatest and the least of a list of numbers.
-ghost use Rattle.std.specs.Prelude.{◌≡◌, ◌≤◌, ℕ, List, ◌∷◌};
+//! Laws about the greatest, the least and the sum of a list of numbers.
+ghost use Rattle.std.specs.Prelude.{◌≡◌, ◌*◌, ◌≤◌, ℕ, List, ◌∷◌, length, sum};
 ghost use Rattle.std.specs.List.{All, Contains};
 
 /// A list of numbers that is not empty has exactly one greatest number.
@@ -16,4 +16,9 @@ pub fn numbers_have_one_least()
         → (m : ℕ) × Contains (x ∷ xs) m × All (λ n. m ≤ n) (x ∷ xs) }
     ensures only { (xs : List ℕ) (m n : ℕ) → Contains xs m → All (λ x. m ≤ x) xs
         → Contains xs n → All (λ x. n ≤ x) xs → m ≡ n }
+{}
+
+/// A list of numbers, of which none is above `most`, has a sum of at most `most` for each of them.
+pub fn sums_are_bounded(most: u64)
+    ensures { (xs : List ℕ) → All (λ x. x ≤ most) xs → sum xs ≤ length xs * most }
 {}

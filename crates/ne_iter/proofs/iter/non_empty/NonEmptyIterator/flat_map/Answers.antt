@@ -4,7 +4,7 @@ use Rattle.std.specs.Iterator.Adapters.{map_source, flatten_source, map_steps}
 use Rattle.ne_iter.specs.Calls.{Calls}
 use Rattle.ne_iter.proofs.Map.{DrainsIf-map}
 use Rattle.ne_iter.proofs.Flatten.{DrainsIf-flatten}
-use Rattle.ne_iter.proofs.FlatMap.{flat_map_list, spreads_lists}
+use Rattle.ne_iter.proofs.FlatMap.{flat_map_list, spreads_lists, spreads_views}
 
 pub returns-clause-gives : goal.returns-clause-gives
 returns-clause-gives g c whole zs h =
@@ -26,4 +26,8 @@ returns-clause-gives g c whole zs h =
 pub returns-clause-lists : goal.returns-clause-lists
 returns-clause-lists g c =
     let same = g.met.U.IntoNonEmptyIterator.same_lists in
-    spreads_lists same (flat_map_list (returns-clause-gives g c))
+    let gives = returns-clause-gives g c in (
+      spreads_lists same (flat_map_list gives),
+      spreads_views same gives g.Self.NonEmptyIterator.item_view
+          g.U.IntoNEIter.NonEmptyIterator.item_view,
+    )

@@ -6,8 +6,8 @@ use Rattle.std.specs.List.{list_all}
 use Rattle.std.specs.declared.alloc.AllocError.{AllocError}
 use Rattle.ne_vec.specs.ListLaws.{triggered}
 use Rattle.ne_iter.specs.Cloned.{TriesClone}
-use Rattle.ne_iter.specs.Intersperse.{interspersed}
-use Rattle.ne_iter.proofs.Intersperse.{joined_items, only_its_values, DrainsIf-interspersed}
+use Rattle.ne_iter.specs.Intersperse.{interspersed, JoinsLists}
+use Rattle.ne_iter.proofs.Intersperse.{joins_lists, only_its_values, DrainsIf-interspersed}
 use Rattle.ne_iter.proofs.Intersperse.{intersperse_list}
 use Rattle.ne_iter.proofs.Traced.{begins}
 use Rattle.ne_iter.proofs.SourceLists.{lists_read, read_lists}
@@ -43,7 +43,7 @@ returns-clause-lists g c xs lists = (
     λ none same. read_lists _ _ _ (map Ok (interspersed c.args.separator xs))
         (intersperse_list g.Self.Item.Clone.is_clone g.Self.Item.Clone.is_infallible
         (returns-clause-gives g c) xs none same (lists_read _ _ _ xs lists)),
-    λ f. joined_items f c.args.separator xs,
+    joins_lists c.args.separator xs,
     only_its_values AllocError c.args.separator xs,
   ),
 )
@@ -53,6 +53,6 @@ returns-clause-runs g c =
     let f = c.next-first.ensures.first in (
       f.0,
       f.1,
-      begins g.Self.IntoIter.Iterator.next_gives f.0 c.next-first.result.0
-          c.next-first.result.1 f.2,
+      begins g.Self.IntoIter.Iterator.next_gives (JoinsLists c.args.separator)
+          (joins_lists c.args.separator) f.0 c.next-first.result.0 c.next-first.result.1 f.2,
     )

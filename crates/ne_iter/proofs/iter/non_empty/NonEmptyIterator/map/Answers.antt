@@ -2,7 +2,7 @@ use Rattle.ne_iter.proofs.iter.non_empty.NonEmptyIterator.map.Goals as goal
 use Rattle.std.proofs.Common.{subst}
 use Rattle.std.specs.Iterator.Adapters.{map_source}
 use Rattle.ne_iter.specs.Calls.{Calls}
-use Rattle.ne_iter.proofs.Map.{DrainsIf-map, maps_lists}
+use Rattle.ne_iter.proofs.Map.{DrainsIf-map, maps_lists, maps_through}
 
 pub returns-clause-gives : goal.returns-clause-gives
 returns-clause-gives g c whole ys h =
@@ -17,3 +17,7 @@ returns-clause-gives g c whole ys h =
 pub returns-clause-lists : goal.returns-clause-lists
 returns-clause-lists g c =
     maps_lists g.Self.NonEmptyIterator.item_view (returns-clause-gives g c)
+
+pub returns-clause-through : goal.returns-clause-through
+returns-clause-through g c =
+    maps_through (returns-clause-gives g c) g.Self.NonEmptyIterator.item_view
