@@ -6,8 +6,9 @@
 //! A method that removes an entry never removes the only one. The Rust crate lacks these methods,
 //! and `values_mut`, `into_keys`, `into_values` and `into_map`.
 ghost use Rattle.std.specs.Prelude.{◌≡◌, ◌+◌, ◌<◌, ◌≤◌, ◌^◌, ◌++◌, [], ◌∷◌, if◌then◌else◌, ◌↔◌};
-ghost use Rattle.std.specs.Prelude.{false, is_some, length, None, IfOk, IfSome, IsOk, IsSome};
+ghost use Rattle.std.specs.Prelude.{false, filter, is_some, length, None, IfOk, IfSome, IsOk};
 ghost use Rattle.std.specs.Prelude.{MatchOption, OnErr, OnOk, Some, Bool, Contains, IsErr, IsTrue};
+ghost use Rattle.std.specs.Prelude.{IsSome};
 ghost use Rattle.std.specs.HashMap.{get, get_key, hash_map_len, hasher_of, keys, spare, values};
 ghost use Rattle.std.specs.HashMap.{IsEmpty, IsReordered, IsUnchanged, PutsEntry, IsClone, Updates};
 ghost use Rattle.std.specs.HashMap.IterMut.{iter_mut_name, iter_mut_rest, values_mut_name};
@@ -33,11 +34,13 @@ ghost use Rattle.ne_iter.specs.Keyed.Iterators.{ListsEntries, KnownByValue, List
 ghost use Rattle.ne_iter.specs.SourceLists.{MeetsList};
 ghost use Rattle.ne_iter.specs.Keyed.Clones.{KeepsEntries};
 ghost use Rattle.ne_iter.specs.Keyed.KeptEntries.{either_way, kept_entries, ActsAsAtEntry};
+ghost use Rattle.ne_iter.specs.Keyed.KeptEntries.{TestsEntries};
 ghost use Rattle.ne_hash.specs.HashLends.{std_iterator, std_values_iterator, LendsValue};
 ghost use Rattle.ne_hash.specs.HashLends.{LendsValues};
 ghost use Rattle.ne_hash.specs.ValidHashMap.{IsValid};
 
 mod iter;
+mod texts;
 mod traits;
 
 pub use iter::{Held, IntoIter, IntoKeys, IntoValues, Iter, IterMut, Keys, Values, ValuesMut};
@@ -599,8 +602,8 @@ impl<K: Eq + Hash, V, S: BuildHasher> NEMap<K, V, S> {
     /// map.
     ///
     /// `f` is called once for each entry, in the order of iteration. It must be callable with each
-    /// of them. The clause `kept` covers an `f` whose result and changes depend only on the entry;
-    /// `called` covers any `f`.
+    /// of them. The clause `filtered` covers an `f` that only tests the entry, `kept` one whose
+    /// result and changes depend only on the entry, and `called` any `f`.
     ///
     /// ```
     /// let even = NEMap::new(alloc, 2, 24)?.retain(|k, _v| *k % 2 == 0); // Ok({2: 24})
@@ -615,6 +618,8 @@ impl<K: Eq + Hash, V, S: BuildHasher> NEMap<K, V, S> {
         ensures kept { (keeps : K → V → Bool) (writes : K → V → V)
             → ActsAsAtEntry F.FnMut f keeps writes
             → (either_way result).entries ≡ kept_entries keeps writes self.entries }
+        ensures filtered { (keeps : K × V → Bool) → TestsEntries F.FnMut f keeps
+            → (either_way result).entries ≡ filter keeps self.entries }
         ensures called { RetainsPairs (CalledAtPair F.FnMut) f self.entries
             (either_way result).entries }
         ensures hasher { hasher_of (either_way result) ≡ hasher_of self }

@@ -33,6 +33,7 @@ ghost use Rattle.ne_iter.specs.Keyed.KeptEntries.{either_way};
 ghost use Rattle.ne_hash.specs.ValidHashSet.{IsValid};
 
 mod iter;
+mod texts;
 mod traits;
 
 pub use iter::{Held, IntoIter, Iter, Union};

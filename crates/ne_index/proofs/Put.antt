@@ -1,13 +1,14 @@
 -- Inserting one pair or item, as the crate `indexmap` does it.
 use Rattle.std.proofs.Common.{◌≡◌, Bool, true, false, cond, not, ◌||◌, List, [], ◌∷◌, ◌++◌}
 use Rattle.std.proofs.Common.{if◌then◌else◌, refl, sym, ap, subst, ◌∙◌, Option, None, Some, is_some}
-use Rattle.std.proofs.Common.{true≢false}
+use Rattle.std.proofs.Common.{true≢false, ◌<◌, ℕ, zero, suc, length, slice_get, arith}
 use Rattle.std.specs.Prelude.{IfNone, IsSome}
 use Rattle.std.specs.Bool.{OnTrue}
 use Rattle.std.specs.List.{find, list_any}
-use Rattle.std.specs.Map.{keys_of}
+use Rattle.std.specs.Map.{keys_of, values_of}
 use Rattle.std.specs.Set.{is_member, swap_key}
 use Rattle.indexmap.specs.IndexMap.{IndexMap, get, insert_entry, keys}
+use Rattle.indexmap.specs.Layout.{set_value_at}
 use Rattle.indexmap.specs.IndexSet.{insert_key, replace_key}
 use Rattle.ne_index.specs.Puts.{put_entry, put_in_place, put_item}
 use Rattle.indexmap.proofs.CallerLemmas.{insert_entry-new, keys-insert_entry-present}
@@ -89,3 +90,10 @@ module _ {K : Type 0} (eq : K → K → Bool) where
       by None absent = made ∙ ap (λ b. if b then swap_key (eq x) xs x else xs ++ x ∷ [])
           (sym (found_there (eq x) xs) ∙ ap is_some (sym absent))
       by (Some w) there = tt
+
+-- The value that is written at an index is the one at that index.
+pub value-set_value_at : {K V : Type 0} (es : List (K × V)) (i : ℕ) (w : V) → i < length es
+    → slice_get (values_of (set_value_at es i w)) i ≡ Some w
+value-set_value_at [] i w within = absurd (omega arith)
+value-set_value_at (e ∷ es) zero w within = refl
+value-set_value_at (e ∷ es) (suc i) w within = value-set_value_at es i w (omega arith)

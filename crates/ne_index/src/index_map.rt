@@ -37,6 +37,7 @@ ghost use Rattle.ne_index.specs.ValidIndexMap.{IsValid};
 
 mod iter;
 mod remove;
+mod texts;
 mod traits;
 
 use indexmap::{IndexMap, map};
@@ -427,6 +428,8 @@ impl<K: Eq + Hash, V, S: BuildHasher> NEIndexMap<K, V, S> {
         // Whatever is written, the keys and their number stay.
         ensures stays { (w : V) → (keys (with_value_at self.old 0 w) ≡ keys self.old)
             × (index_map_len (with_value_at self.old 0 w) ≡ index_map_len self.old) }
+        // The value that is written is then the first.
+        ensures written { (w : V) → slice_get (values (with_value_at self.old 0 w)) 0 ≡ Some w }
         // The first key gets the value that is written, and the others keep theirs.
         ensures updates { (k : K) (v w : V) → slice_get self.old.entries 0 ≡ Some (k, v)
             → Updates K.eq self.old (with_value_at self.old 0 w) k (Some w) }
@@ -467,6 +470,9 @@ impl<K: Eq + Hash, V, S: BuildHasher> NEIndexMap<K, V, S> {
         ensures stays { (w : V) → let last = index_map_len self.old - 1 in
             (keys (with_value_at self.old last w) ≡ keys self.old)
             × (index_map_len (with_value_at self.old last w) ≡ index_map_len self.old) }
+        // The value that is written is then the last.
+        ensures written { (w : V) → let last = index_map_len self.old - 1 in
+            slice_get (values (with_value_at self.old last w)) last ≡ Some w }
         // The last key gets the value that is written, and the others keep theirs.
         ensures updates { (k : K) (v w : V) → let last = index_map_len self.old - 1 in
             slice_get self.old.entries last ≡ Some (k, v)
@@ -743,6 +749,8 @@ impl<K: Eq + Hash, V, S: BuildHasher> NEIndexMap<K, V, S> {
         ensures value { slice_get (values self.old) index ≡ Some result.now }
         ensures stays { (w : V) → (keys (with_value_at self.old index w) ≡ keys self.old)
             × (index_map_len (with_value_at self.old index w) ≡ index_map_len self.old) }
+        ensures written { (w : V) → slice_get (values (with_value_at self.old index w)) index
+            ≡ Some w }
         ensures updates { (k : K) (v w : V) → slice_get self.old.entries index ≡ Some (k, v)
             → Updates K.eq self.old (with_value_at self.old index w) k (Some w) }
         ensures valid { IsValid K.eq self.old }

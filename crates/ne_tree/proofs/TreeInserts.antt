@@ -1,6 +1,6 @@
 -- What a tree map or set holds after pairs or items are inserted, one or many.
 use Rattle.std.specs.BTreeSet as set
-use Rattle.std.proofs.Common.{◌≡◌, Bool, List, [], ◌∷◌, ◌++◌, Some, true, sym, subst, ◌∙◌}
+use Rattle.std.proofs.Common.{◌≡◌, Bool, List, [], ◌∷◌, ◌++◌, Some, true, ap, sym, subst, ◌∙◌}
 use Rattle.std.specs.Cmp.{IsTotalOrder, eq_by_cmp_equiv}
 use Rattle.std.specs.Ordering.{eq_by_cmp}
 use Rattle.std.specs.declared.cmp.Ordering.{Ordering}
@@ -12,6 +12,8 @@ use Rattle.std.specs.BTreeSet.{BTreeSet, IsOrdered as AreOrdered}
 use Rattle.ne_iter.specs.Collected.{IsMapOfPairs, IsSetOf}
 use Rattle.ne_iter.specs.CollectedLaws.{map_of-inserts, map_of-more, nonempty-inserts}
 use Rattle.ne_iter.specs.CollectedLaws.{set_of-inserts, set_of-more, nonempty_set-inserts}
+use Rattle.ne_iter.specs.CollectedLaws.{set_of-one}
+use Rattle.std.specs.List.Sorted.{IsStrictlySortedBy}
 use Rattle.ne_tree.specs.ValidTreeMap.{IsValid}
 use Rattle.ne_tree.specs.ValidTreeSet.{IsValid as AreValid}
 use mathlib.Core.Path.{fun_ext}
@@ -57,11 +59,25 @@ module _ {K : Type 0} {eq : K → K → Bool} {cmp : K → K → Ordering} (tota
 
   -- The set after one more item.
   pub set_of-put : (xs : List K) (s t : BTreeSet K) (x : K) → AreOrdered cmp t
-      → set.Updates cmp s t x true → IsSetOf eq xs s.keys → IsSetOf eq (xs ++ x ∷ []) t.keys
+      → set.Updates cmp s t x true → IsSetOf eq xs s.keys
+      → IsSetOf eq (xs ++ x ∷ []) t.keys × set.IsFromIterResult cmp (xs ++ x ∷ []) t
   set_of-put xs s t x o put h =
-      subst (λ (e : K → K → Bool). IsSetOf e (xs ++ x ∷ []) t.keys) by_cmp
-      (set_of-more (eq_by_cmp_equiv total) xs s.keys t.keys x (IsDistinct-from_sorted cmp _ o) put.0
-      (subst (λ (e : K → K → Bool). IsSetOf e xs s.keys) (sym by_cmp) h))
+      let more = set_of-more (eq_by_cmp_equiv total) xs s.keys t.keys x
+      (IsDistinct-from_sorted cmp _ o) put.0
+      (subst (λ (e : K → K → Bool). IsSetOf e xs s.keys) (sym by_cmp) h) in
+      (subst (λ (e : K → K → Bool). IsSetOf e (xs ++ x ∷ []) t.keys) by_cmp more, (more.1, o))
+
+  -- The set of one item.
+  pub set_from-one : (x : K) (s : BTreeSet K) → s.keys ≡ x ∷ []
+      → IsSetOf eq (x ∷ []) s.keys × set.IsFromIterResult cmp (x ∷ []) s
+  unfolding IsStrictlySortedBy
+  set_from-one x s is = (
+    (set_of-one eq x s.keys is).0,
+    (
+      λ q. ap (λ ks. is_member (eq_by_cmp cmp) ks q) is,
+      subst (IsStrictlySortedBy cmp) (sym is) (tt, tt),
+    ),
+  )
 
   -- The same items make the same set.
   pub one_set : (xs : List K) (s t : BTreeSet K) → IsSetOf eq xs s.keys → IsSetOf eq xs t.keys

@@ -9,7 +9,7 @@
 ghost use Rattle.std.specs.Prelude.{◌≡◌, ◌+◌, ◌<◌, ◌^◌, ◌++◌, [], ◌∷◌, if◌then◌else◌, ◌-◌, ◌↔◌};
 ghost use Rattle.std.specs.Prelude.{is_some, false, length, take, slice_get, None, Some, IfOk};
 ghost use Rattle.std.specs.Prelude.{IfSome, IsSome, MatchOption, OnErr, OnOk, Bool, IsErr};
-ghost use Rattle.std.specs.Prelude.{Contains};
+ghost use Rattle.std.specs.Prelude.{Contains, filter};
 ghost use Rattle.std.specs.BTreeMap.{btree_map_len, get, get_key, insert_entry, keys, values};
 ghost use Rattle.std.specs.BTreeMap.{is_at, IsClone, IsEmpty, IsUnchanged, Updates, IsLowerBound};
 ghost use Rattle.std.specs.BTreeMap.{IsRun, IsUpperBound};
@@ -39,11 +39,13 @@ ghost use Rattle.ne_iter.specs.Keyed.Iterators.{ListsEntries, KnownByValue, List
 ghost use Rattle.ne_iter.specs.SourceLists.{MeetsList};
 ghost use Rattle.ne_iter.specs.Keyed.Clones.{KeepsEntries};
 ghost use Rattle.ne_iter.specs.Keyed.KeptEntries.{either_way, kept_entries, ActsAsAtEntry};
+ghost use Rattle.ne_iter.specs.Keyed.KeptEntries.{TestsEntries};
 ghost use Rattle.ne_tree.specs.TreeLends.{std_iterator, std_values_iterator, LendsValue};
 ghost use Rattle.ne_tree.specs.TreeLends.{LendsValues, LendsValuesInside};
 ghost use Rattle.ne_tree.specs.ValidTreeMap.{IsValid};
 
 mod iter;
+mod texts;
 mod traits;
 
 pub use iter::{Held, IntoIter, IntoKeys, IntoValues, Iter, IterMut, Keys, Values, ValuesMut};
@@ -616,8 +618,8 @@ impl<K: Ord, V> NEBTreeMap<K, V> {
     /// or returns the empty map as an error if there is no such entry.
     ///
     /// `f` is called once for each entry, in ascending order of the keys. It must be callable with
-    /// each of them. The clause `kept` covers an `f` whose result and changes depend only on the
-    /// entry; `called` covers any `f`.
+    /// each of them. The clause `filtered` covers an `f` that only tests the entry, `kept` one
+    /// whose result and changes depend only on the entry, and `called` any `f`.
     ///
     /// ```
     /// let even = nebtm![alloc; 2 => 24, 4 => 27]?.retain(|_k, v| *v % 2 == 0); // Ok({2: 24})
@@ -632,6 +634,8 @@ impl<K: Ord, V> NEBTreeMap<K, V> {
         ensures kept { (keeps : K → V → Bool) (writes : K → V → V)
             → ActsAsAtEntry F.FnMut f keeps writes
             → (either_way result).entries ≡ kept_entries keeps writes self.entries }
+        ensures filtered { (keeps : K × V → Bool) → TestsEntries F.FnMut f keeps
+            → (either_way result).entries ≡ filter keeps self.entries }
         ensures called { RetainsPairs (CalledAtPair F.FnMut) f self.entries
             (either_way result).entries }
     {

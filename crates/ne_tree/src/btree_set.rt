@@ -37,6 +37,7 @@ ghost use Rattle.ne_iter.specs.Keyed.KeptEntries.{either_way};
 ghost use Rattle.ne_tree.specs.ValidTreeSet.{IsValid};
 
 mod iter;
+mod texts;
 mod traits;
 
 pub use iter::{Held, IntoIter, Iter, Union};

@@ -1,11 +1,12 @@
 //! The methods of an [`NEIndexMap`] that remove entries. They never remove the only one.
 ghost use Rattle.std.specs.Prelude.{◌≡◌, ◌+◌, ◌-◌, ◌++◌, [], ◌∷◌, if◌then◌else◌, ◌↔◌, is_some};
-ghost use Rattle.std.specs.Prelude.{take, None, Some, IfSome, Bool, IsErr, IsTrue};
+ghost use Rattle.std.specs.Prelude.{filter, take, None, Some, IfSome, Bool, IsErr, IsTrue};
 ghost use Rattle.std.specs.Map.Calls.{CallableOnEachPair, CalledAtPair, RetainsPairs, TakesPair};
 ghost use Rattle.indexmap.specs.IndexMap.{get, get_key, hasher_of, index_map_len};
 ghost use Rattle.indexmap.specs.IndexMap.{shift_remove_entry, swap_remove_entry, Updates, IsEmpty};
 ghost use Rattle.ne_vec.specs.Taken.{TakesFoundUnlessLast, TakesUnlessLast};
 ghost use Rattle.ne_iter.specs.Keyed.KeptEntries.{either_way, kept_entries, ActsAsAtEntry};
+ghost use Rattle.ne_iter.specs.Keyed.KeptEntries.{TestsEntries};
 ghost use Rattle.ne_index.specs.ValidIndexMap.{IsValid};
 
 use super::NEIndexMap;
@@ -162,8 +163,8 @@ impl<K: Eq + Hash, V, S: BuildHasher> NEIndexMap<K, V, S> {
     /// map.
     ///
     /// `f` is called once for each entry, in the map's order. It must be callable with each of
-    /// them. The clause `kept` covers an `f` whose result and changes depend only on the entry;
-    /// `called` covers any `f`.
+    /// them. The clause `filtered` covers an `f` that only tests the entry, `kept` one whose result
+    /// and changes depend only on the entry, and `called` any `f`.
     ///
     /// ```
     /// let map = neim![alloc; 6 => 24, 4 => 25]?;
@@ -179,6 +180,8 @@ impl<K: Eq + Hash, V, S: BuildHasher> NEIndexMap<K, V, S> {
         ensures kept { (keeps : K → V → Bool) (writes : K → V → V)
             → ActsAsAtEntry F.FnMut f keeps writes
             → (either_way result).entries ≡ kept_entries keeps writes self.entries }
+        ensures filtered { (keeps : K × V → Bool) → TestsEntries F.FnMut f keeps
+            → (either_way result).entries ≡ filter keeps self.entries }
         ensures called { RetainsPairs (CalledAtPair F.FnMut) f self.entries
             (either_way result).entries }
         ensures hasher { hasher_of (either_way result) ≡ hasher_of self }

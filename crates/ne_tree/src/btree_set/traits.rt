@@ -1,6 +1,6 @@
 //! The traits of an [`NEBTreeSet`]: conversions, clones, equality as a set, collecting, printing.
 ghost use Rattle.std.specs.Prelude.{◌≡◌, ◌↔◌, ◌++◌, IsTrue, MatchResult};
-ghost use Rattle.std.specs.BTreeSet.{IsClone, IsEmpty, IsSameSet};
+ghost use Rattle.std.specs.BTreeSet.{IsClone, IsEmpty, IsFromIterResult, IsSameSet};
 ghost use Rattle.std.specs.Cmp.{on_equiv, on_per};
 ghost use Rattle.std.specs.Cmp.Lexicographic.{lists_equiv, lists_per, pointwise};
 ghost use Rattle.ne_iter.specs.Collected.{IsSetOf};
@@ -98,7 +98,7 @@ impl<T: Ord + Clone> Clone for NEBTreeSet<T> {
 
 /// Collects items into a set that holds each of them once. The items are in ascending order.
 impl<T: Ord + Drop> FromNonEmptyIterator<T> for NEBTreeSet<T> {
-    ghost collected = { λ xs s. IsSetOf T.eq xs s.keys };
+    ghost collected = { λ xs s. IsSetOf T.eq xs s.keys × IsFromIterResult T.cmp xs s };
 
     fn from_nonempty_iter<I: IntoNonEmptyIterator<Item = T>>(
         alloc: Global,
@@ -120,7 +120,7 @@ impl<T: Ord + Debug> Debug for NEBTreeSet<T> {
 impl<T: Ord + Drop> Singleton for NEBTreeSet<T> {
     type Item = T;
 
-    ghost collected = { λ xs s. IsSetOf T.eq xs s.keys };
+    ghost collected = { λ xs s. IsSetOf T.eq xs s.keys × IsFromIterResult T.cmp xs s };
 
     fn singleton(alloc: Global, item: T) -> Result<NEBTreeSet<T>, AllocError> {
         NEBTreeSet::new(alloc, item)

@@ -3,4 +3,4 @@ use Rattle.ne_tree.proofs.TreeInserts.{one_set}
 
 pub returns-clause-same_set : goal.returns-clause-same_set
 returns-clause-same_set g c = λ items s t a b.
-    one_set g.met.T.Ord.total g.met.T.Ord.matches_eq items s t a b
+    one_set g.met.T.Ord.total g.met.T.Ord.matches_eq items s t a.0 b.0

@@ -12,6 +12,7 @@ returns g c =
         writes_back = tt;
         value = c.value_at.ensures.value;
         stays = λ w. ((c.value_at.ensures.stays w).0, (c.value_at.ensures.stays w).1 ∙ len);
+        written = c.value_at.ensures.written;
         updates = c.value_at.ensures.updates;
         valid = (
           subst (λ n. 0 < n) len c.value_at.ensures.valid.0,

@@ -4,6 +4,7 @@ use Rattle.indexmap.proofs.CallerLemmas.{index_map_len-with_value_at, keys-with_
 use Rattle.indexmap.proofs.CallerLemmas.{updates-with_value_at}
 use Rattle.indexmap.specs.Layout.{length-set_value_at}
 use Rattle.std.specs.List.{IsDistinct}
+use Rattle.ne_index.proofs.Put.{value-set_value_at}
 
 pub invariant_of-self-lent : goal.invariant_of-self-lent
 invariant_of-self-lent g c w = (
@@ -23,6 +24,7 @@ returns g c = (
       keys-with_value_at c.args.self.now c.args.index w,
       index_map_len-with_value_at c.args.self.now c.args.index w,
     );
+    written = λ w. value-set_value_at c.args.self.now.entries c.args.index w c.requires;
     updates = λ k v w at. updates-with_value_at c.args.self.now c.args.index w g.met.K.Eq.laws
         (rw (← c.self.view_is) c.self.invariant.1) k v at;
     valid = rw (← c.self.view_is) c.self.invariant;

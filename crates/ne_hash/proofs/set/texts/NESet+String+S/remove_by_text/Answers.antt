@@ -1,0 +1,12 @@
+use Rattle.ne_hash.proofs.set.texts.NESet+String+S.remove_by_text.Goals as goal
+use Rattle.std.proofs.Common.{◌<◌, subst}
+use Rattle.ne_iter.specs.Keyed.TakenLaws.{on_true, removes_found}
+
+pub returns-then-len-gt1-clause-keys : goal.returns-then-len-gt1-clause-keys
+returns-then-len-gt1-clause-keys g c = rw (← c.self.view_is)
+    (removes_found _ _ (subst (λ n. 1 < n) c.len.ensures.len c.if-len-gt1.true) _ _ c.remove.result
+    c.remove.ensures.test c.remove.ensures.unchanged c.remove.ensures.keys)
+
+pub returns-then-len-gt1-clause-updates : goal.returns-then-len-gt1-clause-updates
+returns-then-len-gt1-clause-updates g c = rw (← c.self.view_is)
+    (on_true c.remove.result c.remove.ensures.updates)

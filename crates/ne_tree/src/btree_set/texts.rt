@@ -1,0 +1,60 @@
+//! The methods of an [`NEBTreeSet`] of `String`s that look an item up by a `&str`, for which no
+//! `String` is made. They stand in place of the Rust crate's `contains("text")` and so on, whose
+//! look-ups take any `Borrow` of the item.
+//!
+//! In contracts, `contains_text s bs` says whether the item whose bytes are bs is in the set.
+ghost use Rattle.std.specs.Prelude.{◌≡◌, ◌+◌, if◌then◌else◌, false, is_some};
+ghost use Rattle.std.specs.Bool.{OnTrue};
+ghost use Rattle.std.specs.BTreeMap.{is_at};
+ghost use Rattle.std.specs.BTreeSet.{btree_set_len, contains_text, get_by, UpdatesBy};
+ghost use Rattle.std.specs.Cmp.Lexicographic.{slice_cmp};
+ghost use Rattle.std.specs.Option.{option_copied};
+ghost use Rattle.std.specs.Ordering.{nat_cmp};
+ghost use Rattle.std.specs.Set.{remove_key};
+ghost use Rattle.std.specs.String.{string_bytes, string_cmp};
+ghost use Rattle.ne_vec.specs.Taken.{RemovesFoundUnlessLast};
+ghost use Rattle.ne_tree.specs.ValidTreeSet.{IsValid};
+
+use super::NEBTreeSet;
+
+impl NEBTreeSet<String> {
+    /// Returns whether the set holds the text `value`.
+    ///
+    /// ```
+    /// let set = NEBTreeSet::new(alloc, String::from_str(alloc, "a")?)?;
+    /// let (there, absent) = (set.contains_by_text("a"), set.contains_by_text("b"));
+    /// // true and false
+    /// ```
+    pub fn contains_by_text(&self, value: &str) -> bool
+        ensures { result ≡ contains_text self.now value.now }
+    {
+        self.inner.contains(value)
+    }
+
+    /// Removes the text `value` and returns whether it was removed: `false` if it is not in the
+    /// set, or is the only item, which then stays.
+    ///
+    /// ```
+    /// let mut set = NEBTreeSet::new(alloc, String::from_str(alloc, "a")?)?;
+    /// set.insert(String::from_str(alloc, "b")?)?;
+    /// let removed = set.remove_by_text("a"); // true, and set is {"b"}
+    /// let kept = set.remove_by_text("b"); // false: the only item stays
+    /// ```
+    pub fn remove_by_text(&mut self, value: &str) -> bool
+        // `false` if and only if the item is absent or the only one; then nothing changes.
+        ensures keys { RemovesFoundUnlessLast (contains_text self.old value.now ≡ false)
+            self.old.keys self.new.keys result (self.new.keys ≡ remove_key
+            (is_at (λ q. slice_cmp nat_cmp value.now (string_bytes q))) self.old.keys) }
+        ensures updates { OnTrue result (UpdatesBy string_cmp
+            (λ q. slice_cmp nat_cmp value.now (string_bytes q)) self.old self.new false) }
+        ensures len { btree_set_len self.new + (if result then 1 else 0)
+            ≡ btree_set_len self.old }
+        ensures valid { IsValid string_cmp self.new }
+    {
+        if self.inner.len() > 1 {
+            self.inner.remove(value)
+        } else {
+            false
+        }
+    }
+}
