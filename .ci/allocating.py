@@ -21,6 +21,7 @@ ITEMS = {
     "GroupBy": "GroupBy::next",
     "ProductIter": "NonEmptyItertools::cartesian_product",
     "RawIntersperse": "NonEmptyIterator::intersperse",
+    "RunsByIter": "NonEmptyIterator::runs_by",
 }
 # Calls that never allocate, although their type allows an `AllocError`; and methods of traits that
 # have a body only in an implementation, each of which is tested.

@@ -27,6 +27,7 @@ pub use Rattle.ne_iter.specs.Keyed.KeptEntries
 pub use Rattle.ne_iter.specs.Keys
 pub use Rattle.ne_iter.specs.Map
 pub use Rattle.ne_iter.specs.Peekable
+pub use Rattle.ne_iter.specs.RunsBy
 pub use Rattle.ne_iter.specs.Keyed.SameMap
 pub use Rattle.ne_iter.specs.Scan
 pub use Rattle.ne_iter.specs.Skip

@@ -31,9 +31,9 @@ pub use ne_iter::laws::{
     groupings_stand_at_any_moment, interspersed_lists_have_their_places, lists_are_read_whole,
     lists_follow_one_another, map_ends, no_list_is_empty, numbers_have_one_greatest,
     numbers_have_one_least, once_ends, peekable_ends, results_are_read_whole,
-    results_make_a_vector, runs_by_a_function, runs_by_keys_are_the_division, runs_make_the_whole,
-    scan_ends, slice_runs_are_the_division, sources_give_what_is_left,
-    std_vectors_give_their_items, stopped_grouping_has_the_first_runs, take_ends,
+    results_make_a_vector, runs_by_a_function, runs_by_ends, runs_by_keys_are_the_division,
+    runs_make_the_whole, scan_ends, slice_runs_are_the_division, sources_give_what_is_left,
+    std_vectors_give_their_items, stopped_grouping_has_the_first_runs, sums_are_bounded, take_ends,
     vectors_give_their_items, vectors_one_by_one_are_collected, whole_reading_gives_the_division,
     zip_ends,
 };

@@ -315,3 +315,35 @@ pub fn into_values(alloc: Global) -> Result<NEVec<u32>, AllocError>
     let values = nem![alloc; 0 => 3, 2 => 1]?.into_values();
     values.collect(alloc)
 }
+
+/// The example of `contains_key_by_text`.
+pub fn contains_key_by_text(alloc: Global) -> Result<(bool, bool), AllocError>
+    ensures { IfOk result (λ r. (r.0 ≡ true) × (r.1 ≡ false)) }
+{
+    let map = NEMap::new(alloc, String::from_str(alloc, "a")?, 24)?;
+    let (there, absent) = (map.contains_key_by_text("a"), map.contains_key_by_text("b"));
+    Ok((there, absent))
+}
+
+/// The example of `get_by_text`.
+pub fn get_by_text(alloc: Global) -> Result<(Option<u32>, Option<u32>), AllocError>
+    ensures { IfOk result (λ r. (r.0 ≡ Some 24) × (r.1 ≡ None)) }
+{
+    let map = NEMap::new(alloc, String::from_str(alloc, "a")?, 24)?;
+    let (some, none) = (map.get_by_text("a"), map.get_by_text("b"));
+    Ok((some.copied(), none.copied()))
+}
+
+/// The example of `remove_by_text`.
+pub fn remove_by_text(
+    alloc: Global,
+) -> Result<(Option<u32>, Option<u32>, NEMap<String, u32>), AllocError>
+    ensures removed { IfOk result (λ r. r.0 ≡ Some 26) }
+    ensures none { IfOk result (λ r. r.1 ≡ None) }
+{
+    let mut map = NEMap::new(alloc, String::from_str(alloc, "a")?, 24)?;
+    map.insert(String::from_str(alloc, "b")?, 26)?;
+    let removed = map.remove_by_text("b");
+    let none = map.remove_by_text("a");
+    Ok((removed, none, map))
+}

@@ -2,7 +2,7 @@
 ghost use Rattle.std.specs.Prelude.{◌≡◌, ◌+◌, ◌≤◌, [], ◌∷◌, true, false, IfOk};
 ghost use Rattle.std.specs.Prelude.{None, Some, IsErr, IsOkAnd};
 ghost use Rattle.std.specs.Option.{IsSomeAnd};
-ghost use Rattle.indexmap.specs.IndexMap.{index_map_len, keys, spare};
+ghost use Rattle.indexmap.specs.IndexMap.{index_map_len, keys, spare, values};
 
 use indexmap::IndexMap;
 use nonempty_collections::{NEIndexMap, NEVec, NonEmptyIterator, neim};
@@ -377,4 +377,52 @@ pub fn index(alloc: Global) -> Result<u32, AllocError>
     let map = neim![alloc; 4 => 26, 2 => 24]?;
     let value = map[1];
     Ok(value)
+}
+
+/// The example of `contains_key_by_text`.
+pub fn contains_key_by_text(alloc: Global) -> Result<(bool, bool), AllocError>
+    ensures { IfOk result (λ r. (r.0 ≡ true) × (r.1 ≡ false)) }
+{
+    let map = NEIndexMap::new(alloc, String::from_str(alloc, "a")?, 24)?;
+    let (there, absent) = (map.contains_key_by_text("a"), map.contains_key_by_text("b"));
+    Ok((there, absent))
+}
+
+/// The example of `get_by_text`.
+pub fn get_by_text(alloc: Global) -> Result<(Option<u32>, Option<u32>), AllocError>
+    ensures { IfOk result (λ r. (r.0 ≡ Some 24) × (r.1 ≡ None)) }
+{
+    let map = NEIndexMap::new(alloc, String::from_str(alloc, "a")?, 24)?;
+    let (some, none) = (map.get_by_text("a"), map.get_by_text("b"));
+    Ok((some.copied(), none.copied()))
+}
+
+/// The example of `swap_remove_by_text`.
+pub fn swap_remove_by_text(
+    alloc: Global,
+) -> Result<(Option<u32>, Option<u32>, NEIndexMap<String, u32>), AllocError>
+    ensures removed { IfOk result (λ r. r.0 ≡ Some 24) }
+    ensures none { IfOk result (λ r. r.1 ≡ None) }
+    ensures map { IfOk result (λ r. values r.2 ≡ 26 ∷ []) }
+{
+    let mut map = NEIndexMap::new(alloc, String::from_str(alloc, "a")?, 24)?;
+    map.insert(String::from_str(alloc, "b")?, 26)?;
+    let removed = map.swap_remove_by_text("a");
+    let none = map.swap_remove_by_text("b");
+    Ok((removed, none, map))
+}
+
+/// The example of `shift_remove_by_text`.
+pub fn shift_remove_by_text(
+    alloc: Global,
+) -> Result<(Option<u32>, Option<u32>, NEIndexMap<String, u32>), AllocError>
+    ensures removed { IfOk result (λ r. r.0 ≡ Some 24) }
+    ensures none { IfOk result (λ r. r.1 ≡ None) }
+    ensures map { IfOk result (λ r. values r.2 ≡ 26 ∷ []) }
+{
+    let mut map = NEIndexMap::new(alloc, String::from_str(alloc, "a")?, 24)?;
+    map.insert(String::from_str(alloc, "b")?, 26)?;
+    let removed = map.shift_remove_by_text("a");
+    let none = map.shift_remove_by_text("b");
+    Ok((removed, none, map))
 }

@@ -229,7 +229,7 @@ pub fn clone(alloc: Global) -> Result<bool, AllocError>
 /// The example of `swap_remove`.
 pub fn swap_remove(alloc: Global) -> Result<(bool, bool, NEIndexSet<u32>), AllocError>
     ensures removed { IfOk result (λ r. r.0 ≡ true) }
-    ensures absent { IfOk result (λ r. r.1 ≡ false) }
+    ensures kept { IfOk result (λ r. r.1 ≡ false) }
     ensures set { IfOk result (λ r. r.2.keys ≡ 6 ∷ 4 ∷ []) }
 {
     let mut set = neis![alloc; 2, 4, 6]?;
@@ -307,4 +307,37 @@ pub fn retain(
     let even = neis![alloc; 6, 5]?.retain(|x| *x % 2 == 0);
     let none = neis![alloc; 1, 3]?.retain(|x| *x % 2 == 0);
     Ok((even, none))
+}
+
+/// The example of `contains_by_text`.
+pub fn contains_by_text(alloc: Global) -> Result<(bool, bool), AllocError>
+    ensures { IfOk result (λ r. (r.0 ≡ true) × (r.1 ≡ false)) }
+{
+    let set = NEIndexSet::new(alloc, String::from_str(alloc, "a")?)?;
+    let (there, absent) = (set.contains_by_text("a"), set.contains_by_text("b"));
+    Ok((there, absent))
+}
+
+/// The example of `swap_remove_by_text`.
+pub fn swap_remove_by_text(alloc: Global) -> Result<(bool, bool, NEIndexSet<String>), AllocError>
+    ensures removed { IfOk result (λ r. r.0 ≡ true) }
+    ensures absent { IfOk result (λ r. r.1 ≡ false) }
+{
+    let mut set = NEIndexSet::new(alloc, String::from_str(alloc, "a")?)?;
+    set.insert(String::from_str(alloc, "b")?)?;
+    let removed = set.swap_remove_by_text("a");
+    let kept = set.swap_remove_by_text("b");
+    Ok((removed, kept, set))
+}
+
+/// The example of `shift_remove_by_text`.
+pub fn shift_remove_by_text(alloc: Global) -> Result<(bool, bool, NEIndexSet<String>), AllocError>
+    ensures removed { IfOk result (λ r. r.0 ≡ true) }
+    ensures kept { IfOk result (λ r. r.1 ≡ false) }
+{
+    let mut set = NEIndexSet::new(alloc, String::from_str(alloc, "a")?)?;
+    set.insert(String::from_str(alloc, "b")?)?;
+    let removed = set.shift_remove_by_text("a");
+    let kept = set.shift_remove_by_text("b");
+    Ok((removed, kept, set))
 }

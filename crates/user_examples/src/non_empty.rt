@@ -7,6 +7,7 @@ ghost use Rattle.std.specs.Prelude.{None, Ok, Some, false, true, map, filter, fo
 ghost use Rattle.std.specs.Bool.{then_some};
 ghost use Rattle.std.specs.List.{scan, filter_map, flat_map, prefix_len, reduce, take_while, zip};
 ghost use Rattle.std.specs.Ordering.{nat_cmp};
+ghost use Rattle.nonempty_collections.specs.Divisions.{by_first, runs_of};
 ghost use Rattle.nonempty_collections.specs.Intersperse.{interspersed};
 ghost use Rattle.nonempty_collections.specs.KeyOrder.{KeysAscend};
 ghost use Rattle.nonempty_collections.specs.Keys.{IsDividedBy};
@@ -180,6 +181,18 @@ pub fn group_by(alloc: Global) -> Result<Result<NEVec<NEVec<u32>>, AllocError>, 
     let runs = [3u32, 2, 1]
         .into_nonempty_iter()
         .group_by(alloc, |x| *x / 2);
+    let runs: Result<NEVec<NEVec<u32>>, AllocError> = runs.collect(alloc)?;
+    Ok(runs)
+}
+
+/// The runs by the halves, with no keys. Their list is only run.
+pub fn runs_by(alloc: Global) -> Result<Result<NEVec<NEVec<u32>>, AllocError>, AllocError>
+    ensures { IfOk result (λ runs. IfOk runs (λ rs. rs
+        ≡ runs_of by_first (λ x y. nat_eq (x / 2) (y / 2)) (3 ∷ 2 ∷ 1 ∷ []))) }
+{
+    let runs = [3u32, 2, 1]
+        .into_nonempty_iter()
+        .runs_by(alloc, |x, y| *x / 2 == *y / 2);
     let runs: Result<NEVec<NEVec<u32>>, AllocError> = runs.collect(alloc)?;
     Ok(runs)
 }

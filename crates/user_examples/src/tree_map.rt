@@ -1,6 +1,6 @@
 //! The examples of tree maps.
 ghost use Rattle.std.specs.Prelude.{◌≡◌, [], ◌∷◌, true, false, IfOk, None, Some, IsErr, IsOkAnd};
-ghost use Rattle.std.specs.BTreeMap.{keys};
+ghost use Rattle.std.specs.BTreeMap.{keys, values};
 ghost use Rattle.std.specs.Option.{IsSomeAnd};
 
 use nonempty_collections::{NEBTreeMap, NEVec, NonEmptyIterator, nebtm};
@@ -298,4 +298,37 @@ pub fn range(alloc: Global) -> Result<Vec<(u32, u32)>, AllocError>
     let map = nebtm![alloc; 2 => 24, 4 => 26, 6 => 23]?;
     let pairs = map.range(3..7);
     pairs.map(|(k, v)| (*k, *v)).collect(alloc)
+}
+
+/// The example of `contains_key_by_text`.
+pub fn contains_key_by_text(alloc: Global) -> Result<(bool, bool), AllocError>
+    ensures { IfOk result (λ r. (r.0 ≡ true) × (r.1 ≡ false)) }
+{
+    let map = NEBTreeMap::new(alloc, String::from_str(alloc, "a")?, 24)?;
+    let (there, absent) = (map.contains_key_by_text("a"), map.contains_key_by_text("b"));
+    Ok((there, absent))
+}
+
+/// The example of `get_by_text`.
+pub fn get_by_text(alloc: Global) -> Result<(Option<u32>, Option<u32>), AllocError>
+    ensures { IfOk result (λ r. (r.0 ≡ Some 24) × (r.1 ≡ None)) }
+{
+    let map = NEBTreeMap::new(alloc, String::from_str(alloc, "a")?, 24)?;
+    let (some, none) = (map.get_by_text("a"), map.get_by_text("b"));
+    Ok((some.copied(), none.copied()))
+}
+
+/// The example of `remove_by_text`.
+pub fn remove_by_text(
+    alloc: Global,
+) -> Result<(Option<u32>, Option<u32>, NEBTreeMap<String, u32>), AllocError>
+    ensures removed { IfOk result (λ r. r.0 ≡ Some 24) }
+    ensures none { IfOk result (λ r. r.1 ≡ None) }
+    ensures map { IfOk result (λ r. values r.2 ≡ 26 ∷ []) }
+{
+    let mut map = NEBTreeMap::new(alloc, String::from_str(alloc, "a")?, 24)?;
+    map.insert(String::from_str(alloc, "b")?, 26)?;
+    let removed = map.remove_by_text("a");
+    let none = map.remove_by_text("b");
+    Ok((removed, none, map))
 }

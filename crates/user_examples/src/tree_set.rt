@@ -284,3 +284,24 @@ pub fn range(alloc: Global) -> Result<Vec<u32>, AllocError>
     let items = set.range(3..7);
     items.copied().collect(alloc)
 }
+
+/// The example of `contains_by_text`.
+pub fn contains_by_text(alloc: Global) -> Result<(bool, bool), AllocError>
+    ensures { IfOk result (λ r. (r.0 ≡ true) × (r.1 ≡ false)) }
+{
+    let set = NEBTreeSet::new(alloc, String::from_str(alloc, "a")?)?;
+    let (there, absent) = (set.contains_by_text("a"), set.contains_by_text("b"));
+    Ok((there, absent))
+}
+
+/// The example of `remove_by_text`.
+pub fn remove_by_text(alloc: Global) -> Result<(bool, bool, NEBTreeSet<String>), AllocError>
+    ensures removed { IfOk result (λ r. r.0 ≡ true) }
+    ensures kept { IfOk result (λ r. r.1 ≡ false) }
+{
+    let mut set = NEBTreeSet::new(alloc, String::from_str(alloc, "a")?)?;
+    set.insert(String::from_str(alloc, "b")?)?;
+    let removed = set.remove_by_text("a");
+    let kept = set.remove_by_text("b");
+    Ok((removed, kept, set))
+}

@@ -1,6 +1,8 @@
 //! The examples of the vector.
 ghost use Rattle.std.specs.Prelude.{◌≡◌, ◌/◌, ◌%◌, ◌==◌, ◌∷◌, [], List, ℕ, IfOk, MatchResult};
-ghost use Rattle.std.specs.Prelude.{None, Ok, Some, codes, true, false, length, filter, map};
+ghost use Rattle.std.specs.Prelude.{None, Ok, Some, codes, true, false, length, ltb, filter, map};
+ghost use Rattle.std.specs.Int.{abs_diff};
+ghost use Rattle.nonempty_collections.specs.Divisions.{by_first, by_previous, runs_of};
 
 use nonempty_collections::{NESlice, NEVec, NonEmptyIterator, nev};
 use std::alloc::{AllocError, Global};
@@ -364,6 +366,26 @@ pub fn nonempty_chunks(alloc: Global) -> Result<(usize, usize, usize), AllocErro
         chunks[0].len().get(),
         chunks[1].len().get(),
     ))
+}
+
+/// The numbers are only run.
+pub fn runs_by(alloc: Global) -> Result<NEVec<usize>, AllocError>
+    ensures { IfOk result (λ r. (xs : List ℕ) → xs ≡ 1 ∷ 2 ∷ 3 ∷ []
+        → r ≡ map (λ c. length c) (runs_of by_first (λ a b. ltb (abs_diff a b) 2) xs)) }
+{
+    let items = nev![alloc; 1u32, 2, 3]?;
+    let runs = items.runs_by(|a, b| a.abs_diff(*b) < 2);
+    runs.map(|c| c.len().get()).collect(alloc)
+}
+
+/// The numbers are only run.
+pub fn adjacent_runs(alloc: Global) -> Result<NEVec<usize>, AllocError>
+    ensures { IfOk result (λ r. (xs : List ℕ) → xs ≡ 1 ∷ 2 ∷ 3 ∷ []
+        → r ≡ map (λ c. length c) (runs_of by_previous (λ a b. ltb (abs_diff a b) 2) xs)) }
+{
+    let items = nev![alloc; 1u32, 2, 3]?;
+    let runs = items.adjacent_runs(|a, b| a.abs_diff(*b) < 2);
+    runs.map(|c| c.len().get()).collect(alloc)
 }
 
 /// The example of `swap`.

@@ -243,7 +243,7 @@ pub fn least_chunks(v: &NEVec<u32>, n: NonZeroUsize) -> usize
 
 /// Returns the first run of a slice.
 pub fn first_run_of_slice<'a, T, F: Fn(&T, &T) -> bool + Drop>(
-    items: &'a NESlice<'a, T>,
+    items: &NESlice<'a, T>,
     same: F,
 ) -> NESlice<'a, T>
     requires { CallableAtPairs F.Fn same items.now }

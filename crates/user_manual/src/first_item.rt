@@ -1,7 +1,7 @@
 //! The first item of a source: whether there is one, and what comes after it.
-ghost use Rattle.std.specs.Prelude.{◌≡◌, ◌/◌, ◌<◌, ◌≤◌, ◌∷◌, [], drop, filter, map};
-ghost use Rattle.std.specs.Prelude.{slice_get, take, true, IfOk, MatchOption, Some, ltb};
-ghost use Rattle.std.specs.List.{All, Contains, list_all};
+ghost use Rattle.std.specs.Prelude.{◌≡◌, ◌+◌, ◌/◌, ◌%◌, ◌^◌, ◌<◌, ◌≤◌, ◌∷◌, [], drop, filter, map};
+ghost use Rattle.std.specs.Prelude.{slice_get, take, true, IfOk, MatchOption, Some, eqb, ltb};
+ghost use Rattle.std.specs.List.{All, Contains, fold, list_all};
 ghost use Rattle.std.specs.Int.NonZero.{non_zero_usize_get};
 
 use nonempty_collections::{IntoIteratorExt, IntoNonEmptyIterator, NEVec, NonEmptyIterator};
@@ -40,6 +40,41 @@ pub fn greatest_if_any(items: Vec<u32>) -> Option<u32>
     ensures bound { MatchOption result (items.items ≡ []) (λ m. All (λ x. x ≤ m) items.items) }
 {
     Some(items.try_into_nonempty_iter()?.max())
+}
+
+/// Returns the wrapping sum of a vector that may be empty.
+pub fn wrapping_sum(items: Vec<u32>) -> u32
+    ensures { result ≡ fold (λ total x. (total + x) % 2 ^ 32) 0 items.items }
+{
+    match items.try_into_nonempty_iter() {
+        Some(items) => items.fold(0, |total: u32, x| total.wrapping_add(x)),
+        None => 0,
+    }
+}
+
+/// Returns the wrapping sum of the bytes of a text.
+pub fn checksum(text: &str) -> u32
+    ensures { result ≡ fold (λ total x. (total + x) % 2 ^ 32) 0 text.now }
+{
+    match text.bytes().try_into_nonempty_iter() {
+        Some(bytes) => bytes.fold(0, |total: u32, x| total.wrapping_add(u32::from(x))),
+        None => 0,
+    }
+}
+
+/// Returns the even items of a vector that may be empty, or `None` if there is none.
+pub fn even(alloc: Global, items: Vec<u32>) -> Result<Option<NEVec<u32>>, AllocError>
+    ensures { IfOk result (λ o. MatchOption o (filter (λ x. eqb (x % 2) 0) items.items ≡ [])
+        (λ v. v ≡ filter (λ x. eqb (x % 2) 0) items.items)) }
+{
+    match items
+        .into_iter()
+        .filter(|x| *x % 2 == 0)
+        .try_into_nonempty_iter()
+    {
+        Some(even) => Ok(Some(even.collect(alloc)?)),
+        None => Ok(None),
+    }
 }
 
 /// Returns the item at index 2, or `None` if there are fewer than three.

@@ -1,11 +1,13 @@
 //! Items with a separator between each two of them: texts joined into one, and numbers.
 //!
 //! `join_by` is std's function for what `join` of a slice returns.
-ghost use Rattle.std.specs.Prelude.{◌≡◌, ◌++◌, take, map, nat_eq, cond, IfOk, string_bytes};
+ghost use Rattle.std.specs.Prelude.{◌≡◌, ◌+◌, ◌*◌, ◌++◌, take, map, nat_eq, cond, IfOk};
+ghost use Rattle.std.specs.Prelude.{codes, length, string_bytes};
 ghost use Rattle.std.specs.Int.NonZero.{non_zero_usize_get};
-ghost use Rattle.std.specs.List.{join_by};
+ghost use Rattle.std.specs.List.{flat_map, join_by};
 ghost use Rattle.nonempty_collections.specs.Intersperse.{interspersed};
 
+use crate::nested::Order;
 use nonempty_collections::{IntoNonEmptyIterator, NEVec, NonEmptyIterator};
 use std::alloc::{AllocError, Global};
 use std::num::NonZeroUsize;
@@ -24,6 +26,29 @@ pub fn joined<'a>(
         .copied()
         .intersperse(separator)
         .collect::<Result<String, AllocError>>(alloc)?
+}
+
+/// Returns the names of the customers as one text, with a comma between each two.
+pub fn customers(alloc: Global, orders: &NEVec<Order>) -> Result<String, AllocError>
+    ensures { IfOk result (λ text.
+        string_bytes text ≡ join_by (λ o. string_bytes o.customer) (codes ", ") orders.now) }
+{
+    orders
+        .nonempty_iter()
+        .map(|o| o.customer.as_str())
+        .intersperse(", ")
+        .collect::<Result<String, AllocError>>(alloc)?
+}
+
+/// Returns the names of the customers, one after another, as one text.
+pub fn customers_together(alloc: Global, orders: &NEVec<Order>) -> Result<String, AllocError>
+    ensures { IfOk result (λ text.
+        string_bytes text ≡ flat_map (λ o. string_bytes o.customer) orders.now) }
+{
+    orders
+        .nonempty_iter()
+        .map(|o| o.customer.as_str())
+        .collect(alloc)
 }
 
 /// Returns the first `n` names as one text.
@@ -93,4 +118,14 @@ pub fn with_zeros(
         .copied()
         .intersperse(0)
         .collect(alloc)
+}
+
+/// Returns the same, of which the length is stated.
+pub fn separated(alloc: Global, numbers: NEVec<u64>) -> Result<NEVec<u64>, AllocError>
+    ensures { IfOk result (λ v. length v + 1 ≡ 2 * length numbers) }
+{
+    numbers
+        .into_nonempty_iter()
+        .intersperse(0)
+        .collect::<Result<NEVec<u64>, AllocError>>(alloc)?
 }

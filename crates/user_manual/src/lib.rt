@@ -2,9 +2,10 @@
 //!
 //! Each shows what no example in a comment shows (`user_examples`): chains, references, texts,
 //! sources of any type, and maps and sets in general. They are proved from the public contracts of
-//! what they call. Two have a proof file: `pairs_of_any_sources`, the only one that calls a law,
-//! and `how_many_small`, for its loop. Most ensure the exact result. If less is proved today, as of
-//! `unzip` of texts, the function ensures that.
+//! what they call. Two have a proof file: `pairs_of_any_sources`, which calls a law, and
+//! `how_many_small`, for its loop. `total_of_few` and two functions of `runs` call a law too. Most
+//! ensure the exact result. If less is proved today, as of `unzip` of texts, the function ensures
+//! that.
 #![tactic(auto)]
 
 pub mod adapters;
@@ -23,3 +24,4 @@ pub mod runs;
 pub mod sources;
 pub mod start;
 pub mod texts;
+pub mod vectors;

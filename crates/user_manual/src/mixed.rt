@@ -1,10 +1,11 @@
 //! Chains of adapters over arrays, references, texts and structs.
-ghost use Rattle.std.specs.Prelude.{◌≡◌, ◌+◌, ◌++◌, ◌∷◌, map, take, drop, length, nat_eq};
-ghost use Rattle.std.specs.Prelude.{IfOk, ltb};
+ghost use Rattle.std.specs.Prelude.{◌≡◌, ◌+◌, ◌-◌, ◌%◌, ◌^◌, ◌++◌, ◌∷◌, map, take, drop, length};
+ghost use Rattle.std.specs.Prelude.{IfOk, IfSome, ltb, nat_eq, slice_get};
 ghost use Rattle.std.specs.List.{zip};
 ghost use Rattle.std.specs.Int.NonZero.{non_zero_usize_get};
 ghost use Rattle.nonempty_collections.specs.Collected.{IsMapOfPairs};
 
+use crate::nested::Order;
 use nonempty_collections::{IntoNonEmptyIterator, NEVec, NonEmptyIterator};
 use std::alloc::{AllocError, Global};
 use std::collections::BTreeMap;
@@ -63,6 +64,16 @@ pub fn greater_than_first(
     let first = *source.peek();
     let greater = source.map(|x| first < x).collect(alloc)?;
     Ok((first, greater))
+}
+
+/// Returns the days from the first order on, with `peekable` over references.
+pub fn days_since_first(alloc: Global, orders: &NEVec<Order>) -> Result<NEVec<u32>, AllocError>
+    ensures { IfOk result (λ v. IfSome (slice_get orders.now 0) (λ first.
+        v ≡ map (λ o. (o.day + (2 ^ 32 - first.day)) % 2 ^ 32) orders.now)) }
+{
+    let source = orders.nonempty_iter().peekable();
+    let first = source.peek().day;
+    source.map(|o| o.day.wrapping_sub(first)).collect(alloc)
 }
 
 /// Returns the items, with `x` in place of the first one, with `peek_mut`.

@@ -1,11 +1,57 @@
 //! The items of several sources, one source after another.
-ghost use Rattle.std.specs.Prelude.{◌≡◌, take, IfOk};
+ghost use Rattle.std.specs.Prelude.{◌≡◌, ◌/◌, map, take, IfOk};
 ghost use Rattle.std.specs.List.{flat_map};
 ghost use Rattle.std.specs.Int.NonZero.{non_zero_usize_get};
 
 use nonempty_collections::{IntoNonEmptyIterator, NEVec, NonEmptyIterator};
 use std::alloc::{AllocError, Global};
 use std::num::NonZeroUsize;
+
+/// An order of several amounts.
+#[derive(Drop)]
+pub struct Order {
+    pub id: u32,
+    pub customer: String,
+    pub day: u32,
+    pub amounts: NEVec<u32>,
+}
+
+/// Returns the amounts of all orders.
+pub fn all_amounts(alloc: Global, orders: &NEVec<Order>) -> Result<NEVec<u32>, AllocError>
+    ensures { IfOk result (λ v. v ≡ flat_map (λ o. o.amounts) orders.now) }
+{
+    orders
+        .nonempty_iter()
+        .flat_map(|o| &o.amounts)
+        .copied()
+        .collect(alloc)
+}
+
+/// Returns half of each amount.
+pub fn half_amounts(alloc: Global, orders: &NEVec<Order>) -> Result<NEVec<u32>, AllocError>
+    ensures { IfOk result (λ v.
+        v ≡ map (λ x. x / 2) (flat_map (λ o. o.amounts) orders.now)) }
+{
+    orders
+        .nonempty_iter()
+        .flat_map(|o| &o.amounts)
+        .map(|x| *x / 2)
+        .collect(alloc)
+}
+
+/// Returns the amounts of all orders, which are passed by value, by a closure with a contract.
+pub fn into_amounts(alloc: Global, orders: NEVec<Order>) -> Result<NEVec<u32>, AllocError>
+    ensures { IfOk result (λ v. v ≡ flat_map (λ o. o.amounts) orders) }
+{
+    orders
+        .into_nonempty_iter()
+        .flat_map(
+            |order: Order| -> NEVec<u32>
+                ensures { result ≡ order.amounts }
+            { order.amounts },
+        )
+        .collect(alloc)
+}
 
 /// Returns the first `n` items of several vectors.
 pub fn first_joined(

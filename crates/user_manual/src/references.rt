@@ -1,6 +1,7 @@
 //! Chains over references, which read structs and numbers where they are, without a copy.
 ghost use Rattle.std.specs.Prelude.{◌≡◌, ◌/◌, ◌++◌, ◌∷◌, ◌<◌, ◌≤◌, ◌^◌, [], map, sum, take, drop};
 ghost use Rattle.std.specs.Prelude.{length, slice_get, Some, None, IfOk, OnOk, IsPermutation, ltb};
+ghost use Rattle.std.specs.Prelude.{string_bytes};
 ghost use Rattle.std.specs.Prelude.{cond, nat_eq, ℕ};
 ghost use Rattle.std.specs.List.{All, Contains, enumerate_from, filter, filter_map, find, flat_map};
 ghost use Rattle.std.specs.List.{fold, list_all, list_any, prefix_len, scan, take_while, zip};
@@ -10,6 +11,8 @@ ghost use Rattle.std.specs.Ordering.{nat_cmp};
 ghost use Rattle.nonempty_collections.specs.Consumers.{IsFirstLeast};
 ghost use Rattle.nonempty_collections.specs.KeyOrder.{KeepsTies, KeysAscend};
 
+use crate::nested::Order;
+use nonempty_collections::laws::sums_are_bounded;
 use nonempty_collections::{IntoNonEmptyIterator, NEBTreeMap, NEVec, NonEmptyIterator, iter};
 use std::alloc::{AllocError, Global};
 use std::num::NonZeroUsize;
@@ -133,6 +136,16 @@ pub fn total_of_both(sales: &NEVec<Sale>, others: &NEVec<Sale>) -> u32
     ensures { result ≡ sum (map (λ s. s.price) (sales.now ++ others.now)) }
 {
     sales.nonempty_iter().chain(others).map(|s| s.price).sum()
+}
+
+/// Returns the sum of few prices, of which none is above 1000. A law bounds it.
+pub fn total_of_few(sales: &NEVec<Sale>) -> u32
+    requires each { All (λ price. price ≤ 1000) (map (λ s. s.price) sales.now) }
+    requires few { length sales.now ≤ 1000 }
+    ensures { result ≡ sum (map (λ s. s.price) sales.now) }
+{
+    sums_are_bounded(1000);
+    sales.nonempty_iter().map(|s| s.price).sum()
 }
 
 /// Returns how many prices are below 10.
@@ -309,6 +322,44 @@ pub fn prices_before(alloc: Global, sales: &NEVec<Sale>) -> Result<NEVec<u32>, A
         price
     };
     sales.nonempty_iter().scan(0, step).collect(alloc)
+}
+
+/// Returns references to the numbers of the orders.
+pub fn ids<'a>(alloc: Global, orders: &'a NEVec<Order>) -> Result<NEVec<&'a u32>, AllocError>
+    ensures { IfOk result (λ v. map (λ x. x.now) v ≡ map (λ o. o.id) orders.now) }
+{
+    orders.nonempty_iter().map(|o| &o.id).collect(alloc)
+}
+
+/// Returns references to the amounts of the orders.
+pub fn amounts<'a>(
+    alloc: Global,
+    orders: &'a NEVec<Order>,
+) -> Result<NEVec<&'a NEVec<u32>>, AllocError>
+    ensures { IfOk result (λ v. map (λ x. x.now) v ≡ map (λ o. o.amounts) orders.now) }
+{
+    orders.nonempty_iter().map(|o| &o.amounts).collect(alloc)
+}
+
+/// Returns the names of the customers.
+pub fn customers<'a>(alloc: Global, orders: &'a NEVec<Order>) -> Result<NEVec<&'a str>, AllocError>
+    ensures { IfOk result (λ v.
+        map (λ x. x.now) v ≡ map (λ o. string_bytes o.customer) orders.now) }
+{
+    orders
+        .nonempty_iter()
+        .map(|o| o.customer.as_str())
+        .collect(alloc)
+}
+
+/// Returns references to the orders in pairs, of which a field is compared.
+pub fn second_of_each<'a>(
+    alloc: Global,
+    pairs: &'a NEVec<(u32, Order)>,
+) -> Result<NEVec<&'a Order>, AllocError>
+    ensures { IfOk result (λ v. map (λ o. o.now.id) v ≡ map (λ p. p.1.id) pairs.now) }
+{
+    pairs.nonempty_iter().map(|p| &p.1).collect(alloc)
 }
 
 /// Returns the buyers, each from a source of its own.

@@ -66,6 +66,28 @@ fn equal_items(rt: HostRuntime) -> Result<(), Fail> {
     )
 }
 
+// The runs are 4 and 3, and then 2 and 1. Each item but the first of a run is compared once, and
+// one item is drawn after a run to find its end.
+#[test]
+fn draws_and_comparisons(rt: HostRuntime) -> Result<(), Fail> {
+    let (draws, calls) = (Cell::new(0u32), Cell::new(0u32));
+    let mut reader = down_from(4, &draws)
+        .runs_by(rt.alloc(), |first, x| {
+            bump(&calls);
+            first.abs_diff(*x) < 2
+        })
+        .into_iter();
+    is((draws.get(), calls.get()), (0, 0))?;
+    let first = reader.next().ok_or("no run")??;
+    is((first.len().get(), draws.get(), calls.get()), (2, 3, 2))?;
+    let second = reader.next().ok_or("no run")??;
+    is((*second.first(), draws.get(), calls.get()), (2, 5, 3))?;
+    is(
+        (reader.next().is_none(), draws.get(), calls.get()),
+        (true, 5, 3),
+    )
+}
+
 // The closure is called once for each item that is drawn, and not again at the end.
 #[test]
 fn calls_of_scan(rt: HostRuntime) -> Result<(), Fail> {

@@ -1,8 +1,10 @@
 //! Index maps and sets.
 ghost use Rattle.std.specs.Prelude.{◌≡◌, ◌≤◌, ◌+◌, ◌/◌, ◌++◌, ◌↔◌, [], ◌∷◌, map, nat_eq, IfOk};
-ghost use Rattle.std.specs.Prelude.{All, IfSome, IsTrue, None, OnOk, Some, true};
-ghost use Rattle.indexmap.specs.IndexMap.{get, hasher_of};
-ghost use Rattle.indexmap.specs.IndexSet.{union, IsSameSet};
+ghost use Rattle.std.specs.Prelude.{All, IfSome, IsTrue, MatchOption, None, OnOk, Some, true};
+ghost use Rattle.std.specs.Prelude.{◌%◌, ◌⊎◌, filter, ltb, slice_get};
+ghost use Rattle.std.specs.String.{string_bytes};
+ghost use Rattle.indexmap.specs.IndexMap.{get, get_by_text, hasher_of, keys, values};
+ghost use Rattle.indexmap.specs.IndexSet.{contains, union, IsSameSet};
 ghost use Rattle.nonempty_collections.specs.KeyList.{key_list, IsKeyListMapOf};
 ghost use Rattle.nonempty_collections.specs.SameMap.{IsSameMap};
 
@@ -180,4 +182,66 @@ pub fn removed_value(map: &mut NEIndexMap<u32, u32>, k: u32) -> Option<u32>
     ensures none { result ≡ None → map.new.entries ≡ map.old.entries }
 {
     map.shift_remove(&k)
+}
+
+/// Returns the value of a key that is a text.
+pub fn value_of_text(map: &NEIndexMap<String, u32>, k: &str) -> Option<u32>
+    ensures { result ≡ get_by_text map.now k.now }
+{
+    map.get_by_text(k).copied()
+}
+
+/// Inserts a key, which is then found as a text.
+pub fn put_text(map: &mut NEIndexMap<String, u32>, k: String, v: u32) -> Result<(), AllocError>
+    ensures { OnOk result (get_by_text map.new (string_bytes k) ≡ Some v) }
+{
+    map.insert(k, v)?;
+    Ok(())
+}
+
+/// Removes a key that is a text, and returns its value.
+pub fn removed_text(map: &mut NEIndexMap<String, u32>, k: &str) -> Option<u32>
+    ensures old { IfSome result (λ v. get_by_text map.old k.now ≡ Some v) }
+    ensures new { IfSome result (λ _. get_by_text map.new k.now ≡ None) }
+    ensures none { result ≡ None → map.new.entries ≡ map.old.entries }
+{
+    map.shift_remove_by_text(k)
+}
+
+/// Returns the entries with even values, or `None` if there are none.
+pub fn even_values(map: NEIndexMap<u32, u32>) -> Option<NEIndexMap<u32, u32>>
+    ensures { MatchOption result (filter (λ e. nat_eq (e.1 % 2) 0) map.entries ≡ [])
+        (λ kept. kept.entries ≡ filter (λ e. nat_eq (e.1 % 2) 0) map.entries) }
+{
+    map.retain(|_k, v| *v % 2 == 0).ok()
+}
+
+/// Returns the items below 10, or `None` if there are none.
+pub fn small_items(set: NEIndexSet<u32>) -> Option<NEIndexSet<u32>>
+    ensures { MatchOption result (filter (λ x. ltb x 10) set.keys ≡ [])
+        (λ kept. kept.keys ≡ filter (λ x. ltb x 10) set.keys) }
+{
+    set.retain(|x| *x < 10).ok()
+}
+
+/// Writes the first value. The keys stay.
+pub fn write_first(map: &mut NEIndexMap<u32, u32>, v: u32)
+    ensures value { slice_get (values map.new) 0 ≡ Some v }
+    ensures keys { keys map.new ≡ keys map.old }
+{
+    *map.first_mut() = v;
+}
+
+/// Returns whether an item is in one of two sets, by their union.
+pub fn is_in_either(
+    alloc: Global,
+    a: &NEIndexSet<u32>,
+    b: &NEIndexSet<u32>,
+    x: u32,
+) -> Result<bool, AllocError>
+    ensures { IfOk result (λ found. IsTrue found
+        ↔ (IsTrue (contains nat_eq a.now x) ⊎ IsTrue (contains nat_eq b.now x))) }
+{
+    let both: NEIndexSet<u32> = a.union(b).copied().collect(alloc)?;
+    Ok(both.contains(&x))
 }

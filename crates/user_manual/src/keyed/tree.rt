@@ -1,9 +1,11 @@
 //! Tree maps and sets.
 ghost use Rattle.std.specs.Prelude.{◌≡◌, ◌+◌, ◌≤◌, ◌≢◌, ◌/◌, ◌++◌, ◌↔◌, [], ◌∷◌, ℕ, map, nat_eq};
 ghost use Rattle.std.specs.Prelude.{All, Contains, IfOk, IfSome, IsSome, IsTrue, None, OnOk, Some};
-ghost use Rattle.std.specs.BTreeMap.{get, values, IsUnchanged};
-ghost use Rattle.std.specs.BTreeSet.{union, IsSameSet};
+ghost use Rattle.std.specs.Prelude.{◌%◌, ◌⊎◌, filter, ltb, MatchOption};
+ghost use Rattle.std.specs.BTreeMap.{get, get_by_text, values, IsUnchanged};
+ghost use Rattle.std.specs.BTreeSet.{contains, union, IsSameSet};
 ghost use Rattle.std.specs.Ordering.{nat_cmp};
+ghost use Rattle.std.specs.String.{string_bytes};
 ghost use Rattle.nonempty_collections.specs.Collected.{IsMapOfPairs, IsSetOf};
 ghost use Rattle.nonempty_collections.specs.SameMap.{IsSameMap};
 
@@ -177,4 +179,58 @@ pub fn last_up_to(map: &NEBTreeMap<u32, u32>, k: u32) -> Option<u32>
     ensures none { result ≡ None → (q : ℕ) → q ≤ k → get nat_cmp map.now q ≡ None }
 {
     map.range(..=k).next_back().map(|(q, _)| *q)
+}
+
+/// Returns the value of a key that is a text.
+pub fn value_of_text(map: &NEBTreeMap<String, u32>, k: &str) -> Option<u32>
+    ensures { result ≡ get_by_text map.now k.now }
+{
+    map.get_by_text(k).copied()
+}
+
+/// Inserts a key, which is then found as a text.
+pub fn put_text(map: &mut NEBTreeMap<String, u32>, k: String, v: u32) -> Result<(), AllocError>
+    ensures { OnOk result (get_by_text map.new (string_bytes k) ≡ Some v) }
+{
+    map.insert(k, v)?;
+    Ok(())
+}
+
+/// Removes a key that is a text, and returns its value.
+pub fn removed_text(map: &mut NEBTreeMap<String, u32>, k: &str) -> Option<u32>
+    ensures old { IfSome result (λ v. get_by_text map.old k.now ≡ Some v) }
+    ensures new { IfSome result (λ _. get_by_text map.new k.now ≡ None) }
+    ensures none { result ≡ None → IsUnchanged map.old map.new }
+{
+    map.remove_by_text(k)
+}
+
+/// Returns the entries with even values, or `None` if there are none.
+pub fn even_values(map: NEBTreeMap<u32, u32>) -> Option<NEBTreeMap<u32, u32>>
+    ensures { MatchOption result (filter (λ e. nat_eq (e.1 % 2) 0) map.entries ≡ [])
+        (λ kept. kept.entries ≡ filter (λ e. nat_eq (e.1 % 2) 0) map.entries) }
+{
+    map.retain(|_k, v| *v % 2 == 0).ok()
+}
+
+/// Returns the items below 10, or `None` if there are none.
+pub fn small_items(set: NEBTreeSet<u32>) -> Option<NEBTreeSet<u32>>
+    ensures { MatchOption result (filter (λ x. ltb x 10) set.keys ≡ [])
+        (λ kept. kept.keys ≡ filter (λ x. ltb x 10) set.keys) }
+{
+    set.retain(|x| *x < 10).ok()
+}
+
+/// Returns whether an item is in one of two sets, by their union.
+pub fn is_in_either(
+    alloc: Global,
+    a: &NEBTreeSet<u32>,
+    b: &NEBTreeSet<u32>,
+    x: u32,
+) -> Result<bool, AllocError>
+    ensures { IfOk result (λ found. IsTrue found
+        ↔ (IsTrue (contains nat_cmp a.now x) ⊎ IsTrue (contains nat_cmp b.now x))) }
+{
+    let both: NEBTreeSet<u32> = a.union(b).copied().collect(alloc)?;
+    Ok(both.contains(&x))
 }

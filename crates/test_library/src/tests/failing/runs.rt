@@ -3,7 +3,8 @@
 use super::owners::{key, owned, token};
 use super::{holds, is, report};
 use ne_laws::reader::take_runs;
-use nonempty_collections::{IntoNonEmptyIterator, NonEmptyIterator};
+use nonempty_collections::{IntoNonEmptyIterator, NEVec, NonEmptyIterator};
+use std::alloc::{AllocError, Global};
 use std::cell::Cell;
 use std::test::Fail;
 
@@ -26,6 +27,58 @@ fn group_by(rt: HostRuntime) -> Result<(), Fail> {
     is(call, second.len().get(), 1)?;
     holds(call, reader.next().is_none())?;
     report(&rt, "made", call)
+}
+
+// The first run grows for its fifth item, and the second one has an item that was held. After an
+// `Err` comes `None`.
+#[test]
+fn runs_by(rt: HostRuntime) -> Result<(), Fail> {
+    let items = [1u32, 2, 2, 2, 2, 3].into_nonempty_iter();
+    let mut reader = items
+        .runs_by(rt.alloc(), |first, x| first.abs_diff(*x) < 2)
+        .into_iter();
+    let call = "NonEmptyIterator::runs_by";
+    let Some(Ok(first)) = reader.next() else {
+        holds(call, reader.next().is_none())?;
+        return report(&rt, "refused", call);
+    };
+    let Some(Ok(second)) = reader.next() else {
+        holds(call, reader.next().is_none())?;
+        return report(&rt, "refused", call);
+    };
+    is(call, first.len().get(), 5)?;
+    is(call, *second.first() as usize, 3)?;
+    holds(call, reader.next().is_none())?;
+    report(&rt, "made", call)
+}
+
+// Two services, the first one twice, compared by their names. Whatever fails, no other list of runs
+// is returned: a key that is a clone of the name would be a key of its own if that clone failed.
+#[test]
+fn runs_of_texts(rt: HostRuntime) -> Result<(), Fail> {
+    let call = "NonEmptyIterator::runs_by of texts";
+    let Ok(names) = names(rt.alloc()) else {
+        return report(&rt, "not reached", call);
+    };
+    let runs = names
+        .into_nonempty_iter()
+        .runs_by(rt.alloc(), |first, name| first == name);
+    let runs: Result<Result<NEVec<NEVec<String>>, AllocError>, AllocError> = runs.collect(
+        rt.alloc(),
+    );
+    let Ok(Ok(runs)) = runs else {
+        return report(&rt, "refused", call);
+    };
+    is(call, runs.len().get(), 2)?;
+    is(call, runs.first().len().get(), 2)?;
+    report(&rt, "made", call)
+}
+
+fn names(alloc: Global) -> Result<NEVec<String>, AllocError> {
+    let mut names = NEVec::new(alloc, String::from_str(alloc, "mail")?)?;
+    names.push(String::from_str(alloc, "mail")?)?;
+    names.push(String::from_str(alloc, "web")?)?;
+    Ok(names)
 }
 
 // A finished run is given before memory is requested for the next one. If that fails, the first run
