@@ -41,10 +41,7 @@ held_last : {A : Type 0} (run : List A) (rs : List (List A)) (held : Option A)
 held_last run rs None = refl
 held_last run rs (Some x) = refl
 
-module _ {S A F : Type 0} (calls : Shared F (Bor A × (Bor A × Unit {0})) Bool)
-    (steps : S → Option A → S → Type 0) where
-  -- ---- the runs of several calls, from g to h
-
+module _ {A F : Type 0} (calls : Shared F (Bor A × (Bor A × Unit {0})) Bool) where
   -- a run that was followed by y, and the lists into which y and the items after it are cut
   cut_on : (f : F) (all : List A) (run : List A) (y : A) (ys : List A) (rs : List (List A))
       → CutsInto calls f all (run ∷ (y ∷ []) ∷ []) → CutsInto calls f (y ∷ ys) rs
@@ -66,7 +63,11 @@ module _ {S A F : Type 0} (calls : Shared F (Bor A × (Bor A × Unit {0})) Bool)
       whole = ap (λ l. run ++ l) more.whole ∙ sym (append_assoc run (y ∷ []) ys)
           ∙ ap (λ l. l ++ ys) first.whole
 
-  draws_on : (a : State (Unit {0}) A) (s t u : S) (xs ys : List A) → Yields steps s xs t
+module _ {S K A F : Type 0} (calls : Shared F (Bor A × (Bor A × Unit {0})) Bool)
+    (steps : S → Option A → S → Type 0) where
+  -- ---- the runs of several calls, from g to h
+
+  draws_on : (a : State K A) (s t u : S) (xs ys : List A) → Yields steps s xs t
       → Draws calls steps a t ys u → Draws calls steps a s (xs ++ ys) u
   draws_on Unread s t u xs ys came more = more
   draws_on (Held k x) s t u xs ys came more = Yields-both steps xs ys s t u came more
@@ -74,14 +75,14 @@ module _ {S A F : Type 0} (calls : Shared F (Bor A × (Bor A × Unit {0})) Bool)
       (more.0, Yields-both steps xs ys s t more.0 came more.1, more.2)
 
   -- the items taken by calls that returned runs
-  record Taken (g : Grouping S (Unit {0}) A F) (rs : List (List A))
-      (h : Grouping S (Unit {0}) A F) : Type 0 where
+  record Taken (g : Grouping S K A F) (rs : List (List A))
+      (h : Grouping S K A F) : Type 0 where
     pub drawn : List A
     pub draws : Draws calls steps h.state g.source drawn h.source
     pub cut : CutsInto calls g.closure (held_before g.state drawn) (and_held rs (held_in h.state))
 
   -- calls after a run was returned: an item is held, since an iterator that is over returns no run
-  taken_on : (a : State (Unit {0}) A) (g h k : Grouping S (Unit {0}) A F) (run r : List A)
+  taken_on : (a : State K A) (g h k : Grouping S K A F) (run r : List A)
       (rs : List (List A)) → h.state ≡ a → CutsNext calls steps g (Some (Ok run)) h
       → (IsOver h → ⊥) → Taken h (r ∷ rs) k → Taken g (run ∷ r ∷ rs) k
   taken_on Unread g h k run r rs e call on more = absurd
@@ -95,7 +96,7 @@ module _ {S A F : Type 0} (calls : Shared F (Bor A × (Bor A × Unit {0})) Bool)
             (held_last run (r ∷ rs) (held_in k.state))
             (subst (λ l. CutsInto calls g.closure l (run ∷ and_held (r ∷ rs) (held_in k.state)))
             (held_append g.state xs more.drawn)
-            (cut_on g.closure (held_before g.state xs) run y more.drawn
+            (cut_on calls g.closure (held_before g.state xs) run y more.drawn
             (and_held (r ∷ rs) (held_in k.state))
             (subst (λ a. CutsInto calls g.closure (held_before g.state xs)
             (and_held (run ∷ []) (held_in a))) e call.cuts.2)
@@ -106,7 +107,7 @@ module _ {S A F : Type 0} (calls : Shared F (Bor A × (Bor A × Unit {0})) Bool)
       }
   taken_on Ended g h k run r rs e call on more = absurd (on e)
 
-  taken : (run : List A) (rs : List (List A)) (g h : Grouping S (Unit {0}) A F)
+  taken : (run : List A) (rs : List (List A)) (g h : Grouping S K A F)
       → Yields (CutsNext calls steps) g (map Ok (run ∷ rs)) h → Taken g (run ∷ rs) h
   taken run [] g h came = subst (Taken g (run ∷ [])) came.2 (record {
     drawn = came.1.cuts.0;
@@ -118,7 +119,7 @@ module _ {S A F : Type 0} (calls : Shared F (Bor A × (Bor A × Unit {0})) Bool)
 
   -- ---- what an iterator that had taken nothing yielded
 
-  module _ {U : Type 0} (becomes : U → S → Type 0) (u : U) (g : Grouping S (Unit {0}) A F) (f : F)
+  module _ {U : Type 0} (becomes : U → S → Type 0) (u : U) (g : Grouping S K A F) (f : F)
       (made : becomes u g.source) (closure : g.closure ≡ f) (unread : g.state ≡ Unread) where
     cut_none : CutsInto calls f [] []
     cut_none = record {
@@ -127,7 +128,7 @@ module _ {S A F : Type 0} (calls : Shared F (Bor A × (Bor A × Unit {0})) Bool)
       divides = λ test acts. division_of_none (by_first test);
     }
 
-    has_none : (whole : Bool) → (whole ≡ true → (h : Grouping S (Unit {0}) A F)
+    has_none : (whole : Bool) → (whole ≡ true → (h : Grouping S K A F)
         × CutsNext calls steps g None h) → HasCut (Reads becomes steps) calls u f whole []
     has_none false end = record {
       drawn = [];
@@ -160,9 +161,9 @@ module _ {S A F : Type 0} (calls : Shared F (Bor A × (Bor A × Unit {0})) Bool)
       over = λ w. (refl, refl);
     }
 
-    has_some : (a : State (Unit {0}) A) (whole : Bool) (run : List A) (rs : List (List A))
-        (h : Grouping S (Unit {0}) A F) → h.state ≡ a → Taken g (run ∷ rs) h
-        → (whole ≡ true → (k : Grouping S (Unit {0}) A F) × CutsNext calls steps h None k)
+    has_some : (a : State K A) (whole : Bool) (run : List A) (rs : List (List A))
+        (h : Grouping S K A F) → h.state ≡ a → Taken g (run ∷ rs) h
+        → (whole ≡ true → (k : Grouping S K A F) × CutsNext calls steps h None k)
         → HasCut (Reads becomes steps) calls u f whole (run ∷ rs)
     has_some Unread whole run rs h e t end = absurd
         (subst (λ a. Draws calls steps a g.source t.drawn h.source) e t.draws)
@@ -206,9 +207,9 @@ module _ {S A F : Type 0} (calls : Shared F (Bor A × (Bor A × Unit {0})) Bool)
       over = λ w. (refl, refl);
     }
 
-    pub has_cut : (whole : Bool) (rs : List (List A)) (h : Grouping S (Unit {0}) A F)
+    pub has_cut : (whole : Bool) (rs : List (List A)) (h : Grouping S K A F)
         → Yields (CutsNext calls steps) g (map Ok rs) h
-        → (whole ≡ true → (k : Grouping S (Unit {0}) A F) × CutsNext calls steps h None k)
+        → (whole ≡ true → (k : Grouping S K A F) × CutsNext calls steps h None k)
         → HasCut (Reads becomes steps) calls u f whole rs
     has_cut whole [] h came end = has_none whole (λ w.
         ((end w).0, subst (λ q. CutsNext calls steps q None (end w).0) (sym came) (end w).1))
@@ -216,19 +217,19 @@ module _ {S A F : Type 0} (calls : Shared F (Bor A × (Bor A × Unit {0})) Bool)
         (taken run rs g h came) end
 
   -- the results are runs, each in `Ok`, and possibly an `Err` after them
-  abbrev Came : Grouping S (Unit {0}) A F → List (Result (List A) AllocError) → Type 0
+  abbrev Came : Grouping S K A F → List (Result (List A) AllocError) → Type 0
   Came g xs = (rs : List (List A)) × ((xs ≡ map Ok rs)
-      ⊎ ((e : AllocError) × (xs ≡ map Ok rs ++ Err e ∷ []) × (k : Grouping S (Unit {0}) A F)
+      ⊎ ((e : AllocError) × (xs ≡ map Ok rs ++ Err e ∷ []) × (k : Grouping S K A F)
       × Yields (CutsNext calls steps) g (map Ok rs) k))
 
   one_more_came : (run : List A) (xs : List (Result (List A) AllocError))
-      (g h : Grouping S (Unit {0}) A F) → CutsNext calls steps g (Some (Ok run)) h → Came h xs
+      (g h : Grouping S K A F) → CutsNext calls steps g (Some (Ok run)) h → Came h xs
       → Came g (Ok run ∷ xs)
   one_more_came run xs g h call (rs, inl e) = (run ∷ rs, inl (ap (λ l. Ok run ∷ l) e))
   one_more_came run xs g h call (rs, inr (e, is, k, there)) =
       (run ∷ rs, inr (e, ap (λ l. Ok run ∷ l) is, k, (h, call, there)))
 
-  came : (xs : List (Result (List A) AllocError)) (g h : Grouping S (Unit {0}) A F)
+  came : (xs : List (Result (List A) AllocError)) (g h : Grouping S K A F)
       → Yields (CutsNext calls steps) g xs h → Came g xs
   came [] g h calls_made = ([], inl refl)
   came (Ok run ∷ xs) g h calls_made = one_more_came run xs g calls_made.0 calls_made.1
@@ -239,7 +240,7 @@ module _ {S A F : Type 0} (calls : Shared F (Bor A × (Bor A × Unit {0})) Bool)
 
   module _ {U V : Type 0} (becomes : U → S → Type 0) (source_of : V → U) (closure_of : V → F)
       (v : V) where
-    abbrev makes : V → Grouping S (Unit {0}) A F → Type 0
+    abbrev makes : V → Grouping S K A F → Type 0
     makes v g = becomes (source_of v) g.source × (g.closure ≡ closure_of v) × (g.state ≡ Unread)
         × CutsRuns calls steps g
 
@@ -252,7 +253,7 @@ module _ {S A F : Type 0} (calls : Shared F (Bor A × (Bor A × Unit {0})) Bool)
       λ whole xs h. before h.it h.made xs (came xs h.it h.given.0 h.given.1),
     )
       where
-        before : (g : Grouping S (Unit {0}) A F) → makes v g
+        before : (g : Grouping S K A F) → makes v g
             → (xs : List (Result (List A) AllocError)) → Came g xs → (rs : List (List A))
             × ((xs ≡ map Ok rs) ⊎ ((e : AllocError) × (xs ≡ map Ok rs ++ Err e ∷ [])
             × HasCut (Reads becomes steps) calls (source_of v) (closure_of v) false rs))
@@ -281,8 +282,8 @@ alike test view [] x = refl
 alike test view (y ∷ r) x = refl
 
 -- the runs that an iterator yields to its end, if it had taken nothing
-pub cuts_runs : {S A F : Type 0} (calls : Shared F (Bor A × (Bor A × Unit {0})) Bool)
-    (steps : S → Option A → S → Type 0) (g : Grouping S (Unit {0}) A F) → g.state ≡ Unread
+pub cuts_runs : {S K A F : Type 0} (calls : Shared F (Bor A × (Bor A × Unit {0})) Bool)
+    (steps : S → Option A → S → Type 0) (g : Grouping S K A F) → g.state ≡ Unread
     → CutsRuns calls steps g
 unfolding AreRuns
 cuts_runs {S = S} calls steps g unread p seen from rs is whole =

@@ -66,7 +66,7 @@ module _ {S A F : Type 0} (calls : Shared F (Bor A × (Bor A × Unit {0})) Bool)
   -- ---- one call of `next`
 
   -- The run that a call has begun: the item that was held and those taken since, which led to t.
-  pub record OpenRun (g : Grouping S (Unit {0}) A F) (t : S) (run : List A) : Type 0 where
+  pub record OpenRun {K : Type 0} (g : Grouping S K A F) (t : S) (run : List A) : Type 0 where
     pub drawn : List A
     pub came : Yields steps g.source drawn t
     pub is : run ≡ held_before g.state drawn
@@ -74,8 +74,8 @@ module _ {S A F : Type 0} (calls : Shared F (Bor A × (Bor A × Unit {0})) Bool)
     pub divides : (test : A → A → Bool) → ActsAsAtPair calls g.closure test
         → IsDivision (by_first test) run (run ∷ [])
 
-  module _ (g : Grouping S (Unit {0}) A F) where
-    pub open_held : (k : Unit {0}) (x : A) → g.state ≡ Held k x → OpenRun g g.source (x ∷ [])
+  module _ {K : Type 0} (g : Grouping S K A F) where
+    pub open_held : (k : K) (x : A) → g.state ≡ Held k x → OpenRun g g.source (x ∷ [])
     open_held k x e = record {
       drawn = [];
       came = refl;

@@ -11,6 +11,7 @@ pub mod GroupedLists
 pub mod Divided
 pub mod CutRuns
 pub mod CutLists
+pub mod TryGroupBy
 pub mod SliceDivisions
 pub mod Collects
 pub mod Consumers

@@ -30,6 +30,7 @@ pub mod Scan
 pub mod GroupBy
 pub mod RunsBy
 pub mod RunsByLaws
+pub mod TryGroupBy
 pub mod Intersperse
 pub mod Peekable
 pub mod Filter

@@ -50,20 +50,20 @@ module _ {A F : Type 0} (calls : Shared F (Bor A × (Bor A × Unit {0})) Bool) w
 
   module _ {S : Type 0} (steps : S → Option A → S → Type 0) where
     -- The calls that took the source from s to t yielded xs. `None` followed if no item is held.
-    abbrev pub Draws : State (Unit {0}) A → S → List A → S → Type 0
+    abbrev pub Draws : {K : Type 0} → State K A → S → List A → S → Type 0
     Draws Unread s xs t = ⊥
     Draws (Held k x) s xs t = Yields steps s xs t
     Draws Ended s xs t = YieldsThen steps s xs None t
 
     -- No run comes: nothing was taken before, and the source ends at once.
-    abbrev pub EndsAtOnce : State (Unit {0}) A → S → S → Type 0
+    abbrev pub EndsAtOnce : {K : Type 0} → State K A → S → S → Type 0
     EndsAtOnce Unread s t = steps s None t
     EndsAtOnce (Held k x) s t = ⊥
     EndsAtOnce Ended s t = ⊤
 
     -- One call of `next` returns r, and takes the iterator from g to h.
-    pub record CutsNext (g : Grouping S (Unit {0}) A F) (r : Option (Result (List A) AllocError))
-        (h : Grouping S (Unit {0}) A F) : Type 0 where
+    pub record CutsNext {K : Type 0} (g : Grouping S K A F)
+        (r : Option (Result (List A) AllocError)) (h : Grouping S K A F) : Type 0 where
       pub keeps : h.closure ≡ g.closure
       -- an iterator that is over returns `None` and stays unchanged
       pub over : IsOver g → (r ≡ None) × (h ≡ g)
@@ -81,7 +81,7 @@ module _ {A F : Type 0} (calls : Shared F (Bor A × (Bor A × Unit {0})) Bool) w
 
     -- The iterator can be read: unless it is over, its source can, and ends, and its closure can be
     -- called with any two of the items that are held or come.
-    abbrev pub CanCut : (S → Type 0) → (S → Count) → Grouping S (Unit {0}) A F → Type 0
+    abbrev pub CanCut : {K : Type 0} → (S → Type 0) → (S → Count) → Grouping S K A F → Type 0
     CanCut can left g = (IsOver g → ⊥) → can g.source × IsFinite (left g.source)
         × CallableAfter (held_before g.state []) g.source g.closure
 
@@ -106,8 +106,8 @@ AreRuns test xs rs = rs ≡ runs_of by_first test xs
 
 -- An iterator g that has taken nothing yields the runs of its source's items, if its closure acts
 -- as a test of two items. If g yields runs to its end, each in `Ok`, its source ends too.
-abbrev pub CutsRuns : {S A F : Type 0} → Shared F (Bor A × (Bor A × Unit {0})) Bool
-    → (S → Option A → S → Type 0) → Grouping S (Unit {0}) A F → Type 0
+abbrev pub CutsRuns : {S K A F : Type 0} → Shared F (Bor A × (Bor A × Unit {0})) Bool
+    → (S → Option A → S → Type 0) → Grouping S K A F → Type 0
 CutsRuns {A = A} calls steps g = EachRunFrom (CutsNext calls steps) g (λ p.
     (rs : List (List A)) → p.items ≡ map Ok rs → p.whole ≡ true
     → Naming (map {B = Result (List A) AllocError} Ok rs)

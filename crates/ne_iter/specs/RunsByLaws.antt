@@ -8,8 +8,8 @@ use Rattle.ne_iter.specs.RunsBy.{CutsNext, EndsAtOnce}
 use Rattle.ne_iter.specs.declared.iter.group_by.State.TheVariants.{Unread}
 use Rattle.ne_iter.specs.Sources.{HasFirst}
 
-pub HasFirst-cut : {S A F : Type 0} (steps : S → Option A → S → Type 0)
-    (calls : Shared F (Bor A × (Bor A × Unit {0})) Bool) (g : Grouping S (Unit {0}) A F)
+pub HasFirst-cut : {S K A F : Type 0} (steps : S → Option A → S → Type 0)
+    (calls : Shared F (Bor A × (Bor A × Unit {0})) Bool) (g : Grouping S K A F)
     → g.state ≡ Unread → HasFirst steps g.source → HasFirst (CutsNext calls steps) g
 HasFirst-cut steps calls g unread has t step = has t.source
     (subst (λ a. EndsAtOnce calls steps a g.source t.source) unread step.cuts)

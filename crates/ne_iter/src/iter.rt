@@ -21,6 +21,7 @@ pub(crate) mod runs_by;
 pub(crate) mod scan;
 mod sources;
 pub(crate) mod take;
+pub(crate) mod try_group_by;
 mod try_into;
 pub(crate) mod zip;
 
@@ -42,6 +43,7 @@ pub use runs_by::{RunsBy, RunsByIter};
 pub use scan::{Scan, ScanIter};
 pub use sources::{IntoNonEmptyIterator, ItemSource};
 pub use take::Take;
+pub use try_group_by::{TryGroupBy, TryGroupByIter};
 pub use try_into::{IntoIteratorExt, NonEmptyIterAdapter, PeeksAhead};
 pub use zip::Zip;
 

@@ -24,6 +24,7 @@ pub use crate::iter::peekable::peekable_ends;
 pub use crate::iter::runs_by::runs_by_ends;
 pub use crate::iter::scan::scan_ends;
 pub use crate::iter::take::take_ends;
+pub use crate::iter::try_group_by::try_group_by_ends;
 pub use crate::iter::zip::zip_ends;
 pub use closures::{
     always_callable_is_callable_in_scan, always_callable_is_callable_on_all_items,

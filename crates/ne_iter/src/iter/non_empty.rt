@@ -59,6 +59,7 @@ ghost use Rattle.ne_iter.specs.Scan.{CallableInScan, IsScanned};
 ghost use Rattle.ne_iter.specs.GroupBy.{group_by_source, group_by_callee, GroupByGives, GivesRuns};
 ghost use Rattle.ne_iter.specs.GroupingRuns.{GroupsLists};
 ghost use Rattle.ne_iter.specs.RunsBy.{runs_by_source, runs_by_callee, CutsLists, HasCut};
+ghost use Rattle.ne_iter.specs.TryGroupBy.{try_group_by_source, try_group_by_callee, by_keys};
 ghost use Rattle.ne_iter.specs.Map.{MapsThrough};
 ghost use Rattle.ne_iter.specs.Filter.{IsFiltered, IsFilterMapped};
 ghost use Rattle.ne_iter.specs.Skip.{IsSkipped, IsSkippedWhile};
@@ -71,7 +72,7 @@ use super::collected::FromNonEmptyIterator;
 use super::sources::{IntoNonEmptyIterator, ItemSource};
 use super::{
     Chain, Cloned, Copied, Enumerate, FlatMap, Flatten, GroupBy, Intersperse, Map, NEGroupBy,
-    Peekable, RunsBy, RunsByIter, Scan, Take, Zip,
+    Peekable, RunsBy, RunsByIter, Scan, Take, TryGroupBy, TryGroupByIter, Zip,
 };
 use ne_vec::{NEVec, Singleton, vector};
 use std::alloc::{AllocError, Global};
@@ -521,7 +522,8 @@ pub trait NonEmptyIterator: IntoIterator {
     /// For example, if all items are above 0, the key may be `|x| 100 / *x`.
     ///
     /// A key that clones, as `|e| e.service.clone()`, is a `Result`: if a clone fails, the `Err` is
-    /// a key of its own, and the runs are others. [`runs_by`](Self::runs_by) needs no clone.
+    /// a key of its own, and the runs are others. [`try_group_by`](Self::try_group_by) is for such
+    /// keys, and [`runs_by`](Self::runs_by) needs no clone.
     ///
     /// A run is allocated from `alloc` when it is requested; nothing is allocated for the next run
     /// yet. If an allocation for a run fails, `Err` is returned in its place. The items that were
@@ -600,6 +602,49 @@ pub trait NonEmptyIterator: IntoIterator {
         RunsBy {
             iter: self,
             same,
+            alloc,
+        }
+    }
+
+    /// Returns a source of the runs of items with equal keys, as [`group_by`](Self::group_by) does,
+    /// by a closure that may fail, as a key that clones a text does: `|e| e.service.clone()`. If
+    /// `f` returns `Err`, an `Err` comes in place of the run.
+    ///
+    /// Nothing is taken before the first run is requested. Each item that is taken is passed to `f`
+    /// once. A run is returned when the first item of the next one was taken, or when the source
+    /// has ended; at most one item after the returned runs has been taken.
+    ///
+    /// `f` must be callable with each item of the source. A run is allocated from `alloc` when it
+    /// is requested. After an `Err`, of `f` or of an allocation for the run, the items that were
+    /// taken and not returned are dropped, and `None` follows. The Rust crate has no such method.
+    ///
+    /// ```
+    /// let key = |x: &u32| String::from_str(alloc, if *x > 1 { "many" } else { "one" });
+    /// let runs = [3u32, 2, 1].into_nonempty_iter().try_group_by(alloc, key);
+    /// let runs: Result<NEVec<NEVec<u32>>, AllocError> = runs.collect(alloc)?; // Ok([[3, 2], [1]])
+    /// ```
+    final fn try_group_by<K: PartialEq + Drop, F: Fn(&Self::Item) -> Result<K, AllocError> + Drop>(
+        self,
+        alloc: Global,
+        f: F,
+    ) -> TryGroupBy<Self, F>
+    where
+        Self: Sized,
+        Self::Item: Drop,
+        ensures holds { (try_group_by_source result ≡ self) × (try_group_by_callee result ≡ f) }
+        ensures ends { ⟦<Self as ItemSource>⟧.ends self
+            → ((it : Self.IntoIter) → Self.into_iter_gives self it
+            → CallableOnTwo Self.IntoIter.next_gives (by_keys F.Fn K.eq) it f)
+            → ⟦<TryGroupBy<Self, F> as ItemSource>⟧.ends result }
+        ensures gives { GivesRuns (⟦<TryGroupBy<Self, F> as ItemSource>⟧.reads)
+            (HasCut (⟦<Self as ItemSource>⟧.reads) (by_keys F.Fn K.eq) self f) result }
+        ensures lists { CutsLists item_view (⟦<Self as ItemSource>⟧.lists) self (by_keys F.Fn K.eq)
+            f (⟦<TryGroupBy<Self, F> as IntoIterator>⟧.into_iter_gives)
+            (⟦<TryGroupByIter<Self::IntoIter, K, Self::Item, F> as Iterator>⟧.next_gives) result }
+    {
+        TryGroupBy {
+            iter: self,
+            f,
             alloc,
         }
     }
