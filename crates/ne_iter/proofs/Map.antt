@@ -2,6 +2,7 @@
 -- and `steps` are those of the source, `made` and `next` those of the adapter, `meets` and `other`
 -- those of a second source.
 use Rattle.std.specs.Prelude.{◌≡◌, ℕ, List, [], ◌∷◌, ◌++◌, Option, Bool, map, true}
+use Rattle.std.specs.Bool.{OnFalse}
 use Rattle.std.proofs.Common.{refl, ap, ◌∙◌, sym, subst}
 use Rattle.std.specs.Iterator.{DrainsIf, ActsAs}
 use Rattle.std.specs.Iterator.Adapters.{map_source, map_callee, map_steps}
@@ -10,7 +11,7 @@ use Rattle.std.specs.Fn.{Called, Mut}
 use Rattle.std.specs.List.{flat_map, join_by}
 use Rattle.std.proofs.lemmas.List.{map-append}
 use Rattle.std.proofs.lemmas.Simd.{map-map}
-use Rattle.ne_vec.specs.Lists.{IsPrefix, Lists, YieldsItems, EachView, Naming, View}
+use Rattle.ne_vec.specs.Lists.{IsPrefix, Lists, YieldsItems, EachList, EachView, Naming, View}
 use Rattle.ne_iter.specs.Calls.{Calls}
 use Rattle.ne_iter.specs.Sources.{ReadsList, ReadsListThrough, EachReading, Reads}
 use Rattle.ne_vec.specs.RunLaws.{run_drains}
@@ -141,11 +142,11 @@ module _ {U V A S T B F : Type 0} {becomes : U → S → Type 0} {steps : S → 
         ),
       )
 
-  pub maps_through : (view : View A) → EachView view (λ view. Lists becomes steps view.of) u
-      (λ view xs. MapsThrough calls f made next v view xs)
-  maps_through view = each_view (λ view xs. MapsThrough calls f made next v view xs) view
+  pub maps_through : (view : View A) → OnFalse view.is_itself
+      (EachList (Lists becomes steps view.of) u (MapsThrough calls f made next v view))
+  maps_through view = (each_view (λ view xs. MapsThrough calls f made next v view xs) view
       (λ view xs known. (
         map_to ℕ view xs known,
         map_to (List ℕ) view xs known,
         map_to_texts view xs known,
-      ))
+      ))).1

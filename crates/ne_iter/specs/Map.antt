@@ -62,7 +62,8 @@ MapsToTexts {B = B} {T = T} calls f made next v view xs = (it : T) → made v it
     (out : B → List ℕ) → p.whole ≡ true → ActsThrough calls f out (λ x. h (view.of x))
     → join_by out separator p.items ≡ text)))
 
--- What `map` says of a closure that returns references: to numbers, to lists and to texts.
+-- What `map` says of a closure that returns references: to numbers, to lists and to texts. A source
+-- of values needs only the clause `lists`.
 abbrev pub MapsThrough : {A B F V T : Type 0} → Mut F (A × Unit {0}) B → F → (V → T → Type 0)
     → (T → Option B → T → Type 0) → V → (view : View A) → List view.Target → Type 0
 MapsThrough calls f made next v view xs = MapsTo ℕ calls f made next v view xs

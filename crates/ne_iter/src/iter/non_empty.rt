@@ -704,9 +704,10 @@ pub trait NonEmptyIterator: IntoIterator {
         ensures lists { EachView item_view (⟦<Self as ItemSource>⟧.lists) self (λ view xs.
             (h : view.Target → U) → ActsAs F.FnMut f (λ x. h (view.of x))
             → Naming (map h xs) (⟦<Map<Self, F> as ItemSource>⟧.yields_items result)) }
-        ensures through { EachView item_view (⟦<Self as ItemSource>⟧.lists) self
+        ensures through { OnFalse item_view.is_itself
+            (EachList (⟦<Self as ItemSource>⟧.lists item_view) self
             (MapsThrough F.FnMut f (⟦<Map<Self, F> as IntoIterator>⟧.into_iter_gives)
-            (⟦<iter::Map<Self::IntoIter, F> as Iterator>⟧.next_gives) result) }
+            (⟦<iter::Map<Self::IntoIter, F> as Iterator>⟧.next_gives) result item_view)) }
     {
         Map { iter: self, f }
     }
