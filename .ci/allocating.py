@@ -22,6 +22,7 @@ ITEMS = {
     "ProductIter": "NonEmptyItertools::cartesian_product",
     "RawIntersperse": "NonEmptyIterator::intersperse",
     "RunsByIter": "NonEmptyIterator::runs_by",
+    "TryGroupByIter": "NonEmptyIterator::try_group_by",
 }
 # Calls that never allocate, although their type allows an `AllocError`; and methods of traits that
 # have a body only in an implementation, each of which is tested.

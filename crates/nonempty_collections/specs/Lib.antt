@@ -35,6 +35,7 @@ pub use Rattle.ne_iter.specs.SortedByKey
 pub use Rattle.ne_iter.specs.Sources
 pub use Rattle.ne_iter.specs.Take
 pub use Rattle.ne_iter.specs.TakeWhile
+pub use Rattle.ne_iter.specs.TryGroupBy
 pub use Rattle.ne_iter.specs.TryInto
 pub use Rattle.ne_iter.specs.Zip
 pub use Rattle.ne_products.specs.Pairs

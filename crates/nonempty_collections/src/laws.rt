@@ -34,8 +34,8 @@ pub use ne_iter::laws::{
     results_make_a_vector, runs_by_a_function, runs_by_ends, runs_by_keys_are_the_division,
     runs_make_the_whole, scan_ends, slice_runs_are_the_division, sources_give_what_is_left,
     std_vectors_give_their_items, stopped_grouping_has_the_first_runs, sums_are_bounded, take_ends,
-    vectors_give_their_items, vectors_one_by_one_are_collected, whole_reading_gives_the_division,
-    zip_ends,
+    try_group_by_ends, vectors_give_their_items, vectors_one_by_one_are_collected,
+    whole_reading_gives_the_division, zip_ends,
 };
 pub use ne_products::laws::{
     cartesian_product_ends, either_ends, either_gives_its_side, list_of_cartesian_product,

@@ -4,7 +4,9 @@
 //! and another one what that is.
 ghost use Rattle.std.specs.Prelude.{◌≡◌, ◌∷◌, [], ◌+◌, ◌*◌, ◌/◌, ◌%◌, ◌^◌, ◌==◌, List, ℕ, IfOk};
 ghost use Rattle.std.specs.Prelude.{None, Ok, Some, false, true, map, filter, fold, drop, nat_eq};
+ghost use Rattle.std.specs.Prelude.{codes, cond, ltb};
 ghost use Rattle.std.specs.Bool.{then_some};
+ghost use Rattle.std.specs.Cmp.Lexicographic.{pointwise};
 ghost use Rattle.std.specs.List.{scan, filter_map, flat_map, prefix_len, reduce, take_while, zip};
 ghost use Rattle.std.specs.Ordering.{nat_cmp};
 ghost use Rattle.nonempty_collections.specs.Divisions.{by_first, runs_of};
@@ -193,6 +195,18 @@ pub fn runs_by(alloc: Global) -> Result<Result<NEVec<NEVec<u32>>, AllocError>, A
     let runs = [3u32, 2, 1]
         .into_nonempty_iter()
         .runs_by(alloc, |x, y| *x / 2 == *y / 2);
+    let runs: Result<NEVec<NEVec<u32>>, AllocError> = runs.collect(alloc)?;
+    Ok(runs)
+}
+
+/// The runs by texts as keys. Their list is only run.
+pub fn try_group_by(alloc: Global) -> Result<Result<NEVec<NEVec<u32>>, AllocError>, AllocError>
+    ensures { IfOk result (λ runs. IfOk runs (λ rs.
+        let key : ℕ → List ℕ = λ x. cond (ltb 1 x) (codes "many") (codes "one") in
+        rs ≡ runs_of by_first (λ x y. pointwise nat_eq (key x) (key y)) (3 ∷ 2 ∷ 1 ∷ []))) }
+{
+    let key = |x: &u32| String::from_str(alloc, if *x > 1 { "many" } else { "one" });
+    let runs = [3u32, 2, 1].into_nonempty_iter().try_group_by(alloc, key);
     let runs: Result<NEVec<NEVec<u32>>, AllocError> = runs.collect(alloc)?;
     Ok(runs)
 }

@@ -127,6 +127,32 @@ pub fn same_services<'a>(
         .collect::<Result<NEVec<NEVec<&'a Event>>, AllocError>>(alloc)?
 }
 
+/// Returns the runs of orders of the same customer. The keys are clones of the names; if one fails,
+/// there are no runs.
+pub fn by_customer(alloc: Global, orders: NEVec<Order>) -> Result<NEVec<NEVec<Order>>, AllocError>
+    ensures { IfOk result (λ runs. runs
+        ≡ runs_of by_first (λ a b. string_eq a.customer b.customer) orders) }
+{
+    orders
+        .into_nonempty_iter()
+        .try_group_by(alloc, |o| o.customer.clone())
+        .collect::<Result<NEVec<NEVec<Order>>, AllocError>>(alloc)?
+}
+
+/// Returns the runs of references to orders of the same customer.
+pub fn same_customers<'a>(
+    alloc: Global,
+    orders: &'a NEVec<Order>,
+) -> Result<NEVec<NEVec<&'a Order>>, AllocError>
+    ensures { IfOk result (λ runs. AreRuns (λ a b. string_eq a.customer b.customer) orders.now
+        (map (λ r. map (λ o. o.now) r) runs)) }
+{
+    orders
+        .nonempty_iter()
+        .try_group_by(alloc, |o| o.customer.clone())
+        .collect::<Result<NEVec<NEVec<&'a Order>>, AllocError>>(alloc)?
+}
+
 /// Returns the lengths of the runs in which each further item is greater than the run's first one.
 pub fn lengths_above_first(
     alloc: Global,

@@ -88,6 +88,28 @@ fn draws_and_comparisons(rt: HostRuntime) -> Result<(), Fail> {
     )
 }
 
+// The first run is 4 and 3. The key of 1 fails, so an `Err` comes in place of the next run, and then
+// nothing is drawn. Each item is drawn once and its key is called once.
+#[test]
+fn failing_key(rt: HostRuntime) -> Result<(), Fail> {
+    let (draws, keys) = (Cell::new(0u32), Cell::new(0u32));
+    let mut reader = down_from(4, &draws)
+        .try_group_by(rt.alloc(), |x| {
+            bump(&keys);
+            if *x == 1 { Err(AllocError) } else { Ok(*x > 2) }
+        })
+        .into_iter();
+    is((draws.get(), keys.get()), (0, 0))?;
+    let first = reader.next().ok_or("no run")??;
+    is((first.len().get(), draws.get(), keys.get()), (2, 3, 3))?;
+    let second = reader.next().ok_or("no `Err`")?;
+    is((second.is_err(), draws.get(), keys.get()), (true, 4, 4))?;
+    is(
+        (reader.next().is_none(), draws.get(), keys.get()),
+        (true, 4, 4),
+    )
+}
+
 // The closure is called once for each item that is drawn, and not again at the end.
 #[test]
 fn calls_of_scan(rt: HostRuntime) -> Result<(), Fail> {

@@ -1,6 +1,6 @@
 //! Readers of runs, whose runs are allocated when they are read.
 
-use super::owners::{key, owned, token};
+use super::owners::{Key, key, one_more, owned, token};
 use super::{holds, is, report};
 use ne_laws::reader::take_runs;
 use nonempty_collections::{IntoNonEmptyIterator, NEVec, NonEmptyIterator};
@@ -81,6 +81,31 @@ fn names(alloc: Global) -> Result<NEVec<String>, AllocError> {
     Ok(names)
 }
 
+// The same by keys that are clones of the names. In place of a run comes an `Err`, and then `None`.
+#[test]
+fn try_group_by(rt: HostRuntime) -> Result<(), Fail> {
+    let call = "NonEmptyIterator::try_group_by";
+    let Ok(names) = names(rt.alloc()) else {
+        return report(&rt, "not reached", call);
+    };
+    let mut reader = names
+        .into_nonempty_iter()
+        .try_group_by(rt.alloc(), |name| name.clone())
+        .into_iter();
+    let Ok(first) = reader.next().ok_or("no run")? else {
+        holds(call, reader.next().is_none())?;
+        return report(&rt, "refused", call);
+    };
+    is(call, first.len().get(), 2)?;
+    let Ok(second) = reader.next().ok_or("no run")? else {
+        holds(call, reader.next().is_none())?;
+        return report(&rt, "refused", call);
+    };
+    is(call, second.len().get(), 1)?;
+    holds(call, reader.next().is_none())?;
+    report(&rt, "made", call)
+}
+
 // A finished run is given before memory is requested for the next one. If that fails, the first run
 // still comes, then an `Err`, and then `None`.
 #[test]
@@ -151,5 +176,45 @@ fn taken(rt: HostRuntime) -> Result<(), Fail> {
     owned(call, &token, 0)?;
     drop(runs);
     is(call, dropped.get() as usize, 1111)?;
+    report(&rt, "made", call)
+}
+
+// 5, 5 and 6, as in `taken`, with keys that are clones of an owner, each of which allocates. The
+// first run is the fives; the reader then holds 6 with its key. Whatever fails, each item and each
+// key is dropped once.
+#[test]
+fn cloned_keys(rt: HostRuntime) -> Result<(), Fail> {
+    let call = "NonEmptyIterator::try_group_by with cloned keys";
+    let Ok(token) = token(rt.alloc()) else {
+        return report(&rt, "not reached", call);
+    };
+    let owner = one_more(rt.alloc(), &token)?;
+    let dropped = Cell::new(0u32);
+    let of = |value: u32, weight: u32| Weighed {
+        value,
+        weight,
+        dropped: &dropped,
+    };
+    let items = [of(5, 1), of(5, 10), of(6, 100)].into_nonempty_iter();
+    let key_of = |item: &Weighed| -> Result<Key, AllocError> { Ok((item.value, owner.clone()?)) };
+    let mut reader = items.try_group_by(rt.alloc(), key_of).into_iter();
+    let Ok(first) = reader.next().ok_or("no run")? else {
+        owned(call, &token, 1)?;
+        drop(reader);
+        is(call, dropped.get() as usize, 111)?;
+        return report(&rt, "refused", call);
+    };
+    holds(call, first.len().get() == 2 && dropped.get() == 0)?;
+    owned(call, &token, 2)?;
+    let second = reader.next().ok_or("no run")?;
+    owned(call, &token, 1)?;
+    drop(first);
+    let Ok(second) = second else {
+        is(call, dropped.get() as usize, 111)?;
+        return report(&rt, "refused", call);
+    };
+    is(call, dropped.get() as usize, 11)?;
+    drop(second);
+    is(call, dropped.get() as usize, 111)?;
     report(&rt, "made", call)
 }
