@@ -12,6 +12,7 @@ pub mod adapters;
 pub mod chains;
 pub mod consumers;
 pub mod first_item;
+pub mod generic;
 pub mod instead;
 pub mod joins;
 pub mod keyed;
