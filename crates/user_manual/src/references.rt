@@ -362,6 +362,14 @@ pub fn second_of_each<'a>(
     pairs.nonempty_iter().map(|p| &p.1).collect(alloc)
 }
 
+/// Returns the greatest price, from references to the prices.
+pub fn greatest_price(sales: &NEVec<Sale>) -> u32
+    ensures bound { All (λ s. s.price ≤ result) sales.now }
+    ensures among { Contains (map (λ s. s.price) sales.now) result }
+{
+    *sales.nonempty_iter().map(|s| &s.price).max()
+}
+
 /// Returns the buyers, each from a source of its own.
 pub fn buyers_one_by_one(alloc: Global, sales: &NEVec<Sale>) -> Result<NEVec<u32>, AllocError>
     ensures { IfOk result (λ v. v ≡ flat_map (λ s. s.buyer ∷ []) sales.now) }
