@@ -25,6 +25,7 @@ pub fn checksum(name: &str, n: NonZeroUsize) -> Option<u64> {
         "tree_set" => tree_set(n),
         "hash_set" => hash_set::<Folding>(n),
         "hash_set_default" => hash_set::<RandomState>(n),
+        "map_in_place" => map(n),
         "clone" => combined(&scrambled(n).clone()),
         "extend" => extend(n),
         _ => return None,

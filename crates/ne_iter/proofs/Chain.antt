@@ -1,17 +1,19 @@
 -- `chain`: from a run of its iterator to the list that it yields.
+use Rattle.std.specs.Iterator.Adapters as std
 use Rattle.std.proofs.Common.{rules, subst, ap, refl, arith, sym, ◌∙◌, append_assoc}
 use Rattle.std.specs.Prelude.{◌≡◌, List, [], ◌∷◌, length, Option, Some, None, Bool, true, false}
 use Rattle.std.specs.Prelude.{◌++◌, ltb, ◌||◌, MatchOption, map}
-use Rattle.std.specs.Iterator.{DrainsIf}
+use Rattle.std.specs.Iterator.{DrainsIf, Yields}
 use Rattle.std.specs.Iterator.Adapters.{chain_first, chain_second, chain_first_done}
 use Rattle.std.specs.Iterator.Adapters.{chain_second_done, chain_steps, SecondAnswers}
 use Rattle.std.specs.declared.iter.Chain.{Chain}
+use Rattle.std.proofs.iter.runs.Adapters.{Chain-runs}
 use Rattle.std.proofs.lemmas.Bool.{MatchBool-at_true, MatchBool-at_false, lt-ltb, or_left, or_right}
 use Rattle.std.proofs.lemmas.List.{append-nil, length-map, map-append}
 use Rattle.ne_vec.specs.Lists.{IsPrefix, Lists, YieldsThrough, EachView, View}
 use Rattle.ne_vec.specs.ListLaws.{triggered}
 use Rattle.ne_iter.specs.Sources.{ReadsListThrough, EachReading, Reads}
-use Rattle.ne_iter.specs.Chain.{IsChained, ChainsLists}
+use Rattle.ne_iter.specs.Chain.{IsChained, ChainsLists, ChainsRuns}
 use Rattle.ne_iter.specs.SourceLists.{MeetsList}
 use Rattle.ne_iter.proofs.SourceLists.{reads_through, through_reads, meets_read, each_view}
 
@@ -107,6 +109,84 @@ module _ {S T A : Type 0} (steps : S → Option A → S → Type 0) (others : T 
         let h = MatchBool-at_false _ _ fresh st.1 in
         first_gave whole s j z zs h.0 live st.0 h.1 h.2 (t, rest, fin)
         (λ q. DrainsIf-chain whole j zs q (let a = st.0 in cc) (t, rest, fin))
+
+-- the chain of two iterators, of which the first may have ended
+abbrev pub chain_of : {S T : Type 0} → S → T → Bool → Chain S T
+chain_of i j done = record { a = i; b = j; a_done = done; b_done = false }
+
+pub chains_runs : {S T A : Type 0} (steps : S → Option A → S → Type 0)
+    (others : T → Option A → T → Type 0) (a : S) (b : T) (it : Chain S T)
+    → std.ChainsRuns steps others a b it → ChainsRuns steps others a b it
+chains_runs steps others a b it runs p seen from =
+    let h = runs p seen from in
+    let i = h.2 in
+    let r = i.2 in
+    (h.0, h.1, (i.0, i.1, (r.0, r.1, r.2, r.3)))
+
+module _ {S T A : Type 0} (steps : S → Option A → S → Type 0) (others : T → Option A → T → Type 0)
+  where
+    chain_of_runs : (i : S) (j : T) → ChainsRuns steps others i j (chain_of i j false)
+    chain_of_runs i j = chains_runs steps others i j (chain_of i j false)
+        (Chain-runs steps others (chain_of i j false) i refl refl refl)
+
+    -- what holds of two iterators, and then of their chain
+    pub begins_chain : {P Q : Type 0} (i : S) (j : T) → P → Q → P × Q × (false ≡ false)
+        × (false ≡ false) × ChainsRuns steps others i j (chain_of i j false)
+    begins_chain i j p q = (p, q, refl, refl, chain_of_runs i j)
+
+    only_second : (i : S) (ys : List A) (j t : T) → Yields others j ys t
+        → Yields (chain_steps steps others) (chain_of i j true) ys (chain_of i t true)
+    only_second i [] j t e = ap (λ q. chain_of i q true) e
+    only_second i (y ∷ ys) j t (k, st, more) = (
+      chain_of i k true,
+      (refl, (st, refl)),
+      only_second i ys k t more,
+    )
+
+    -- the first list, so far
+    pub only_first : (i : S) (j : T) (us : List A) (k : S) → Yields steps i us k
+        → Yields (chain_steps steps others) (chain_of i j false) us (chain_of k j false)
+    only_first i j [] k e = ap (λ q. chain_of q j false) e
+    only_first i j (u ∷ us) k (m, st, more) = (
+      chain_of m j false,
+      (refl, (Some u, st, (refl, refl, refl))),
+      only_first m j us k more,
+    )
+
+    -- the first list to its end, and then the second
+    pub DrainsIf-chained : (done : Type 0) (us ys : List A) (i i' i'' : S) (j : T)
+        → Yields steps i us i' → steps i' None i'' → DrainsIf others done j ys
+        → DrainsIf (chain_steps steps others) done (chain_of i j false) (us ++ ys)
+    DrainsIf-chained done [] [] i i' i'' j e f (t, g, h) = (
+      chain_of i j false,
+      refl,
+      λ d. (
+        chain_of i'' (h d).0 true,
+        (
+          refl,
+          (
+            None,
+            subst (λ q. steps q None i'') (sym e) f,
+            (subst (λ q. others q None (h d).0) (sym g) (h d).1, refl),
+          ),
+        ),
+      ),
+    )
+    DrainsIf-chained done [] (y ∷ ys) i i' i'' j e f (t, (k, st, more), h) = (
+      chain_of i'' t true,
+      (
+        chain_of i'' k true,
+        (refl, (None, subst (λ q. steps q None i'') (sym e) f, (st, refl))),
+        only_second i'' ys k t more,
+      ),
+      λ d. (chain_of i'' (h d).0 true, (refl, ((h d).1, refl))),
+    )
+    DrainsIf-chained done (x ∷ us) ys i i' i'' j (k, st, more) f g =
+        let r = DrainsIf-chained done us ys k i' i'' j more f g in (
+          r.0,
+          (chain_of k j false, (refl, (Some x, st, (refl, refl, refl))), r.1),
+          r.2,
+        )
 
 -- the first list is read to its end before the second yields an item
 pub append_prefix : {A : Type 0} (whole : Bool) (xs ys us vs : List A)

@@ -285,7 +285,6 @@ alike test view (y ∷ r) x = refl
 pub cuts_runs : {S K A F : Type 0} (calls : Shared F (Bor A × (Bor A × Unit {0})) Bool)
     (steps : S → Option A → S → Type 0) (g : Grouping S K A F) → g.state ≡ Unread
     → CutsRuns calls steps g
-unfolding AreRuns
 cuts_runs {S = S} calls steps g unread p seen from rs is whole =
     let next = CutsNext calls steps in
     let given = subst (λ l. DrainsIf next (p.whole ≡ true) g l) is (run_drains next p g from) in
@@ -301,9 +300,9 @@ cuts_runs {S = S} calls steps g unread p seen from rs is whole =
         (
           refl,
           λ test acts.
-              let runs = are_runs by_first test cut.drawn rs (subst (λ held.
+              are_runs by_first test cut.drawn rs (subst (λ held.
               IsDivision (by_first test) cut.drawn (and_held rs held)) over.1
-              (cut.cut.divides test acts)) in (runs, runs),
+              (cut.cut.divides test acts)),
         ),
       ),
     )

@@ -3,6 +3,7 @@ pub mod InterspersedPlaces
 pub mod Unzipped
 pub mod Traced
 pub mod Loops
+mod Appended
 pub mod Best
 pub mod Keyed
 pub mod Groupings

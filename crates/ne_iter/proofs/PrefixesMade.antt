@@ -1,5 +1,6 @@
 -- The values made of a prefix of a list, and of a list of `Result`s.
-use Rattle.std.proofs.Common.{refl, ap, subst, ◌∙◌}
+use Rattle.std.proofs.Common.{refl, sym, ap, subst, ◌∙◌, append_assoc}
+use Rattle.std.proofs.lemmas.List.{map-append}
 use Rattle.std.specs.Prelude.{◌≡◌, Bool, true, false, List, [], ◌∷◌, ◌++◌, map, Result, Ok, Err}
 use Rattle.std.specs.Bool.{MatchBool}
 use Rattle.std.specs.Result.{result_map_both}
@@ -19,6 +20,12 @@ module _ {T V : Type 0} (collected : List T → V → Type 0) (v : V) (xs ys : L
       → PrefixMakes collected is_complete xs v
   prefix_makes is_complete f h = prefix_made (is_complete v) f h
 
+-- the items that came, and then those of `taken`
+pub more_items : {A : Type 0} (begun yielded taken held after : List A) → after ≡ held ++ taken
+    → held ≡ begun ++ yielded → after ≡ begun ++ (yielded ++ taken)
+more_items begun yielded taken held after added same =
+    added ∙ ap (λ l. l ++ taken) same ∙ append_assoc begun yielded taken
+
 module _ {T E : Type 0} where
   pub all_values : (values : List T) → values_or_first_err {E = E} (map Ok values) ≡ Ok values
   all_values [] = refl
@@ -36,3 +43,24 @@ module _ {T E : Type 0} where
       → values_or_first_err (items ++ more) ≡ Err e
   first_err_at items values e is more =
       ap (λ l. values_or_first_err (l ++ more)) is ∙ first_err values e more
+
+  -- one value more
+  pub one_more : (begun yielded : List (Result T E)) (item : Result T E) (value : T)
+      (values after : List T) → item ≡ Ok value → after ≡ values ++ value ∷ []
+      → map Ok values ≡ begun ++ yielded → map Ok after ≡ begun ++ (yielded ++ item ∷ [])
+  one_more begun yielded item value values after is added same =
+      more_items begun yielded (item ∷ []) (map Ok values) (map Ok after) (ap (map Ok) added
+      ∙ map-append Ok values (value ∷ []) ∙ ap (λ r. map Ok values ++ r ∷ []) (sym is)) same
+
+  -- the values so far are those of the items so far, the first one among them
+  pub are_values : (first : Result T E) (value : T) (empty begun values : List T)
+      (yielded : List (Result T E)) → first ≡ Ok value → empty ≡ [] → begun ≡ empty ++ value ∷ []
+      → map Ok values ≡ map Ok begun ++ yielded → first ∷ yielded ≡ map Ok values
+  are_values first value empty begun values yielded is none one same = ap (λ r. r ∷ yielded) is
+      ∙ sym (same ∙ ap (λ l. map Ok l ++ yielded) (one ∙ ap (λ l. l ++ value ∷ []) none))
+
+  -- the values so far, if an `Err` was yielded after them
+  pub up_to_err : (items : List (Result T E)) (item : Result T E) (e : E) (values : List T)
+      → item ≡ Err e → items ≡ map Ok values → items ++ item ∷ [] ≡ map Ok values ++ Err e ∷ []
+  up_to_err items item e values is same = ap (λ r. items ++ r ∷ []) is
+      ∙ ap (λ l. l ++ Err e ∷ []) same

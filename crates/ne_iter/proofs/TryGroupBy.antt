@@ -47,4 +47,5 @@ module _ {A K F : Type 0} (calls : Shared F (Bor A × Unit {0}) (Result K AllocE
           (x : Bor A) → CallableAfter (by_keys calls eq) steps back s f → steps s (Some x.now) t
           → calls.pre f (x, tt)
       callable_key steps back s t x can step =
-          let last = Contains-push back x.now in (can (x.now ∷ []) t x x (t, step, refl) last last).0
+          let last = Contains-push back x.now in
+          (can (x.now ∷ []) t x x (t, step, refl) last last).0

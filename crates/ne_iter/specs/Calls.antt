@@ -1,18 +1,11 @@
 -- The calls of a closure with the items of a list, in order, and their results. A closure may have
 -- state, so each call takes the closure as the call before left it.
+pub use Rattle.ne_vec.specs.Calls.{Calls}
 use Rattle.std.specs.Prelude.{◌≡◌, List, [], ◌∷◌}
 use Rattle.std.specs.Iterator.{FoldTurn}
 use Rattle.std.specs.Fn.{Called, CalledAt, CalledWithState, Mut}
 use Rattle.std.specs.List.{FoldsTo}
 use Rattle.std.specs.Borrow.{Bor, MutBor}
-
--- f, called with the items of xs, may return ys, and is then g.
-abbrev pub Calls : {F A B : Type 0} → Mut F (A × Unit {0}) B → F → List A → List B → F → Type 0
-Calls calls f [] [] g = f ≡ g
-Calls calls f [] (y ∷ ys) g = ⊥
-Calls calls f (x ∷ xs) [] g = ⊥
-Calls {F = F} calls f (x ∷ xs) (y ∷ ys) g = (h : F) × Called calls f (x, tt) y h
-    × Calls calls h xs ys g
 
 -- f, called with references to the items of ps, may return the second parts of ps, and is then g.
 abbrev pub CallsEachAt : {F A B : Type 0} → Mut F (Bor A × Unit {0}) B → F → List (A × B) → F → Type

@@ -21,6 +21,10 @@ module _ {K : Type 0} (eq : K → K → Bool) where
   abbrev pub IsSetOf : List K → List K → Type 0
   IsSetOf items keys = IsDistinct eq keys × ((q : K) → is_member eq keys q ≡ is_member eq items q)
 
+-- The items `after` are those of `before`, followed by a list that was read.
+abbrev pub AppendsRead : {A : Type 0} → (List A → Type 0) → List A → List A → Type 0
+AppendsRead {A} read before after = (xs : List A) × read xs × (after ≡ before ++ xs)
+
 -- `Ok` of all values, or the first `Err`.
 abbrev pub values_or_first_err : {T E : Type 0} → List (Result T E) → Result (List T) E
 values_or_first_err [] = Ok []

@@ -113,7 +113,7 @@ CutsRuns {A = A} calls steps g = EachRunFrom (CutsNext calls steps) g (λ p.
     → Naming (map {B = Result (List A) AllocError} Ok rs)
     (λ _. SomeRun steps g.source (λ q. (q.whole ≡ true)
     × ((test : A → A → Bool) → ActsAsAtPair calls g.closure test
-    → AreRuns test q.items rs × (rs ≡ runs_of by_first test q.items)))))
+    → rs ≡ runs_of by_first test q.items))))
 
 -- The runs of the items themselves are said by `CutsRuns`.
 -- If the closure acts as a test of two items through `view`, `runs_by` yields, through `view`, the

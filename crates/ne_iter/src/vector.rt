@@ -14,7 +14,8 @@ impl<T: Drop> FromNonEmptyIterator<T> for NEVec<T> {
         alloc: Global,
         iter: I,
     ) -> Result<NEVec<T>, AllocError> {
-        let items: Vec<T> = iter.into_nonempty_iter().into_iter().collect(alloc)?;
+        let mut items = Vec::new(alloc);
+        let _appended = iter.into_nonempty_iter().append_to(alloc, &mut items)?;
         Ok(NEVec::try_from_vec(items).unwrap())
     }
 

@@ -1,5 +1,6 @@
 //! Products of two non-empty iterators, and whether the items of one are distinct.
 ghost use Rattle.std.specs.Prelude.{◌≡◌, IfOk, MatchOption, None};
+ghost use Rattle.std.specs.HashSet.{contains};
 ghost use Rattle.std.specs.Iterator.{MakesProgress};
 ghost use Rattle.ne_vec.specs.Lists.{EachList, itself};
 ghost use Rattle.ne_iter.specs.SourceLists.{BecomesList};
@@ -106,8 +107,11 @@ pub trait NonEmptyItertools: NonEmptyIterator {
             (λ xs.
             ChecksDistinct Self.Item.eq xs unique)) }
     {
+        let items = self.into_iter();
+        let most = items.size_hint().0;
         let mut seen = HashSet::new(alloc);
-        for item in self {
+        for item in items {
+            make_room(&mut seen, most);
             let Ok(is_new) = seen.insert(item) else {
                 return Err(AllocError);
             };
@@ -120,6 +124,19 @@ pub trait NonEmptyItertools: NonEmptyIterator {
 }
 
 impl<T: NonEmptyIterator> NonEmptyItertools for T {}
+
+// Makes a full set eight times as large, but no larger than for `most` items: so a large set is
+// seldom built anew, and a small one is enough for an item that is soon repeated. Without memory
+// for that, the set is left as it is.
+fn make_room<T: Eq + Hash>(seen: &mut HashSet<T>, most: usize)
+    ensures { (q : T) → contains T.eq seen.new q ≡ contains T.eq seen.old q }
+{
+    let len = seen.len();
+    if len == seen.capacity() {
+        let more = len.saturating_mul(7).saturating_add(56);
+        let _has_room = seen.reserve(more.min(most.saturating_sub(len))).is_ok();
+    }
+}
 
 /// The pairs of each item of one non-empty iterator with each item of another. See
 /// [`NonEmptyItertools::cartesian_product`].
@@ -233,6 +250,24 @@ where
         self.right = restarted;
         let right = self.right.next()?;
         Some(self.pair(next_row, right))
+    }
+
+    // The right side has an upper bound, or the number of pairs is left open.
+    fn size_hint(&self) -> (usize, Option<usize>) {
+        if self.is_over {
+            return (0, Some(0));
+        }
+        let Some(restart) = &self.restart else {
+            return (1, None);
+        };
+        let (left, held) = (self.left.size_hint().0, usize::from(self.row.is_some()));
+        let (row, right) = (restart.size_hint(), self.right.size_hint());
+        match (left.saturating_add(held).checked_sub(1), row.1, right.1) {
+            (Some(rows), Some(_), Some(_)) => {
+                (rows.saturating_mul(row.0).saturating_add(right.0), None)
+            }
+            _ => (0, None),
+        }
     }
 }
 

@@ -2,6 +2,7 @@ pub mod Relations
 pub mod Halving
 pub mod Sifts
 pub mod Kept
+pub mod Mapped
 pub mod SortedKeys
 pub mod Chunked
 pub mod Compared

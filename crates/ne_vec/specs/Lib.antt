@@ -2,6 +2,7 @@ pub mod Divisions
 pub mod DivisionLaws
 pub mod SliceRuns
 pub mod Kept
+pub mod Calls
 pub mod KeyOrder
 pub mod Taken
 pub mod Searches

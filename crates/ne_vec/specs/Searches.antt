@@ -1,9 +1,9 @@
--- The precondition of searches, `retain` and `retain_mut` on a closure, which they call with items
--- of a list in any order, and what a search by a key finds. The precondition is a record, as the
--- automatic proof finds one where it is known.
+-- The precondition of searches, `retain`, `retain_mut` and `map_in_place` on a closure, which they
+-- call with items of a list in any order, and what a search by a key finds. The precondition is a
+-- record, as the automatic proof finds one where it is known.
 use Rattle.std.specs.Prelude.{◌≡◌, ℕ, List, All, Contains, Some, slice_get, map}
 use Rattle.std.specs.Borrow.{Bor, MutBor}
-use Rattle.std.specs.Fn.{Mut, CalledAt, CalledAtMut, Takes, TakesAt}
+use Rattle.std.specs.Fn.{Mut, Called, CalledAt, CalledAtMut, Takes, TakesAt}
 use Rattle.std.specs.List.{FoldsTo}
 use Rattle.std.specs.declared.cmp.Ordering.{Ordering}
 use Rattle.std.specs.declared.cmp.Ordering.TheVariants.{Equal}
@@ -13,6 +13,13 @@ pub record CallableAtItems {F A R : Type 0} (calls : Mut F (Bor A × Unit {0}) R
     (xs : List A) : Type 0 where
   pub at : (shown : List A) (g : F) → All (Contains xs) shown
       → FoldsTo (λ p x q. (r : R) × CalledAt calls p x r q) f shown g → All (TakesAt calls g) xs
+
+-- f may be called with each item of xs by value, also after any such calls
+pub record CallableOnItems {F A R : Type 0} (calls : Mut F (A × Unit {0}) R) (f : F) (xs : List A)
+    : Type 0 where
+  pub at : (shown : List A) (g : F) → All (Contains xs) shown
+      → FoldsTo (λ p x q. (r : R) × Called calls p (x, tt) r q) f shown g
+      → All (λ x. Takes calls g (x, tt)) xs
 
 -- f may be called with a `&mut` to x
 abbrev pub TakesAtMut : {F A R : Type 0} → Mut F (MutBor A × Unit {0}) (R × (MutBor A × Unit {0}))

@@ -20,6 +20,7 @@ ghost use Rattle.std.specs.Iterator.{IsFiniteIterable, ExtendsWithItems};
 
 mod dedup;
 mod iter;
+mod map;
 mod random;
 mod retain;
 mod search;

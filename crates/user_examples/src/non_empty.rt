@@ -41,6 +41,17 @@ pub fn next(alloc: Global) -> Result<(u32, Option<u32>, Option<u32>), AllocError
     Ok((*first, second.copied(), end.copied()))
 }
 
+/// The example of `append_to`.
+pub fn append_to(alloc: Global) -> Result<Vec<u32>, AllocError>
+    ensures { IfOk result (λ items. items.items ≡ 3 ∷ 1 ∷ 4 ∷ []) }
+{
+    let mut items = vec![in alloc; 3u32]?;
+    let _appended = nev![alloc; 1, 4]?
+        .into_nonempty_iter()
+        .append_to(alloc, &mut items)?;
+    Ok(items)
+}
+
 /// The example of `peekable`.
 pub fn peekable(alloc: Global) -> Result<u32, AllocError>
     ensures { IfOk result (λ first. first ≡ 4) }

@@ -136,6 +136,16 @@ pub fn retain_mut(alloc: Global) -> Result<Result<NEVec<u32>, Vec<u32>>, AllocEr
     Ok(even_halves)
 }
 
+/// The items are halved in place.
+pub fn map_in_place(alloc: Global) -> Result<NEVec<u32>, AllocError>
+    ensures items { IfOk result (λ v. (xs : List ℕ) → xs ≡ 3 ∷ 1 ∷ 4 ∷ []
+        → v ≡ map (λ x. x / 2) xs) }
+    ensures value { map (λ x. x / 2) (3 ∷ 1 ∷ 4 ∷ []) ≡ 1 ∷ 0 ∷ 2 ∷ [] }
+{
+    let halves = nev![alloc; 3, 1, 4]?.map_in_place(|x| x / 2);
+    Ok(halves)
+}
+
 /// The example of `insert`.
 pub fn insert(alloc: Global) -> Result<NEVec<u32>, AllocError>
     ensures { IfOk result (λ v. v ≡ 1 ∷ 4 ∷ 2 ∷ 6 ∷ 3 ∷ []) }

@@ -1,8 +1,11 @@
 //! The adapter that appends the items of a second source.
 ghost use Rattle.ne_iter.specs.Chain.{chain_first, chain_second};
 
+use super::collected::append;
 use super::{ItemSource, NonEmptyIterator};
+use std::alloc::{AllocError, Global};
 use std::iter;
+use std::marker::PhantomData;
 
 /// A source of the items of two sources, one after the other: see [`NonEmptyIterator::chain`].
 #[derive(Drop)]
@@ -38,6 +41,20 @@ impl<A: NonEmptyIterator, B: IntoIterator<Item = A::Item>> NonEmptyIterator for 
     ghost use Rattle.ne_iter.specs.Chain.{chain_first, HasFirst-chain};
 
     ghost item_view = { A.item_view };
+
+    fn append_to(
+        self,
+        alloc: Global,
+        items: &mut Vec<A::Item>,
+    ) -> Result<PhantomData<iter::Chain<A::IntoIter, B::IntoIter>>, AllocError>
+    where
+        A::Item: Drop,
+    {
+        let second = self.b.into_iter();
+        let _first = self.a.append_to(alloc, items)?;
+        let _second = append(alloc, items, second)?;
+        Ok(PhantomData)
+    }
 
     ghost not_empty = { λ s it made. HasFirst-chain A.IntoIter.next_gives B.IntoIter.next_gives it
         made.2 (A.not_empty (chain_first s) (std_chain_first it) made.0) };

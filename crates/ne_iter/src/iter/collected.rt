@@ -1,16 +1,18 @@
 //! Collecting: the trait [`FromNonEmptyIterator`], and the standard library's types that implement
 //! it: `()`, vectors and results here, texts and paths in `texts`, and maps and sets in the crate's
 //! module `keys`.
-ghost use Rattle.std.specs.Prelude.{◌≡◌, ◌<◌, Bool, true, List, [], IfOk, vec_len};
-ghost use Rattle.std.specs.Iterator.{IsFiniteIterable};
+ghost use Rattle.std.specs.Prelude.{◌≡◌, ◌<◌, ◌++◌, Bool, true, List, [], IfOk, vec_len, map, Ok};
+ghost use Rattle.std.specs.Prelude.{Result, MatchResult, OnOk, OnSome, ◌∷◌};
+ghost use Rattle.std.specs.Iterator.{DrainsIf, IsFinite, IsFiniteIterable, IsNearerEnd, YieldsThen};
 ghost use Rattle.std.specs.Result.{is_ok};
-ghost use Rattle.ne_iter.specs.Collected.{PrefixMakes, ResultsMake};
+ghost use Rattle.ne_iter.specs.Collected.{AppendsRead, PrefixMakes, ResultsMake};
 
 mod texts;
 
 use super::{IntoNonEmptyIterator, ItemSource, NonEmptyIterator};
 use ne_vec::NEVec;
 use std::alloc::{AllocError, Global};
+use std::marker::PhantomData;
 use std::mem;
 
 /// A type that can be made from one item or more.
@@ -96,7 +98,9 @@ impl<T: Drop> FromNonEmptyIterator<T> for Vec<T> {
         alloc: Global,
         iter: I,
     ) -> Result<Vec<T>, AllocError> {
-        iter.into_nonempty_iter().into_iter().collect(alloc)
+        let mut items = Vec::new(alloc);
+        let _appended = iter.into_nonempty_iter().append_to(alloc, &mut items)?;
+        Ok(items)
     }
 
     fn from_drained(alloc: Global, items: &mut Vec<T>) -> Result<Vec<T>, AllocError> {
@@ -130,15 +134,98 @@ impl<T: Drop, E: Drop, V: FromNonEmptyIterator<T>> FromNonEmptyIterator<Result<T
             Err(e) => return Ok(Err(e)),
         };
         let mut values = Vec::new(alloc);
-        // Without memory for as many values as the hint says, the vector grows as they come.
-        let _has_room = values.reserve(rest.size_hint().0.saturating_add(1)).is_ok();
-        values.push(first)?;
-        for item in rest {
-            match item {
-                Ok(value) => values.push(value)?,
-                Err(e) => return Ok(Err(e)),
+        push_first(&mut values, first, rest.size_hint().0)?;
+        let mut rest = rest;
+        loop {
+            let (filled, left, over) = fill_with_ok(values, rest);
+            values = filled;
+            rest = left;
+            match over {
+                Some(Ok(value)) => values.push(value)?,
+                Some(Err(e)) => return Ok(Err(e)),
+                None => return Ok(Ok(V::from_drained(alloc, &mut values)?)),
             }
         }
-        Ok(Ok(V::from_drained(alloc, &mut values)?))
     }
+}
+
+// Moves values into the places of `values` that are left. Returns the item that found no place, or
+// the first `Err`, if one came.
+fn fill_with_ok<T: Drop, E: Drop, I: Iterator<Item = Result<T, E>>>(
+    mut values: Vec<T>,
+    mut rest: I,
+) -> (Vec<T>, I, Option<Result<T, E>>)
+    requires { I.can_next rest × IsFinite (I.remaining rest) }
+    ensures { (taken : List (Result T E)) × (map Ok result.0.items ≡ map Ok values.items ++ taken)
+        × YieldsThen I.next_gives rest taken result.2 result.1
+        × OnSome result.2 (IsNearerEnd I.can_next I.remaining rest result.1) }
+{
+    while let Some(item) = rest.next() {
+        match item {
+            Ok(value) => {
+                if values.len() == values.capacity() {
+                    return (values, rest, Some(Ok(value)));
+                }
+                values.push_reserved(value);
+            }
+            Err(e) => return (values, rest, Some(Err(e))),
+        }
+    }
+    (values, rest, None)
+}
+
+// Appends the items that are left of an iterator. It is inlined, since a vector's own iterator
+// takes ten times as long where the compiler does not see that it was just made.
+#[inline(always)]
+pub(super) fn append<T: Drop, I: Iterator<Item = T>>(
+    alloc: Global,
+    items: &mut Vec<T>,
+    rest: I,
+) -> Result<PhantomData<I>, AllocError>
+    requires { I.can_next rest × IsFinite (I.remaining rest) }
+    ensures { AppendsRead (DrainsIf I.next_gives (is_ok result ≡ true) rest)
+        items.old.items items.new.items }
+{
+    let mut rest = rest;
+    loop {
+        let (filled, left, over) = fill(mem::replace(items, Vec::new(alloc)), rest);
+        *items = filled;
+        rest = left;
+        let Some(item) = over else {
+            return Ok(PhantomData);
+        };
+        push_first(items, item, rest.size_hint().0)?;
+    }
+}
+
+// Pushes an item before `more` others. Without memory for all, the vector grows as they come.
+pub(super) fn push_first<T: Drop>(
+    items: &mut Vec<T>,
+    item: T,
+    more: usize,
+) -> Result<(), AllocError>
+    ensures items { MatchResult result (λ _. items.new.items ≡ items.old.items ++ item ∷ [])
+        (λ _. items.new.items ≡ items.old.items) }
+    ensures len { OnOk result (0 < vec_len items.new) }
+{
+    let _has_room = items.reserve(more.saturating_add(1)).is_ok();
+    items.push(item)?;
+    Ok(())
+}
+
+// Moves items into the places of `items` that are left. Returns the item that found no place.
+#[inline(always)]
+fn fill<T: Drop, I: Iterator<Item = T>>(mut items: Vec<T>, mut rest: I) -> (Vec<T>, I, Option<T>)
+    requires { I.can_next rest × IsFinite (I.remaining rest) }
+    ensures { (taken : List T) × (result.0.items ≡ items.items ++ taken)
+        × YieldsThen I.next_gives rest taken result.2 result.1
+        × OnSome result.2 (IsNearerEnd I.can_next I.remaining rest result.1) }
+{
+    while let Some(item) = rest.next() {
+        if items.len() == items.capacity() {
+            return (items, rest, Some(item));
+        }
+        items.push_reserved(item);
+    }
+    (items, rest, None)
 }

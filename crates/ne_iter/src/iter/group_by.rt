@@ -80,6 +80,24 @@ pub(super) enum State<K, V> {
     Ended,
 }
 
+impl<K, V> State<K, V> {
+    ghost use Rattle.std.specs.Prelude.{ℕ, ◌≤◌, IfSome};
+    ghost use Rattle.ne_iter.specs.GroupingRuns.{items_ahead};
+
+    // Returns the bounds on how many runs are left, if the source has at most `high` items left.
+    pub(super) fn hint(&self, high: Option<usize>) -> (usize, Option<usize>)
+        ensures lower { result.0 ≤ items_ahead self.now 0 }
+        ensures upper { (left : ℕ) → IfSome high (λ n. left ≤ n)
+            → IfSome result.1 (λ n. items_ahead self.now left ≤ n) }
+    {
+        match self {
+            State::Unread => (0, high),
+            State::Held(_, _) => (1, high.and_then(|n| n.checked_add(1))),
+            State::Ended => (0, Some(0)),
+        }
+    }
+}
+
 impl<I, K, V, F> Model for GroupBy<I, K, V, F> {
     ghost use Rattle.ne_iter.specs.Grouping.{Grouping};
 
@@ -127,6 +145,10 @@ where
             }
         }
         Some(Ok(run))
+    }
+
+    fn size_hint(&self) -> (usize, Option<usize>) {
+        self.state.hint(self.iter.size_hint().1)
     }
 }
 

@@ -113,4 +113,17 @@ where
             }
         }
     }
+
+    fn size_hint(&self) -> (usize, Option<usize>) {
+        if self.is_over {
+            return (0, Some(0));
+        }
+        let held = usize::from(self.next.is_some());
+        let (low, high) = self.iter.size_hint();
+        let high = match high {
+            Some(n) => n.checked_mul(2).and_then(|twice| twice.checked_add(held)),
+            None => None,
+        };
+        (low.saturating_mul(2).saturating_add(held), high)
+    }
 }

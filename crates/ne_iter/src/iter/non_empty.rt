@@ -1,7 +1,8 @@
 //! [`NonEmptyIterator`]: a source that yields at least one item, with its methods.
 ghost use Rattle.std.specs.Prelude.{◌≡◌, ◌+◌, Bool, true, false, List, drop, length, map};
 ghost use Rattle.std.specs.Prelude.{slice_get, take, Option, Some, Ok, IfOk, IsPermutation, ◌≤◌};
-ghost use Rattle.std.specs.Prelude.{IsTrue, MatchOption};
+ghost use Rattle.std.specs.Prelude.{IsTrue, MatchOption, OnOk, ◌++◌};
+ghost use Rattle.std.specs.Result.{is_ok};
 ghost use Rattle.std.specs.Iterator.Runs.{EachRunFrom, SomeRun, IsFilterRun, IsSkipRun};
 ghost use Rattle.std.specs.Iterator.Runs.{IndexesMappedItems, AnyItem, CountFits, WholeRun};
 ghost use Rattle.std.specs.Iterator.Runs.{IsReduceRun, AllItemsGive, AnyItemGives, NoItemPasses};
@@ -49,7 +50,7 @@ ghost use Rattle.ne_iter.specs.Intersperse.{intersperse_first, intersperse_rest}
 ghost use Rattle.ne_iter.specs.Intersperse.{intersperse_separator, IsInterspersed};
 ghost use Rattle.ne_iter.specs.Calls.{ActsAsWithState};
 ghost use Rattle.ne_iter.specs.Cloned.{TriesClone, cloned_source, IsCloned};
-ghost use Rattle.ne_iter.specs.Collected.{PrefixMakes, values_or_first_err};
+ghost use Rattle.ne_iter.specs.Collected.{AppendsRead, PrefixMakes, values_or_first_err};
 ghost use Rattle.ne_iter.specs.SortedByKey.{AscendsByKey, PermutesByKey};
 ghost use Rattle.ne_iter.specs.Map.{map_source, map_callee, IsMapped};
 ghost use Rattle.ne_iter.specs.Take.{take_source, take_count, IsTaken};
@@ -68,7 +69,7 @@ ghost use Rattle.ne_iter.specs.Peekable.{peekable_first, peekable_rest, Peekable
 ghost use Rattle.ne_iter.specs.Peekable.{YieldsPeeked};
 
 use super::best::{best, best_by_key};
-use super::collected::FromNonEmptyIterator;
+use super::collected::{FromNonEmptyIterator, append};
 use super::sources::{IntoNonEmptyIterator, ItemSource};
 use super::{
     Chain, Cloned, Copied, Enumerate, FlatMap, Flatten, GroupBy, Intersperse, Map, NEGroupBy,
@@ -122,6 +123,35 @@ pub trait NonEmptyIterator: IntoIterator {
         let mut it = self.into_iter();
         let first = it.next().unwrap();
         (first, it)
+    }
+
+    /// Appends the items to a vector. They must come to an end.
+    ///
+    /// Vectors are collected by it. The value in `Ok` is empty, and names the iterator: so a proof
+    /// knows that its size is in range. The Rust crate lacks this method.
+    ///
+    /// Returns `AllocError` if the allocation fails; the items that came before are then appended.
+    ///
+    /// ```
+    /// let mut items = vec![in alloc; 3u32]?;
+    /// let _appended = nev![alloc; 1, 4]?.into_nonempty_iter().append_to(alloc, &mut items)?;
+    /// let list = items.as_slice(); // [3, 1, 4]
+    /// ```
+    fn append_to(
+        self,
+        alloc: Global,
+        items: &mut Vec<Self::Item>,
+    ) -> Result<PhantomData<Self::IntoIter>, AllocError>
+    where
+        Self: Sized,
+        Self::Item: Drop,
+        requires { ⟦<Self as ItemSource>⟧.ends self }
+        ensures gives { AppendsRead (⟦<Self as ItemSource>⟧.reads (is_ok result) self)
+            items.old.items items.new.items }
+        ensures lists { OnOk result (EachList (⟦<Self as ItemSource>⟧.lists itself) self (λ xs.
+            items.new.items ≡ items.old.items ++ xs)) }
+    {
+        append(alloc, items, self.into_iter())
     }
 
     /// Returns a source of the same items whose first item can be read and changed. The first item

@@ -2,8 +2,11 @@
 ghost use Rattle.ne_iter.specs.Peekable.{peekable_first, peekable_rest};
 ghost use Rattle.ne_iter.specs.Sources.{DrawsFirst};
 
+use super::collected::{append, push_first};
 use super::{ItemSource, NonEmptyIterator};
+use std::alloc::{AllocError, Global};
 use std::iter;
+use std::marker::PhantomData;
 
 /// A source whose first item was already taken and can be read and changed: see
 /// [`NonEmptyIterator::peekable`].
@@ -79,6 +82,16 @@ where
     ghost use Rattle.ne_iter.specs.Peekable.{peekable_first};
     ghost use Rattle.ne_iter.specs.Chain.{HasFirst-chain};
     ghost use Rattle.ne_iter.specs.Once.{HasFirst-once};
+
+    fn append_to(
+        self,
+        alloc: Global,
+        items: &mut Vec<I::Item>,
+    ) -> Result<PhantomData<iter::Chain<iter::Once<I::Item>, I>>, AllocError> {
+        push_first(items, self.first, self.rest.size_hint().0)?;
+        let _rest = append(alloc, items, self.rest)?;
+        Ok(PhantomData)
+    }
 
     ghost not_empty = { λ s it made. HasFirst-chain (⟦<iter::Once<I::Item> as Iterator>⟧.next_gives)
         I.next_gives it made.2 (HasFirst-once (chain_first it) (peekable_first s) made.0) };

@@ -112,6 +112,10 @@ where
         }
         Some(Ok(run))
     }
+
+    fn size_hint(&self) -> (usize, Option<usize>) {
+        self.state.hint(self.iter.size_hint().1)
+    }
 }
 
 /// `runs_by` ends if its source does and its closure can be called with any two items that come.

@@ -133,6 +133,10 @@ where
         }
         Some(Ok(run))
     }
+
+    fn size_hint(&self) -> (usize, Option<usize>) {
+        self.state.hint(self.iter.size_hint().1)
+    }
 }
 
 /// `try_group_by` ends if its source does and its closure can be called with each item that comes.

@@ -134,6 +134,11 @@ impl<'a, T, F: Fn(&T, &T) -> bool, C: Comparison<T>> Iterator for RunsIter<'a, T
         self.items = rest;
         Some(NESlice { inner: run })
     }
+
+    fn size_hint(&self) -> (usize, Option<usize>) {
+        let len = self.items.len();
+        (len.min(1), Some(len))
+    }
 }
 
 // Returns the length of the first run.

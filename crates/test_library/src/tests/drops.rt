@@ -218,6 +218,17 @@ fn is_alone(item: Living<'_>) -> Result<(), Fail> {
     is(item.alive.get(), 1)
 }
 
+// Each item is replaced by another one, and dropped once.
+#[test]
+fn mapped_in_place(rt: HostRuntime) -> Result<(), Fail> {
+    let alive = Cell::new(0u32);
+    let items: NEVec<Living> = three(&alive).into_nonempty_iter().collect(rt.alloc())?;
+    let others = items.map_in_place(|it| born(it.number, it.alive));
+    let held = alive.get();
+    drop(others);
+    is([held, alive.get()], [3, 0])
+}
+
 #[test]
 fn beaten_and_passed_over(_rt: HostRuntime) -> Result<(), Fail> {
     let alive = Cell::new(0u32);

@@ -13,11 +13,12 @@ fn memory_of_the_tail_is_kept(rt: HostRuntime) -> Result<(), Fail> {
     is((*items.last(), items.capacity().get()), (2, 50))
 }
 
-// What is kept stays in the memory of the items.
+// What is kept stays in the memory of the items, and so does what they are replaced by.
 #[test]
 fn memory_is_kept(rt: HostRuntime) -> Result<(), Fail> {
     let mut items = NEVec::with_capacity(rt.alloc(), of(50)?, 1u32)?;
     items.push(2)?;
+    let items = items.map_in_place(|it| it * 2 - it);
     let one = items.retain(|it| *it == 2).ok().ok_or("none kept")?;
     is((*one.first(), one.capacity().get()), (2, 50))?;
     let none = one.retain_mut(|_| false).err().ok_or("one kept")?;

@@ -88,8 +88,8 @@ fn draws_and_comparisons(rt: HostRuntime) -> Result<(), Fail> {
     )
 }
 
-// The first run is 4 and 3. The key of 1 fails, so an `Err` comes in place of the next run, and then
-// nothing is drawn. Each item is drawn once and its key is called once.
+// The first run is 4 and 3. The key of 1 fails, so an `Err` comes in place of the next run, and
+// then nothing is drawn. Each item is drawn once and its key is called once.
 #[test]
 fn failing_key(rt: HostRuntime) -> Result<(), Fail> {
     let (draws, keys) = (Cell::new(0u32), Cell::new(0u32));

@@ -4,7 +4,7 @@
 use super::{is, list, of, prints};
 use nonempty_collections::{
     FromNonEmptyIterator, IntoNonEmptyIterator, NEEither, NEIndexMap, NEIndexSet, NEMap, NESet,
-    NESlice, NonEmptyIterator,
+    NESlice, NonEmptyIterator, NonEmptyItertools,
 };
 use std::borrow::CowStr;
 use std::convert::AsSlice;
@@ -72,7 +72,9 @@ fn of_characters(rt: HostRuntime) -> Result<(), Fail> {
     is((text.as_str(), again.as_str()), ("xy", "xy"))
 }
 
-// The hint of chunks is exact; `cloned` and `scan` pass on that of their source.
+// The hint of chunks is exact; `cloned` and `scan` pass on that of their source. `intersperse`
+// gives an item and a separator for each that its source has left, after the one that it holds. A
+// product has no upper bound.
 #[test]
 fn hints(rt: HostRuntime) -> Result<(), Fail> {
     let five = list(rt.alloc(), &[1u32, 2, 3, 4, 5])?;
@@ -89,7 +91,37 @@ fn hints(rt: HostRuntime) -> Result<(), Fail> {
     let _ = scanned.next();
     is((before, scanned.size_hint()), ((5, Some(5)), (4, Some(4))))?;
     let spread = five.nonempty_iter().flat_map(|x| [*x, 0]).into_iter();
-    is(spread.size_hint(), (0, None))
+    is(spread.size_hint(), (0, None))?;
+    let mut joined = five.nonempty_iter().copied().intersperse(0).into_iter();
+    let before = joined.size_hint();
+    let _ = joined.next();
+    is((before, joined.size_hint()), ((9, Some(9)), (8, Some(8))))?;
+    let pairs = five.nonempty_iter().cartesian_product(&five);
+    let mut pairs = pairs.into_iter();
+    let before = pairs.size_hint();
+    let _ = pairs.next();
+    is((before, pairs.size_hint()), ((25, None), (24, None)))
+}
+
+// At most one run for each item that is left, and one for an item held.
+#[test]
+fn hints_of_runs(rt: HostRuntime) -> Result<(), Fail> {
+    let five = list(rt.alloc(), &[1u32, 2, 3, 4, 5])?;
+    let mut slices = five.runs_by(|x, y| *x / 2 == *y / 2).into_iter();
+    let before = slices.size_hint();
+    let _ = slices.next();
+    is((before, slices.size_hint()), ((1, Some(5)), (1, Some(4))))?;
+    let groups = five.nonempty_iter().group_by(rt.alloc(), |x| **x / 2);
+    let mut groups = groups.into_iter();
+    let before = groups.size_hint();
+    let _ = groups.next();
+    let held = groups.size_hint();
+    let _ = (groups.next(), groups.next(), groups.next());
+    let none = (0, Some(0));
+    is(
+        (before, held, groups.size_hint()),
+        ((0, Some(5)), (1, Some(4)), none),
+    )
 }
 
 #[test]

@@ -3,7 +3,7 @@
 use super::owners::{Key, Owner, owned, token};
 use super::tables::{Item, Items, item};
 use super::{Countdown, gives, holds, report};
-use nonempty_collections::iter::{Chain, Once, once};
+use nonempty_collections::iter::{Chain, ItemSource, Once, once};
 use nonempty_collections::{NEVec, NonEmptyArrayExt, NonEmptyIterator};
 use std::alloc::{AllocError, Global};
 use std::rc::Rc;
@@ -52,6 +52,58 @@ fn sorted_by_key(rt: HostRuntime) -> Result<(), Fail> {
     holds(call, sorted.into_iter().map(|it| it.0.0).eq(by_halves))?;
     owned(call, &token, 0)?;
     report(&rt, "made", call)
+}
+
+// The vector grows four times. What came before the failed request is appended, and the rest is
+// dropped.
+fn appended<S: NonEmptyIterator<Item = Item>>(
+    rt: &impl Print,
+    alloc: Global,
+    call: &str,
+    token: &Rc<u32>,
+    source: S,
+) -> Result<(), Fail>
+    requires { ⟦<S as ItemSource>⟧.ends source }
+{
+    let mut all = Vec::new(alloc);
+    let made = source.append_to(alloc, &mut all).is_ok();
+    let len = all.len();
+    owned(call, token, len.wrapping_mul(2))?;
+    holds(call, all.iter().map(|it| it.0.0).eq(0u32..len as u32))?;
+    holds(call, made == (len == 21))?;
+    drop(all);
+    owned(call, token, 0)?;
+    report(rt, if made { "made" } else { "refused" }, call)
+}
+
+#[test]
+fn append_to(rt: HostRuntime) -> Result<(), Fail> {
+    let call = "NonEmptyIterator::append_to";
+    let Ok(token) = token(rt.alloc()) else {
+        return report(&rt, "not reached", call);
+    };
+    let source = items(rt.alloc(), &token, 0, 20)?.map(|it| it);
+    appended(&rt, rt.alloc(), call, &token, source)
+}
+
+#[test]
+fn chain_append_to(rt: HostRuntime) -> Result<(), Fail> {
+    let call = "Chain::append_to";
+    let Ok(token) = token(rt.alloc()) else {
+        return report(&rt, "not reached", call);
+    };
+    let source = items(rt.alloc(), &token, 0, 20)?;
+    appended(&rt, rt.alloc(), call, &token, source)
+}
+
+#[test]
+fn peekable_append_to(rt: HostRuntime) -> Result<(), Fail> {
+    let call = "Peekable::append_to";
+    let Ok(token) = token(rt.alloc()) else {
+        return report(&rt, "not reached", call);
+    };
+    let source = items(rt.alloc(), &token, 0, 20)?.peekable();
+    appended(&rt, rt.alloc(), call, &token, source)
 }
 
 // Each of the two vectors is made of the first item, and grows for the fifth.

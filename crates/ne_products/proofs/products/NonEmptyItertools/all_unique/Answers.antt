@@ -19,9 +19,10 @@ loop-item-preserved g c =
     let item = c.in-Some.item in
     let xs = c.loop-item.yielded in
     let laws = g.met.Self.Item.Eq.laws in (
-      IsDistinct-push laws xs item at.0 (sym (at.1 item)
+      IsDistinct-push laws xs item at.0 (sym (c.make_room.ensures item ∙ at.1 item)
           ∙ was_not _ c.in-Ok.is_new c.in-Ok.ensures.added c.if-not-is_new.false),
-      λ q. c.in-Ok.ensures.updates.0 q ∙ is_member-push laws xs item q _ (at.1 q),
+      λ q. c.in-Ok.ensures.updates.0 q ∙ is_member-push laws xs item q _
+          (c.make_room.ensures q ∙ at.1 q),
     )
 
 pub returns-then-not-is_new-clause-gives : goal.returns-then-not-is_new-clause-gives
@@ -34,9 +35,11 @@ returns-then-not-is_new-clause-gives g c =
         item,
         Reads-up_to c.into_iter-item-iterator.result c.loop-item.yielded
             c.loop-item.item-iterator item c.next.new.self
-            c.into_iter-item-iterator.ensures.into_iter_gives c.loop-item.yielded_by
+            (subst (λ r. g.Self.IntoIterator.into_iter_gives c.args.self r)
+            (sym c.into_iter-item-iterator.ensures.into_iter_gives)
+            c.into_iter-items.ensures.into_iter_gives) c.loop-item.yielded_by
             c.in-Some.ensures.steps,
-        sym (at.1 item)
+        sym (c.make_room.ensures item ∙ at.1 item)
             ∙ was_there _ c.in-Ok.is_new c.in-Ok.ensures.added c.if-not-is_new.true,
       ),
     )
@@ -51,7 +54,9 @@ returns-clause-gives g c = (
   c.loop-item.invariant.0,
   record {
     it = c.into_iter-item-iterator.result;
-    made = c.into_iter-item-iterator.ensures.into_iter_gives;
+    made = subst (λ r. g.Self.IntoIterator.into_iter_gives c.args.self r)
+        (sym c.into_iter-item-iterator.ensures.into_iter_gives)
+        c.into_iter-items.ensures.into_iter_gives;
     given = (
       c.loop-item.item-iterator,
       c.loop-item.yielded_by,

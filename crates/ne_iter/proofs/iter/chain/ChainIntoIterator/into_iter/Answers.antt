@@ -1,19 +1,8 @@
-use Rattle.std.specs.Iterator.Adapters as std
 use Rattle.ne_iter.proofs.iter.chain.ChainIntoIterator.into_iter.Goals as goal
 use Rattle.std.proofs.Common.{sym, subst}
 use Rattle.std.specs.Iterator.Adapters.{chain_second}
-use Rattle.std.specs.Prelude.{Option}
-use Rattle.std.specs.declared.iter.Chain.{Chain}
 use Rattle.ne_iter.specs.Chain.{ChainsRuns}
-
-chains_runs : {S T A : Type 0} (steps : S → Option A → S → Type 0)
-    (others : T → Option A → T → Type 0) (a : S) (b : T) (it : Chain S T)
-    → std.ChainsRuns steps others a b it → ChainsRuns steps others a b it
-chains_runs steps others a b it runs p seen from =
-    let h = runs p seen from in
-    let i = h.2 in
-    let r = i.2 in
-    (h.0, h.1, (i.0, i.1, (r.0, r.1, r.2, r.3)))
+use Rattle.ne_iter.proofs.Chain.{chains_runs}
 
 pub returns : goal.returns
 returns g c =

@@ -1,33 +1,15 @@
 use Rattle.ne_iter.proofs.iter.collected.ResultFromNonEmptyIterator.from_nonempty_iter.Goals as goal
-use Rattle.std.proofs.Common.{◌≡◌, List, [], ◌∷◌, ◌++◌, map, sym, ap, ◌∙◌, append_assoc}
-use Rattle.std.proofs.Common.{refl, true, false, arith}
-use Rattle.std.proofs.lemmas.List.{map-append}
-use Rattle.std.specs.Prelude.{Result, Ok, Err}
+use Rattle.std.proofs.Common.{[], ◌∷◌, ◌++◌, map, sym, ap, subst, ◌∙◌}
+use Rattle.std.proofs.Common.{refl, true, false, arith, OnSome}
+use Rattle.std.proofs.lemmas.List.{append-nil}
+use Rattle.std.proofs.iter.Next.{said, Yields-more}
+use Rattle.std.specs.Iterator.{IsNearerEnd}
+use Rattle.std.specs.Prelude.{Ok}
 use Rattle.ne_iter.specs.Collected.{values_or_first_err}
-use Rattle.ne_iter.proofs.PrefixesMade.{all_values, first_err_at}
+use Rattle.ne_iter.proofs.PrefixesMade.{all_values, first_err_at, up_to_err, one_more, more_items}
+use Rattle.ne_iter.proofs.PrefixesMade.{are_values}
 use Rattle.ne_iter.proofs.Loops.{Reads-first, Reads-left, Reads-loop}
-
-module _ {T E : Type 0} where
-  -- the values so far are those of the items so far, the first one among them
-  are_values : (first : Result T E) (value : T) (empty begun values : List T)
-      (yielded : List (Result T E)) → first ≡ Ok value → empty ≡ [] → begun ≡ empty ++ value ∷ []
-      → map Ok values ≡ map Ok begun ++ yielded → first ∷ yielded ≡ map Ok values
-  are_values first value empty begun values yielded is none one same = ap (λ r. r ∷ yielded) is
-      ∙ sym (same ∙ ap (λ l. map Ok l ++ yielded) (one ∙ ap (λ l. l ++ value ∷ []) none))
-
-  -- the values so far, if an `Err` was yielded after them
-  up_to_err : (items : List (Result T E)) (item : Result T E) (e : E) (values : List T)
-      → item ≡ Err e → items ≡ map Ok values → items ++ item ∷ [] ≡ map Ok values ++ Err e ∷ []
-  up_to_err items item e values is same = ap (λ r. items ++ r ∷ []) is
-      ∙ ap (λ l. l ++ Err e ∷ []) same
-
-  -- one value more
-  one_more : (begun yielded : List (Result T E)) (item : Result T E) (value : T)
-      (values after : List T) → item ≡ Ok value → after ≡ values ++ value ∷ []
-      → map Ok values ≡ begun ++ yielded → map Ok after ≡ begun ++ (yielded ++ item ∷ [])
-  one_more begun yielded item value values after is added same =
-      ap (map Ok) added ∙ map-append Ok values (value ∷ []) ∙ ap (λ l. l ++ Ok value ∷ []) same
-      ∙ append_assoc begun yielded (Ok value ∷ []) ∙ ap (λ r. begun ++ (yielded ++ r ∷ [])) (sym is)
+use Rattle.ne_iter.proofs.Runs.{Yields-append}
 
 pub returns-in-Err : goal.returns-in-Err
 returns-in-Err g c =
@@ -45,53 +27,86 @@ returns-in-Err g c =
       ),
     )
 
-pub loop-item-preserved : goal.loop-item-preserved
-loop-item-preserved g c = (
-  one_more (map Ok c.push.new.self.items) c.loop-item.yielded c.in-Some.item
-      c.in-Ok-item.value c.loop-item.values.items c.push-in-Ok-item.new.self.items
-      c.in-Ok-item.is c.in_ok-push-in-Ok-item.ensures.items c.loop-item.invariant.0,
-  omega (arith, c.in_ok-push-in-Ok-item.ensures.len),
-)
-
-pub returns-in-Err-item : goal.returns-in-Err-item
-returns-in-Err-item g c =
+pub loop-value-init : goal.loop-value-init
+loop-value-init g c =
     let from = c.next-first.ensures.first in
-    let drawn = c.next-first.result.0 ∷ c.loop-item.yielded in
-    let items = drawn ++ c.in-Some.item ∷ [] in
-    let values = c.loop-item.values.items in
-    let ends = up_to_err drawn c.in-Some.item c.in-Err-item.e values c.in-Err-item.is
-    (are_values c.next-first.result.0 c.in-Ok.value c.reserve.new.self.items c.push.new.self.items
-    values c.loop-item.yielded c.in-Ok.is
-    (c.reserve.ensures.items ∙ c.new-values.ensures.items) c.in_ok-push.ensures.items
-    c.loop-item.invariant.0) in (
+    let ready = c.requires c.into_nonempty_iter.result
+    c.into_nonempty_iter.ensures.into_nonempty_iter_gives from.0 from.1 in
+    let on = from.3.on ready.1 in
+    ([], refl, sym (append-nil _), on.0, on.1, omega (arith, c.in_ok-push_first.ensures.len))
+
+pub loop-value-preserved : goal.loop-value-preserved
+loop-value-preserved g c =
+    let it = g.I.IntoNEIter.IntoIter.Iterator in
+    let so_far = c.loop-value.invariant in
+    let taken = c.fill_with_ok-filled.ensures in
+    let item = c.in-Some-Ok.field-0 in
+    let then = taken.2 in
+    let on = subst (λ o. OnSome o (IsNearerEnd it.can_next it.remaining c.loop-value.rest
+    c.fill_with_ok-filled.result.1)) c.in-Some-Ok.is taken.3 in (
+      (so_far.0 ++ taken.0) ++ item ∷ [],
+      Yields-more it.next_gives c.next-first.result.1 (so_far.0 ++ taken.0) then.0 item
+          c.fill_with_ok-filled.result.1
+          (Yields-append it.next_gives so_far.0 taken.0 c.next-first.result.1 c.loop-value.rest
+          then.0 so_far.1 then.1) (said it.next_gives c.in-Some-Ok.is then.2),
+      one_more (map Ok c.push_first.new.items.items) (so_far.0 ++ taken.0) item c.in-Some-Ok.value
+          c.fill_with_ok-filled.result.0.items _ c.in-Some-Ok.field-0-is
+          c.in_ok-push-in-Some-Ok.ensures.items
+          (more_items _ so_far.0 taken.0 _ _ taken.1 so_far.2),
+      on.0,
+      on.1,
+      omega (arith, c.in_ok-push-in-Some-Ok.ensures.len),
+    )
+
+pub returns-in-Some-Err : goal.returns-in-Some-Err
+returns-in-Some-Err g c =
+    let from = c.next-first.ensures.first in
+    let steps = g.I.IntoNEIter.IntoIter.Iterator.next_gives in
+    let so_far = c.loop-value.invariant in
+    let taken = c.fill_with_ok-filled.ensures in
+    let item = c.in-Some-Err.field-0 in
+    let then = taken.2 in
+    let yielded = so_far.0 ++ taken.0 in
+    let drawn = c.next-first.result.0 ∷ yielded in
+    let items = drawn ++ item ∷ [] in
+    let values = c.fill_with_ok-filled.result.0.items in
+    let ends = up_to_err drawn item c.in-Some-Err.e values c.in-Some-Err.field-0-is
+    (are_values c.next-first.result.0 c.in-Ok.value c.new-values.result.items
+    c.push_first.new.items.items values yielded c.in-Ok.is c.new-values.ensures.items
+    c.in_ok-push_first.ensures.items (more_items _ so_far.0 taken.0 _ _ taken.1 so_far.2)) in (
       items,
       (g.met.I.IntoNonEmptyIterator.same_lists c.args.iter false items).1
           c.into_nonempty_iter.result c.into_nonempty_iter.ensures.into_nonempty_iter_gives
-          (Reads-left from.0 c.loop-item.yielded c.loop-item.item-iterator c.in-Some.item
-          c.next.new.self from.1 from.2 c.into_iter-item-iterator.ensures.into_iter_gives
-          c.loop-item.yielded_by c.in-Some.ensures.steps),
-      (values, ends, first_err_at items values c.in-Err-item.e ends),
+          (Reads-left from.0 yielded then.0 item c.fill_with_ok-filled.result.1 from.1 from.2 refl
+          (Yields-append steps so_far.0 taken.0 c.next-first.result.1 c.loop-value.rest
+          then.0 so_far.1 then.1) (said steps c.in-Some-Err.is then.2)),
+      (values, ends, first_err_at items values c.in-Some-Err.e ends),
     )
 
-pub returns : goal.returns
-returns g c =
+pub returns-in-None : goal.returns-in-None
+returns-in-None g c =
     let from = c.next-first.ensures.first in
-    let items = c.next-first.result.0 ∷ c.loop-item.yielded in
-    let values = c.loop-item.values.items in
-    let is = are_values c.next-first.result.0 c.in-Ok.value c.reserve.new.self.items
-    c.push.new.self.items values c.loop-item.yielded c.in-Ok.is
-    (c.reserve.ensures.items ∙ c.new-values.ensures.items) c.in_ok-push.ensures.items
-    c.loop-item.invariant.0 in (
+    let steps = g.I.IntoNEIter.IntoIter.Iterator.next_gives in
+    let so_far = c.loop-value.invariant in
+    let taken = c.fill_with_ok-filled.ensures in
+    let then = taken.2 in
+    let yielded = so_far.0 ++ taken.0 in
+    let items = c.next-first.result.0 ∷ yielded in
+    let values = c.fill_with_ok-filled.result.0.items in
+    let is = are_values c.next-first.result.0 c.in-Ok.value c.new-values.result.items
+    c.push_first.new.items.items values yielded c.in-Ok.is
+    c.new-values.ensures.items c.in_ok-push_first.ensures.items
+    (more_items _ so_far.0 taken.0 _ _ taken.1 so_far.2) in (
       items,
       (g.met.I.IntoNonEmptyIterator.same_lists c.args.iter true items).1 c.into_nonempty_iter.result
           c.into_nonempty_iter.ensures.into_nonempty_iter_gives
-          (Reads-loop from.0 c.loop-item.item-iterator c.next.new.self from.1 from.2
-          c.into_iter-item-iterator.ensures.into_iter_gives c.loop-item.yielded_by
-          c.in-None.ensures.steps),
+          (Reads-loop from.0 then.0 c.fill_with_ok-filled.result.1 from.1 from.2 refl
+          (Yields-append steps so_far.0 taken.0 c.next-first.result.1 c.loop-value.rest
+          then.0 so_far.1 then.1) (said steps c.in-None.is then.2)),
       (
         values,
         is,
         ap values_or_first_err is ∙ all_values values,
-        c.in_ok-from_drained.ensures.made,
+        c.in_ok-from_drained-in-None.ensures.made,
       ),
     )
