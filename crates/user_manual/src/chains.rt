@@ -1,6 +1,6 @@
 //! Chains of several adapters, one after another.
 ghost use Rattle.std.specs.Prelude.{◌≡◌, ◌/◌, ◌%◌, ◌+◌, ◌<◌, ◌≤◌, ◌^◌, ◌++◌, ◌∷◌, map, filter};
-ghost use Rattle.std.specs.Prelude.{take, IfOk, eqb, ltb, []};
+ghost use Rattle.std.specs.Prelude.{take, IfOk, OnOk, eqb, ltb, []};
 ghost use Rattle.std.specs.List.{All, enumerate_from, scan, zip};
 ghost use Rattle.std.specs.Int.NonZero.{non_zero_usize_get};
 
@@ -175,4 +175,19 @@ pub fn greatest_before(items: NEVec<u32>) -> u32
             before
         })
         .max()
+}
+
+/// Appends the halves of the items, followed by other items, to a list.
+pub fn append_halves(
+    alloc: Global,
+    list: &mut Vec<u32>,
+    items: &NEVec<u32>,
+    others: Vec<u32>,
+) -> Result<(), AllocError>
+    ensures { OnOk result (list.new.items
+        ≡ list.old.items ++ (map (λ x. x / 2) items.now ++ others.items)) }
+{
+    let halves = items.nonempty_iter().map(|x| *x / 2);
+    let _appended = halves.chain(others).append_to(alloc, list)?;
+    Ok(())
 }

@@ -44,6 +44,28 @@ pub fn small_lines_halved(lines: NEVec<Line>) -> Option<NEVec<Line>>
     kept.ok()
 }
 
+/// Returns the lines with half of their pieces, in the memory of the lines.
+pub fn halved(lines: NEVec<Line>) -> NEVec<Line>
+    ensures { result ≡ map (λ l. record { article = l.article; amount = l.amount / 2 }) lines }
+{
+    lines.map_in_place(|l| Line {
+        article: l.article,
+        amount: l.amount / 2,
+    })
+}
+
+/// Returns each item's share of 100, if no item is 0.
+pub fn shares(items: NEVec<u32>) -> NEVec<u32>
+    requires { All (λ x. x ≢ 0) items }
+    ensures { result ≡ map (λ x. 100 / x) items }
+{
+    items.map_in_place(
+        |x|
+            requires { x ≢ 0 }
+        { 100 / x },
+    )
+}
+
 /// Keeps the first line of each run of lines of the same article.
 pub fn first_lines(lines: &mut NEVec<Line>)
     ensures { lines.new
