@@ -42,14 +42,14 @@ pub fn next(alloc: Global) -> Result<(u32, Option<u32>, Option<u32>), AllocError
 }
 
 /// The example of `append_to`.
-pub fn append_to(alloc: Global) -> Result<Vec<u32>, AllocError>
-    ensures { IfOk result (λ items. items.items ≡ 3 ∷ 1 ∷ 4 ∷ []) }
+pub fn append_to(alloc: Global) -> Result<(usize, u32), AllocError>
+    ensures { IfOk result (λ r. (r.0 ≡ 3) × (r.1 ≡ 1)) }
 {
     let mut items = vec![in alloc; 3u32]?;
-    let _appended = nev![alloc; 1, 4]?
-        .into_nonempty_iter()
-        .append_to(alloc, &mut items)?;
-    Ok(items)
+    let more = nev![alloc; 1, 4]?.into_nonempty_iter();
+    let _appended = more.append_to(alloc, &mut items)?;
+    let (len, second) = (items.len(), items[1]);
+    Ok((len, second))
 }
 
 /// The example of `peekable`.

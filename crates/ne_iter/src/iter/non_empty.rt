@@ -134,8 +134,9 @@ pub trait NonEmptyIterator: IntoIterator {
     ///
     /// ```
     /// let mut items = vec![in alloc; 3u32]?;
-    /// let _appended = nev![alloc; 1, 4]?.into_nonempty_iter().append_to(alloc, &mut items)?;
-    /// let list = items.as_slice(); // [3, 1, 4]
+    /// let more = nev![alloc; 1, 4]?.into_nonempty_iter();
+    /// let _appended = more.append_to(alloc, &mut items)?;
+    /// let (len, second) = (items.len(), items[1]); // 3 and 1
     /// ```
     fn append_to(
         self,
