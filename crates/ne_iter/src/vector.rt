@@ -10,6 +10,7 @@ impl<T: Drop> FromNonEmptyIterator<T> for NEVec<T> {
 
     ghost collected = { λ xs v. v ≡ xs };
 
+    #[inline(always)]
     fn from_nonempty_iter<I: IntoNonEmptyIterator<Item = T>>(
         alloc: Global,
         iter: I,

@@ -67,8 +67,6 @@ pub fn run_map<K: Eq + Drop, V: Drop, M: NonEmptyMap<K, V>>(
     // The contract of `size` says that there is a key.
     let _size = m.size();
     let mut replies = Vec::new(alloc);
-    // Without memory for all replies, the vector grows as they come.
-    let _has_room = replies.reserve(calls.len()).is_ok();
     for call in calls {
         let reply = reply_to(m, call)?;
         replies.push(reply)?;

@@ -70,8 +70,6 @@ pub fn run_set<T: Eq + Drop, S: NonEmptySet<T>>(
     // The contract of `size` says that there is an item.
     let _size = s.size();
     let mut replies = Vec::new(alloc);
-    // Without memory for all replies, the vector grows as they come.
-    let _has_room = replies.reserve(calls.len()).is_ok();
     for call in calls {
         let reply = reply_to(s, call)?;
         replies.push(reply)?;

@@ -82,8 +82,6 @@ pub fn run_vec<T: Drop>(
     // The contract of `is_empty` says that there is an item.
     let _before = v.is_empty();
     let mut replies = Vec::new(alloc);
-    // Without memory for all replies, the vector grows as they come.
-    let _has_room = replies.reserve(calls.len()).is_ok();
     for call in calls {
         let reply = reply_to(v, call)?;
         let _after = v.is_empty();

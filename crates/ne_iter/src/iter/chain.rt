@@ -42,6 +42,7 @@ impl<A: NonEmptyIterator, B: IntoIterator<Item = A::Item>> NonEmptyIterator for 
 
     ghost item_view = { A.item_view };
 
+    #[inline(always)]
     fn append_to(
         self,
         alloc: Global,

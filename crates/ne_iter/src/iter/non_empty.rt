@@ -286,6 +286,7 @@ pub trait NonEmptyIterator: IntoIterator {
     /// let items = nev![alloc; 4, 6, 8]?;
     /// let same: NEVec<u32> = items.into_nonempty_iter().collect(alloc)?; // [4, 6, 8]
     /// ```
+    #[inline(always)]
     final fn collect<B: FromNonEmptyIterator<Self::Item>>(
         self,
         alloc: Global,

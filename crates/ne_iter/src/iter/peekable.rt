@@ -83,6 +83,7 @@ where
     ghost use Rattle.ne_iter.specs.Chain.{HasFirst-chain};
     ghost use Rattle.ne_iter.specs.Once.{HasFirst-once};
 
+    #[inline(always)]
     fn append_to(
         self,
         alloc: Global,
