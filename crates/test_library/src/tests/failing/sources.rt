@@ -69,7 +69,7 @@ fn appended<S: NonEmptyIterator<Item = Item>>(
     let made = source.append_to(alloc, &mut all).is_ok();
     let len = all.len();
     owned(call, token, len.wrapping_mul(2))?;
-    holds(call, all.iter().map(|it| it.0.0).eq(0u32..len as u32))?;
+    holds(call, all.iter().zip(0u32..21).all(|(it, i)| it.0.0 == i))?;
     holds(call, made == (len == 21))?;
     drop(all);
     owned(call, token, 0)?;
