@@ -3,8 +3,8 @@
 //! The methods are in the Rust crate's order, with those that it lacks beside what they are like.
 //! This module has those that read and edit, `search` those that search, `sort` those that sort,
 //! `random` those that draw from a random number generator, `retain` those that keep what meets a
-//! test, and `dedup` those that drop repeated neighbours. `iter` has the non-empty iterators, and
-//! `traits` the other trait implementations.
+//! test, `dedup` those that drop repeated neighbours, and `map` the one that replaces each item.
+//! `iter` has the non-empty iterators, and `traits` the other trait implementations.
 //!
 //! If an allocation fails, the Rust crate's methods abort the process. Here a method that allocates
 //! returns `AllocError`, and its comment says what holds after that. Constructors take an

@@ -11,5 +11,6 @@ loop-item-preserved g c =
     again {P = λ xs. map Ok c.loop-item.values.items ≡ held ++ xs} so_far
     {Q = λ xs. map Ok c.push_reserved.new.self.items ≡ held ++ xs} c.in-Some.item c.in-Some.is
     (c.next.ensures.steps, c.next.ensures.goes)
-    (one_more held so_far.seen c.in-Some.item c.in-Ok.value c.loop-item.values.items c.push_reserved.new.self.items c.in-Ok.is
+    (one_more held so_far.seen c.in-Some.item c.in-Ok.value c.loop-item.values.items
+    c.push_reserved.new.self.items c.in-Ok.is
     c.push_reserved.ensures.items so_far.holds)
