@@ -40,6 +40,7 @@ ghost use Rattle.ne_hash.specs.HashLends.{LendsValues};
 ghost use Rattle.ne_hash.specs.ValidHashMap.{IsValid};
 
 mod iter;
+mod serialized;
 mod texts;
 mod traits;
 

@@ -33,6 +33,7 @@ ghost use Rattle.ne_iter.specs.Keyed.KeptEntries.{either_way};
 ghost use Rattle.ne_hash.specs.ValidHashSet.{IsValid};
 
 mod iter;
+mod serialized;
 mod texts;
 mod traits;
 

@@ -37,6 +37,7 @@ ghost use Rattle.ne_index.specs.ValidIndexMap.{IsValid};
 
 mod iter;
 mod remove;
+mod serialized;
 mod texts;
 mod traits;
 

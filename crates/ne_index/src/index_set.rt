@@ -33,6 +33,7 @@ ghost use Rattle.ne_index.specs.Puts.{put_in_place, put_item};
 ghost use Rattle.ne_index.specs.ValidIndexSet.{IsValid};
 
 mod iter;
+mod serialized;
 mod texts;
 mod traits;
 

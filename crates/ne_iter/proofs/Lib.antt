@@ -4,6 +4,7 @@ pub mod Unzipped
 pub mod Traced
 pub mod Loops
 mod Appended
+mod Errors
 pub mod Best
 pub mod Keyed
 pub mod Groupings

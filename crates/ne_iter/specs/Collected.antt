@@ -2,9 +2,9 @@
 use Rattle.std.specs.Prelude.{◌≡◌, Bool, List, [], ◌∷◌, ◌++◌, reverse, map, Option, Result, Ok, Err}
 use Rattle.std.specs.Prelude.{MatchResult}
 use Rattle.std.specs.Bool.{MatchBool}
-use Rattle.std.specs.List.{IsDistinct}
+use Rattle.std.specs.List.{IsDistinct, filter_map}
 use Rattle.std.specs.Map.{keys_of, lookup}
-use Rattle.std.specs.Result.{result_map_both}
+use Rattle.std.specs.Result.{result_err, result_map_both}
 use Rattle.std.specs.Set.{is_member}
 
 module _ {K : Type 0} (eq : K → K → Bool) where
@@ -30,6 +30,11 @@ abbrev pub values_or_first_err : {T E : Type 0} → List (Result T E) → Result
 values_or_first_err [] = Ok []
 values_or_first_err (Ok x ∷ rs) = result_map_both (λ xs. x ∷ xs) (λ e. e) (values_or_first_err rs)
 values_or_first_err (Err e ∷ rs) = Err e
+
+-- `Ok` of all values if each item is `Ok`, and otherwise `Err` of all errors, in order.
+abbrev pub IsAllOrErrors : {T E : Type 0} → List (Result T E) → Result (List T) (List E) → Type 0
+IsAllOrErrors rs result = MatchResult result (λ values. rs ≡ map Ok values)
+    (λ errors. errors ≡ filter_map result_err rs)
 
 module _ {T V : Type 0} (collected : List T → V → Type 0) (is_complete : V → Bool) where
   -- The items make v; if v is not complete, a prefix of the items makes v.

@@ -45,6 +45,7 @@ ghost use Rattle.ne_tree.specs.TreeLends.{LendsValues, LendsValuesInside};
 ghost use Rattle.ne_tree.specs.ValidTreeMap.{IsValid};
 
 mod iter;
+mod serialized;
 mod texts;
 mod traits;
 

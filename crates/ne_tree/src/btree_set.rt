@@ -37,6 +37,7 @@ ghost use Rattle.ne_iter.specs.Keyed.KeptEntries.{either_way};
 ghost use Rattle.ne_tree.specs.ValidTreeSet.{IsValid};
 
 mod iter;
+mod serialized;
 mod texts;
 mod traits;
 

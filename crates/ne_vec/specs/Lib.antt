@@ -11,6 +11,7 @@ pub mod Lists
 pub mod ListLaws
 pub mod RunLaws
 pub mod Clones
+pub mod Read
 pub mod Iterators
 pub mod IteratorLaws
 pub mod VectorLends

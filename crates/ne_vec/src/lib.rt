@@ -8,6 +8,7 @@
 #![tactic(auto)]
 
 pub mod laws;
+pub mod serialized;
 pub mod slice;
 pub mod vector;
 

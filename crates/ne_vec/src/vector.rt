@@ -3,8 +3,9 @@
 //! The methods are in the Rust crate's order, with those that it lacks beside what they are like.
 //! This module has those that read and edit, `search` those that search, `sort` those that sort,
 //! `random` those that draw from a random number generator, `retain` those that keep what meets a
-//! test, `dedup` those that drop repeated neighbours, and `map` the one that replaces each item.
-//! `iter` has the non-empty iterators, and `traits` the other trait implementations.
+//! test, `dedup` those that drop repeated neighbours, `map` the one that replaces each item, and
+//! `split` those that part the first or the last item from the others. `iter` has the non-empty
+//! iterators, `serialized` the traits of `serde`, and `traits` the other trait implementations.
 //!
 //! If an allocation fails, the Rust crate's methods abort the process. Here a method that allocates
 //! returns `AllocError`, and its comment says what holds after that. Constructors take an
@@ -24,7 +25,9 @@ mod map;
 mod random;
 mod retain;
 mod search;
+mod serialized;
 mod sort;
+mod split;
 mod traits;
 
 use crate::slice::{AdjacentRuns, AdjacentRunsIter, NEChunks, NESlice, SliceRuns, SliceRunsIter};
@@ -602,38 +605,6 @@ impl<T> NEVec<T> {
     {
         let inner = self.inner.clone()?;
         Ok(NEVec { inner })
-    }
-
-    /// Returns the first item, and a slice of the others, which may be empty.
-    ///
-    /// ```
-    /// let items = nev![alloc; 4, 6, 8]?;
-    /// let (first, rest) = items.split_first(); // &4 and &[6, 8]
-    /// ```
-    pub fn split_first(&self) -> (&T, &[T])
-        ensures { self.now ≡ result.0.now ∷ result.1.now }
-    {
-        (&self.inner[0], &self.inner[1..])
-    }
-
-    /// Returns the first item, a slice of those in the middle, which may be empty, and the last
-    /// item. If there is only one item, it is both the first and the last.
-    ///
-    /// ```
-    /// let items = nev![alloc; 4, 6, 8, 9]?;
-    /// let (first, middle, last) = items.split(); // &4, &[6, 8] and &9
-    /// ```
-    pub fn split(&self) -> (&T, &[T], &T)
-        ensures first { slice_get self.now 0 ≡ Some result.0.now }
-        ensures middle { result.1.now ≡ drop 1 (take (length self.now - 1) self.now) }
-        ensures last { slice_get self.now (length self.now - 1) ≡ Some result.2.now }
-    {
-        let last = self.inner.len() - 1;
-        (
-            &self.inner[0],
-            &self.inner[1..last.max(1)],
-            &self.inner[last],
-        )
     }
 
     /// Moves the items of `other` to the end, in order, and leaves `other` empty.

@@ -19,6 +19,7 @@ mod rows;
 mod runs;
 mod searches;
 mod separators;
+mod serialized;
 mod tables;
 mod texts;
 

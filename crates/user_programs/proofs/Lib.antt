@@ -6,5 +6,4 @@ pub mod GroupsOfRows
 pub mod Joined
 pub mod Lookups
 pub mod Numerals
-pub mod Readings
 pub mod Totals

@@ -1,6 +1,5 @@
 //! A form whose fields are numbers: their values, or everything that is wrong with them.
-ghost use Rattle.std.specs.Prelude.{◌≡◌, ◌≢◌, [], IfOk, MatchResult, map, filter_map, Ok, Some};
-ghost use Rattle.std.specs.Result.{result_ok};
+ghost use Rattle.std.specs.Prelude.{◌≡◌, ◌≢◌, [], IfOk, MatchResult, map, Ok, Some};
 ghost use Rattle.nonempty_collections.specs.Collected.{values_or_first_err};
 ghost use Rattle.user_programs.specs.Fields.{number_of, reading, readings, faults_of, fault_text};
 
@@ -61,18 +60,6 @@ pub fn faults(alloc: Global, fields: &NEVec<&str>) -> Result<Vec<Fault>, AllocEr
         .collect(alloc)
 }
 
-// Returns the numbers of the fields that have one. There may be none.
-fn good_numbers(alloc: Global, fields: &NEVec<&str>) -> Result<Vec<u32>, AllocError>
-    ensures { IfOk result (λ v. v.items ≡ filter_map result_ok (readings fields.now)) }
-{
-    fields
-        .nonempty_iter()
-        .enumerate()
-        .map(|(place, text)| read(place, text))
-        .filter_map(|reading| reading.ok())
-        .collect(alloc)
-}
-
 /// Returns the numbers of all fields, or all faults if any field is not a number.
 pub fn validate(
     alloc: Global,
@@ -82,12 +69,9 @@ pub fn validate(
         (λ numbers. readings fields.now ≡ map Ok numbers)
         (λ faults. (faults ≡ faults_of fields.now) × (faults ≢ []))) }
 {
-    let _ = fields.is_empty(); // its contract says that there is a field
-    match NEVec::try_from_vec(faults(alloc, fields)?) {
-        Some(faults) => Ok(Err(faults)),
-        None => match NEVec::try_from_vec(good_numbers(alloc, fields)?) {
-            Some(numbers) => Ok(Ok(numbers)),
-            None => unreachable!(),
-        },
-    }
+    fields
+        .nonempty_iter()
+        .enumerate()
+        .map(|(place, text)| read(place, text))
+        .all_or_errors(alloc)
 }

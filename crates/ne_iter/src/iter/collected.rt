@@ -5,7 +5,7 @@ ghost use Rattle.std.specs.Prelude.{◌≡◌, ◌<◌, ◌++◌, Bool, true, Li
 ghost use Rattle.std.specs.Prelude.{Result, MatchResult, OnOk, OnSome, ◌∷◌};
 ghost use Rattle.std.specs.Iterator.{DrainsIf, IsFinite, IsFiniteIterable, IsNearerEnd, YieldsThen};
 ghost use Rattle.std.specs.Result.{is_ok};
-ghost use Rattle.ne_iter.specs.Collected.{AppendsRead, PrefixMakes, ResultsMake};
+ghost use Rattle.ne_iter.specs.Collected.{AppendsRead, IsAllOrErrors, PrefixMakes, ResultsMake};
 
 mod texts;
 
@@ -173,6 +173,42 @@ fn fill_with_ok<T: Drop, E: Drop, I: Iterator<Item = Result<T, E>>>(
         }
     }
     (values, rest, None)
+}
+
+// Returns what one item makes: its value, or its error.
+pub(super) fn one_value_or_error<T: Drop, E: Drop>(
+    alloc: Global,
+    item: Result<T, E>,
+) -> Result<Result<NEVec<T>, NEVec<E>>, AllocError>
+    ensures { IfOk result (IsAllOrErrors (item ∷ [])) }
+{
+    match item {
+        Ok(value) => Ok(Ok(NEVec::new(alloc, value)?)),
+        Err(e) => Ok(Err(NEVec::new(alloc, e)?)),
+    }
+}
+
+// Adds an item to all values, or to all errors, of the items before it.
+#[tactic(auto, using(crate::proofs::Errors::no_error, crate::proofs::Errors::error_more))]
+pub(super) fn add_value_or_error<T: Drop, E: Drop>(
+    alloc: Global,
+    made: &mut Result<NEVec<T>, NEVec<E>>,
+    item: Result<T, E>,
+) -> Result<(), AllocError>
+    ensures { OnOk result ((rs : List (Result T E)) → IsAllOrErrors rs made.old
+        → IsAllOrErrors (rs ++ item ∷ []) made.new) }
+{
+    match item {
+        Ok(value) => match made {
+            Ok(values) => values.push(value)?,
+            Err(_errors) => {}
+        },
+        Err(e) => match made {
+            Ok(_values) => *made = Err(NEVec::new(alloc, e)?),
+            Err(errors) => errors.push(e)?,
+        },
+    }
+    Ok(())
 }
 
 // Appends the items that are left of an iterator. It is inlined, and so is what collects into a

@@ -1,6 +1,7 @@
 //! [`NonEmptyIterator`]: a source that yields at least one item, with its methods.
 ghost use Rattle.std.specs.Prelude.{◌≡◌, ◌+◌, Bool, true, false, List, drop, length, map};
 ghost use Rattle.std.specs.Prelude.{slice_get, take, Option, Some, Ok, IfOk, IsPermutation, ◌≤◌};
+ghost use Rattle.std.specs.Prelude.{Result};
 ghost use Rattle.std.specs.Prelude.{IsTrue, MatchOption, OnOk, ◌++◌};
 ghost use Rattle.std.specs.Result.{is_ok};
 ghost use Rattle.std.specs.Iterator.Runs.{EachRunFrom, SomeRun, IsFilterRun, IsSkipRun};
@@ -50,7 +51,8 @@ ghost use Rattle.ne_iter.specs.Intersperse.{intersperse_first, intersperse_rest}
 ghost use Rattle.ne_iter.specs.Intersperse.{intersperse_separator, IsInterspersed};
 ghost use Rattle.ne_iter.specs.Calls.{ActsAsWithState};
 ghost use Rattle.ne_iter.specs.Cloned.{TriesClone, cloned_source, IsCloned};
-ghost use Rattle.ne_iter.specs.Collected.{AppendsRead, PrefixMakes, values_or_first_err};
+ghost use Rattle.ne_iter.specs.Collected.{AppendsRead, IsAllOrErrors, PrefixMakes};
+ghost use Rattle.ne_iter.specs.Collected.{values_or_first_err};
 ghost use Rattle.ne_iter.specs.SortedByKey.{AscendsByKey, PermutesByKey};
 ghost use Rattle.ne_iter.specs.Map.{map_source, map_callee, IsMapped};
 ghost use Rattle.ne_iter.specs.Take.{take_source, take_count, IsTaken};
@@ -69,7 +71,7 @@ ghost use Rattle.ne_iter.specs.Peekable.{peekable_first, peekable_rest, Peekable
 ghost use Rattle.ne_iter.specs.Peekable.{YieldsPeeked};
 
 use super::best::{best, best_by_key};
-use super::collected::{FromNonEmptyIterator, append};
+use super::collected::{FromNonEmptyIterator, add_value_or_error, append, one_value_or_error};
 use super::sources::{IntoNonEmptyIterator, ItemSource};
 use super::{
     Chain, Cloned, Copied, Enumerate, FlatMap, Flatten, GroupBy, Intersperse, Map, NEGroupBy,
@@ -1202,6 +1204,41 @@ pub trait NonEmptyIterator: IntoIterator {
             seconds.extend_one(b)?;
         }
         Ok((firsts, seconds))
+    }
+
+    /// Returns all values if each item is `Ok`, and otherwise all errors, in order: so a validation
+    /// reports every fault, where collecting into a `Result` keeps the first.
+    ///
+    /// Each item is drawn once. The values are dropped when the first error comes. The outer `Err`
+    /// is `AllocError`, if an allocation fails; the items taken are then dropped. The Rust crate
+    /// lacks this method.
+    ///
+    /// ```
+    /// let items = nev![alloc; 3, 1, 4, 1]?.into_nonempty_iter();
+    /// let checked = items.map(|x| if x == 1 { Err(x) } else { Ok(x) });
+    /// let ones = checked.all_or_errors(alloc)?; // Err([1, 1])
+    /// ```
+    final fn all_or_errors<T: Drop, E: Drop>(
+        self,
+        alloc: Global,
+    ) -> Result<Result<NEVec<T>, NEVec<E>>, AllocError>
+    where
+        Self: Sized + IntoIterator<Item = Result<T, E>>,
+        requires { ⟦<Self as ItemSource>⟧.ends self }
+        ensures gives { IfOk result (λ valid. (rs : List (Result T E))
+            × ⟦<Self as ItemSource>⟧.reads true self rs × IsAllOrErrors rs valid) }
+        ensures lists { IfOk result (λ valid. EachList (⟦<Self as ItemSource>⟧.lists itself) self
+            (λ rs. IsAllOrErrors rs valid)) }
+        ensures runs { IfOk result (λ valid.
+            RunsWhole Self.into_iter_gives Self.IntoIter.next_gives self (λ p.
+            IsAllOrErrors p.items valid)) }
+    {
+        let (first, rest) = self.next();
+        let mut made = one_value_or_error(alloc, first)?;
+        for item in rest {
+            add_value_or_error(alloc, &mut made, item)?;
+        }
+        Ok(made)
     }
 
     /// Folds the items into one value: starting from the first item, `f` takes the value so far and

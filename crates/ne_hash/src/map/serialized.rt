@@ -1,0 +1,49 @@
+//! Writing an [`NEMap`] to a format and reading it back, by the traits of `serde`.
+ghost use Rattle.std.specs.Prelude.{OnOk};
+ghost use Rattle.serde.specs.Event.{WritesMap};
+ghost use Rattle.ne_vec.specs.Read.{BeginsMap};
+
+use super::NEMap;
+use ne_vec::serialized::{read_map, read_map_owned};
+use serde::{
+    Described, Deserialize, DeserializeOwned, Deserializer, Format, Serialize, Serializer,
+};
+use std::alloc::Global;
+use std::hash::{BuildHasher, Hash};
+
+/// Writes what a `HashMap` of the entries writes.
+impl<K: Described + Eq + Hash, V: Described, H: BuildHasher> Described for NEMap<K, V, H> {
+    ghost writes = { λ m. WritesMap K.writes V.writes m.entries };
+}
+
+impl<K: Serialize + Eq + Hash, V: Serialize, H: BuildHasher> Serialize for NEMap<K, V, H> {
+    fn serialize<S: Serializer>(&self, out: &mut S) -> Result<(), S::Error> {
+        self.inner.serialize(out)
+    }
+}
+
+/// Reads a map, and inserts its entries in their order. An empty one is an error, at its place in
+/// the input.
+impl<'de, K: Deserialize<'de> + Eq + Hash, V: Deserialize<'de>> Deserialize<'de> for NEMap<K, V> {
+    fn deserialize<F: Format>(
+        alloc: Global,
+        from: &mut Deserializer<'de, '_, F>,
+    ) -> Result<NEMap<K, V>, F::Error>
+        ensures { OnOk result ((key : _) × BeginsMap F.gives from.old key) }
+    {
+        read_map(alloc, from)
+    }
+}
+
+/// Reads a map, and inserts its entries in their order. An empty one is an error, at its place in
+/// the input.
+impl<K: DeserializeOwned + Eq + Hash, V: DeserializeOwned> DeserializeOwned for NEMap<K, V> {
+    fn deserialize_owned<F: Format>(
+        alloc: Global,
+        from: &mut Deserializer<'_, '_, F>,
+    ) -> Result<NEMap<K, V>, F::Error>
+        ensures { OnOk result ((key : _) × BeginsMap F.gives from.old key) }
+    {
+        read_map_owned(alloc, from)
+    }
+}

@@ -1,0 +1,16 @@
+use Rattle.ne_iter.proofs.iter.collected.add_value_or_error.Goals as goal
+use Rattle.std.proofs.Common.{arith}
+use Rattle.std.proofs.lemmas.Grind.{common_steps}
+use Rattle.ne_iter.proofs.Errors.{value_more}
+
+pub returns-in-Err-made : goal.returns-in-Err-made
+returns-in-Err-made g c rs h =
+    grind (
+      arith,
+      common_steps,
+      value_more rs c.in-Ok.value,
+      c.in-Ok.is,
+      c.in-Err-made.is,
+      c.in-Err-made._errors-is,
+      h,
+    )

@@ -1,0 +1,48 @@
+//! Writing an [`NEBTreeSet`] to a format and reading it back, by the traits of `serde`.
+ghost use Rattle.std.specs.Prelude.{OnOk};
+ghost use Rattle.serde.specs.Event.{WritesSeq};
+ghost use Rattle.ne_vec.specs.Read.{BeginsSeq};
+
+use super::NEBTreeSet;
+use ne_vec::serialized::{read_seq, read_seq_owned};
+use serde::{
+    Described, Deserialize, DeserializeOwned, Deserializer, Format, Serialize, Serializer,
+};
+use std::alloc::Global;
+
+/// Writes what a `BTreeSet` of the items writes.
+impl<T: Described + Ord> Described for NEBTreeSet<T> {
+    ghost writes = { λ s. WritesSeq T.writes s.keys };
+}
+
+impl<T: Serialize + Ord> Serialize for NEBTreeSet<T> {
+    fn serialize<S: Serializer>(&self, out: &mut S) -> Result<(), S::Error> {
+        self.inner.serialize(out)
+    }
+}
+
+/// Reads a sequence, and inserts its items in their order. An empty one is an error, at its place
+/// in the input.
+impl<'de, T: Deserialize<'de> + Ord> Deserialize<'de> for NEBTreeSet<T> {
+    fn deserialize<F: Format>(
+        alloc: Global,
+        from: &mut Deserializer<'de, '_, F>,
+    ) -> Result<NEBTreeSet<T>, F::Error>
+        ensures { OnOk result ((item : _) × BeginsSeq F.gives F.stays from.old item) }
+    {
+        read_seq(alloc, from)
+    }
+}
+
+/// Reads a sequence, and inserts its items in their order. An empty one is an error, at its place
+/// in the input.
+impl<T: DeserializeOwned + Ord> DeserializeOwned for NEBTreeSet<T> {
+    fn deserialize_owned<F: Format>(
+        alloc: Global,
+        from: &mut Deserializer<'_, '_, F>,
+    ) -> Result<NEBTreeSet<T>, F::Error>
+        ensures { OnOk result ((item : _) × BeginsSeq F.gives F.stays from.old item) }
+    {
+        read_seq_owned(alloc, from)
+    }
+}

@@ -1,0 +1,153 @@
+//! Reading a collection that holds at least one item from a format, by `serde`.
+//!
+//! Each collection of the crates above is read by one of these functions, through [`Singleton`]: a
+//! vector, queue or set from a sequence, a map from a map. The items are added in the order in
+//! which they come, so of equal keys the collection keeps what its insertion keeps. A sequence or a
+//! map without items is the format's error with the text of [`Error::Empty`](crate::Error::Empty).
+ghost use Rattle.std.specs.Prelude.{OnOk};
+ghost use Rattle.ne_vec.specs.Read.{BeginsMap, BeginsSeq};
+
+use crate::Singleton;
+use serde::{Deserialize, DeserializeOwned, Deserializer, Format};
+use std::alloc::Global;
+
+/// Reads a sequence of at least one item.
+///
+/// Returns the format's error if no sequence comes, if it has no item, if an item is not read, or
+/// if an allocation fails.
+pub fn read_seq<'de, C: Singleton + Drop, F: Format>(
+    alloc: Global,
+    from: &mut Deserializer<'de, '_, F>,
+) -> Result<C, F::Error>
+where
+    C::Item: Deserialize<'de>,
+    ensures { OnOk result ((item : _) × BeginsSeq F.gives F.stays from.old item) }
+{
+    begin_seq(from)?;
+    let first = <C::Item>::deserialize(alloc, from)?;
+    let Ok(mut made) = C::singleton(alloc, first) else {
+        return Err(from.no_memory());
+    };
+    for _ in 0..u64::MAX {
+        if !from.next_item()? {
+            break;
+        }
+        let item = <C::Item>::deserialize(alloc, from)?;
+        if made.extend_one(item).is_err() {
+            return Err(from.no_memory());
+        }
+    }
+    Ok(made)
+}
+
+/// Reads what [`read_seq`] reads, of items that borrow nothing from the input.
+pub fn read_seq_owned<C: Singleton + Drop, F: Format>(
+    alloc: Global,
+    from: &mut Deserializer<'_, '_, F>,
+) -> Result<C, F::Error>
+where
+    C::Item: DeserializeOwned,
+    ensures { OnOk result ((item : _) × BeginsSeq F.gives F.stays from.old item) }
+{
+    begin_seq(from)?;
+    let first = <C::Item>::deserialize_owned(alloc, from)?;
+    let Ok(mut made) = C::singleton(alloc, first) else {
+        return Err(from.no_memory());
+    };
+    for _ in 0..u64::MAX {
+        if !from.next_item()? {
+            break;
+        }
+        let item = <C::Item>::deserialize_owned(alloc, from)?;
+        if made.extend_one(item).is_err() {
+            return Err(from.no_memory());
+        }
+    }
+    Ok(made)
+}
+
+/// Reads a map of at least one entry.
+///
+/// Returns the format's error if no map comes, if it has no entry, if a key or a value is not read,
+/// or if an allocation fails.
+pub fn read_map<'de, C, K: Deserialize<'de>, V: Deserialize<'de>, F: Format>(
+    alloc: Global,
+    from: &mut Deserializer<'de, '_, F>,
+) -> Result<C, F::Error>
+where
+    C: Singleton<Item = (K, V)> + Drop,
+    ensures { OnOk result ((key : _) × BeginsMap F.gives from.old key) }
+{
+    begin_map(from)?;
+    let key = K::deserialize(alloc, from)?;
+    let value = V::deserialize(alloc, from)?;
+    let Ok(mut made) = C::singleton(alloc, (key, value)) else {
+        return Err(from.no_memory());
+    };
+    for _ in 0..u64::MAX {
+        if !from.next_entry()? {
+            break;
+        }
+        let key = K::deserialize(alloc, from)?;
+        let value = V::deserialize(alloc, from)?;
+        if made.extend_one((key, value)).is_err() {
+            return Err(from.no_memory());
+        }
+    }
+    Ok(made)
+}
+
+/// Reads what [`read_map`] reads, of keys and values that borrow nothing from the input.
+pub fn read_map_owned<C, K: DeserializeOwned, V: DeserializeOwned, F: Format>(
+    alloc: Global,
+    from: &mut Deserializer<'_, '_, F>,
+) -> Result<C, F::Error>
+where
+    C: Singleton<Item = (K, V)> + Drop,
+    ensures { OnOk result ((key : _) × BeginsMap F.gives from.old key) }
+{
+    begin_map(from)?;
+    let key = K::deserialize_owned(alloc, from)?;
+    let value = V::deserialize_owned(alloc, from)?;
+    let Ok(mut made) = C::singleton(alloc, (key, value)) else {
+        return Err(from.no_memory());
+    };
+    for _ in 0..u64::MAX {
+        if !from.next_entry()? {
+            break;
+        }
+        let key = K::deserialize_owned(alloc, from)?;
+        let value = V::deserialize_owned(alloc, from)?;
+        if made.extend_one((key, value)).is_err() {
+            return Err(from.no_memory());
+        }
+    }
+    Ok(made)
+}
+
+// Begins a sequence, in which an item has to come.
+fn begin_seq<F: Format>(from: &mut Deserializer<'_, '_, F>) -> Result<(), F::Error>
+    ensures { OnOk result (BeginsSeq F.gives F.stays from.old from.new) }
+{
+    from.begin_seq()?;
+    if from.next_item()? {
+        Ok(())
+    } else {
+        Err(from.custom(EMPTY))
+    }
+}
+
+// Begins a map, in which an entry has to come.
+fn begin_map<F: Format>(from: &mut Deserializer<'_, '_, F>) -> Result<(), F::Error>
+    ensures { OnOk result (BeginsMap F.gives from.old from.new) }
+{
+    from.begin_map()?;
+    if from.next_entry()? {
+        Ok(())
+    } else {
+        Err(from.custom(EMPTY))
+    }
+}
+
+// The text of `Error::Empty`.
+const EMPTY: &str = "Given collection was empty";
