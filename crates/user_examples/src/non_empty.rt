@@ -3,12 +3,13 @@
 //! If the check does not find a value by itself, one clause says it by a function of the list `xs`,
 //! and another one what that is.
 ghost use Rattle.std.specs.Prelude.{◌≡◌, ◌∷◌, [], ◌+◌, ◌*◌, ◌/◌, ◌%◌, ◌^◌, ◌==◌, List, ℕ, IfOk};
-ghost use Rattle.std.specs.Prelude.{None, Ok, Some, false, true, map, filter, fold, drop, nat_eq};
+ghost use Rattle.std.specs.Prelude.{None, Err, Ok, Some, false, true, map, filter, fold, drop, nat_eq};
 ghost use Rattle.std.specs.Prelude.{codes, cond, ltb};
 ghost use Rattle.std.specs.Bool.{then_some};
 ghost use Rattle.std.specs.Cmp.Lexicographic.{pointwise};
 ghost use Rattle.std.specs.List.{scan, filter_map, flat_map, prefix_len, reduce, take_while, zip};
 ghost use Rattle.std.specs.Ordering.{nat_cmp};
+ghost use Rattle.nonempty_collections.specs.Collected.{IsAllOrErrors};
 ghost use Rattle.nonempty_collections.specs.Divisions.{by_first, runs_of};
 ghost use Rattle.nonempty_collections.specs.Intersperse.{interspersed};
 ghost use Rattle.nonempty_collections.specs.KeyOrder.{KeysAscend};
@@ -382,6 +383,19 @@ pub fn zip(alloc: Global) -> Result<NEVec<(u32, u32)>, AllocError>
     let items = items.nonempty_iter().copied();
     let pairs = items.zip(others.nonempty_iter().copied());
     pairs.collect(alloc)
+}
+
+/// The example of `all_or_errors`.
+pub fn all_or_errors(alloc: Global) -> Result<Result<NEVec<u32>, NEVec<u32>>, AllocError>
+    ensures made { IfOk result (λ ones. (xs : List ℕ) → xs ≡ 3 ∷ 1 ∷ 4 ∷ 1 ∷ []
+        → IsAllOrErrors (map (λ x. cond (nat_eq x 1) (Err x) (Ok x)) xs) ones) }
+    ensures value { IsAllOrErrors {T = ℕ} {E = ℕ}
+        (map (λ x. cond (nat_eq x 1) (Err x) (Ok x)) (3 ∷ 1 ∷ 4 ∷ 1 ∷ [])) (Err (1 ∷ 1 ∷ [])) }
+{
+    let items = nev![alloc; 3, 1, 4, 1]?.into_nonempty_iter();
+    let checked = items.map(|x| if x == 1 { Err(x) } else { Ok(x) });
+    let ones = checked.all_or_errors(alloc)?;
+    Ok(ones)
 }
 
 /// The number that has the items as its digits, from the first one on.

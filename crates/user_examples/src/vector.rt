@@ -340,6 +340,15 @@ pub fn split_first(alloc: Global) -> Result<(u32, Vec<u32>), AllocError>
     Ok((*first, rest.to_vec(alloc)?))
 }
 
+/// The example of `split_last`.
+pub fn split_last(alloc: Global) -> Result<(u32, Vec<u32>), AllocError>
+    ensures { IfOk result (λ r. (r.0 ≡ 8) × (r.1.items ≡ 4 ∷ 6 ∷ [])) }
+{
+    let items = nev![alloc; 4, 6, 8]?;
+    let (last, rest) = items.split_last();
+    Ok((*last, rest.to_vec(alloc)?))
+}
+
 /// The example of `split`.
 pub fn split(alloc: Global) -> Result<(u32, Vec<u32>, u32), AllocError>
     ensures first { IfOk result (λ r. r.0 ≡ 4) }
@@ -349,6 +358,14 @@ pub fn split(alloc: Global) -> Result<(u32, Vec<u32>, u32), AllocError>
     let items = nev![alloc; 4, 6, 8, 9]?;
     let (first, middle, last) = items.split();
     Ok((*first, middle.to_vec(alloc)?, *last))
+}
+
+/// The example of `into_first_and_rest`.
+pub fn into_first_and_rest(alloc: Global) -> Result<(u32, Vec<u32>), AllocError>
+    ensures { IfOk result (λ r. (r.0 ≡ 4) × (r.1.items ≡ 6 ∷ 8 ∷ [])) }
+{
+    let (first, rest) = nev![alloc; 4, 6, 8]?.into_first_and_rest();
+    Ok((first, rest))
 }
 
 /// The example of `append`.

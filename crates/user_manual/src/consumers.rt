@@ -2,15 +2,18 @@
 ghost use Rattle.std.specs.Prelude.{◌≡◌, ◌/◌, ◌%◌, ◌+◌, ◌++◌, ◌<◌, ◌≤◌, ◌^◌, map, sum, length, ℕ};
 ghost use Rattle.std.specs.Prelude.{Ok, Err, IfOk, IsPermutation, IsSorted, Some};
 ghost use Rattle.std.specs.Prelude.{from_bits, slice_get, take, MatchResult, nat_eq, ltb, cond};
-ghost use Rattle.std.specs.List.{All, Contains, fold, list_all};
+ghost use Rattle.std.specs.Prelude.{[], MatchOption};
+ghost use Rattle.std.specs.List.{All, Contains, filter_map, fold, list_all};
+ghost use Rattle.std.specs.Result.{result_err};
 ghost use lib.Ieee as Ieee;
 ghost use lib.Ieee.{binary64};
 ghost use Rattle.std.specs.Int.NonZero.{non_zero_usize_get};
 ghost use Rattle.std.specs.Ordering.{nat_cmp};
-ghost use Rattle.nonempty_collections.specs.Collected.{IsSetOf, values_or_first_err};
+ghost use Rattle.nonempty_collections.specs.Collected.{IsAllOrErrors, IsSetOf};
+ghost use Rattle.nonempty_collections.specs.Collected.{values_or_first_err};
 ghost use Rattle.nonempty_collections.specs.KeyOrder.{KeepsTies, KeysAscend};
 
-use nonempty_collections::{IntoNonEmptyIterator, NEVec, NonEmptyIterator};
+use nonempty_collections::{IntoIteratorExt, IntoNonEmptyIterator, NEVec, NonEmptyIterator};
 use std::alloc::{AllocError, Global};
 use std::collections::HashSet;
 use std::num::NonZeroUsize;
@@ -103,6 +106,35 @@ pub fn checked_as_vec(alloc: Global, items: NEVec<u32>) -> Result<Result<Vec<u32
         .into_nonempty_iter()
         .map(|x| if x < 10 { Ok(x) } else { Err(x) })
         .collect(alloc)
+}
+
+/// Returns the items if each is less than 10, and otherwise those that are not.
+pub fn all_checked(
+    alloc: Global,
+    items: &NEVec<u32>,
+) -> Result<Result<NEVec<u32>, NEVec<u32>>, AllocError>
+    ensures { IfOk result (IsAllOrErrors
+        (map (λ x. cond (ltb x 10) (Ok x) (Err x)) items.now)) }
+{
+    items
+        .nonempty_iter()
+        .map(|x| if *x < 10 { Ok(*x) } else { Err(*x) })
+        .all_or_errors(alloc)
+}
+
+/// Returns all values or all errors of a list that may be empty.
+pub fn all_or_errors_if_any(
+    alloc: Global,
+    items: Vec<Result<u32, bool>>,
+) -> Result<Option<Result<NEVec<u32>, NEVec<bool>>>, AllocError>
+    ensures { IfOk result (λ some. MatchOption some (items.items ≡ [])
+        (λ valid. MatchResult valid (λ values. items.items ≡ map Ok values)
+        (λ errors. errors ≡ filter_map result_err items.items))) }
+{
+    match items.try_into_nonempty_iter() {
+        Some(source) => Ok(Some(source.all_or_errors(alloc)?)),
+        None => Ok(None),
+    }
 }
 
 /// Returns the items in the order of their last digits. Items with the same last digit keep their

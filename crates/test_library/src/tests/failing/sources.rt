@@ -128,6 +128,29 @@ fn unzip(rt: HostRuntime) -> Result<(), Fail> {
     report(&rt, "made", call)
 }
 
+// The vector of values is dropped for that of errors, which grows for the fifth.
+#[test]
+fn all_or_errors(rt: HostRuntime) -> Result<(), Fail> {
+    let call = "NonEmptyIterator::all_or_errors";
+    let Ok(token) = token(rt.alloc()) else {
+        return report(&rt, "not reached", call);
+    };
+    let source = items(rt.alloc(), &token, 1, 6)?;
+    let checked = source.map(|it| if it.0.0 < 3 { Ok(it) } else { Err(it) });
+    let Ok(valid) = checked.all_or_errors(rt.alloc()) else {
+        owned(call, &token, 0)?;
+        return report(&rt, "refused", call);
+    };
+    let Err(errors) = valid else {
+        return holds(call, false);
+    };
+    owned(call, &token, 10)?;
+    holds(call, errors.iter().map(|it| it.0.0).eq(3..8))?;
+    drop(errors);
+    owned(call, &token, 0)?;
+    report(&rt, "made", call)
+}
+
 #[test]
 fn into_nonempty_vec(rt: HostRuntime) -> Result<(), Fail> {
     let result = [1, 2, 3].into_nonempty_vec(rt.alloc());
