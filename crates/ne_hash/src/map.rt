@@ -62,6 +62,8 @@ use std::num::NonZeroUsize;
 /// let map = NEMap::with_hasher(alloc, RandomState::new(&rt)?, 1, 'a')?;
 /// ```
 ///
+/// By `serde` a map is read with the default hasher, so read one of such keys as an `NEBTreeMap`.
+///
 /// In contracts it is std's record of the map: `get K.eq m k` is the value of the key `k`,
 /// `m.entries` is the list of the pairs in the order of iteration, `IsValid K.eq m` says that there
 /// is a key and that no two keys are equal, and `hasher_of m` is the hasher.

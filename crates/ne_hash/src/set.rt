@@ -55,6 +55,8 @@ use std::num::NonZeroUsize;
 /// let set = NESet::with_hasher(alloc, RandomState::new(&rt)?, 1)?;
 /// ```
 ///
+/// By `serde` a set is read with the default hasher, so read one of such items as an `NEBTreeSet`.
+///
 /// In contracts it is std's record of the set: `contains T.eq s x` says whether an item equal to
 /// `x` is in the set, `s.keys` is the list of the items in the order of iteration,
 /// `IsValid T.eq s` says that there is an item and that no two items are equal, and `hasher_of s`
