@@ -74,9 +74,9 @@ fn equal_keys(rt: HostRuntime) -> Result<(), Fail> {
 }
 
 // The text is read as a value that is written as `written`.
-fn reads<T: Serialize + for<'a> Deserialize<'a>>(
+fn reads<'a, T: Serialize + Deserialize<'a>>(
     alloc: Global,
-    text: &str,
+    text: &'a str,
     written: &str,
 ) -> Result<(), Fail> {
     let read: T = serde_json::from_str(alloc, text)?;
@@ -97,11 +97,11 @@ fn refused(rt: HostRuntime) -> Result<(), Fail> {
 }
 
 // `empty` is refused as empty, and the two others are refused.
-fn refuses<T: for<'a> Deserialize<'a>>(
+fn refuses<'a, T: Deserialize<'a>>(
     alloc: Global,
-    empty: &str,
-    cut_off: &str,
-    other: &str,
+    empty: &'a str,
+    cut_off: &'a str,
+    other: &'a str,
 ) -> Result<(), Fail> {
     let refused: Result<T, serde_json::Error> = serde_json::from_str(alloc, empty);
     let Err(e) = refused else {
