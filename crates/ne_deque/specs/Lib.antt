@@ -1,0 +1,4 @@
+pub mod Iterators
+pub mod IteratorLaws
+pub mod Kept
+pub mod QueueLends

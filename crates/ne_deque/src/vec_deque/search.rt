@@ -1,0 +1,96 @@
+//! The methods of [`NEVecDeque`] that search. They are std's, and like those need a closure that
+//! can be called with any value.
+ghost use Rattle.std.specs.Prelude.{◌≡◌, ◌≤◌, Bool, true, false, length};
+ghost use Rattle.std.specs.List.Sorted.{IsBinarySearchResult, IsSearchInRange, IsPartitionedBy};
+ghost use Rattle.std.specs.List.Sorted.{IsPartitionPoint};
+ghost use Rattle.std.specs.Fn.{ComputesKey};
+ghost use Rattle.std.specs.declared.cmp.Ordering.{Ordering};
+
+use super::NEVecDeque;
+use std::cmp::Ordering;
+
+impl<T> NEVecDeque<T> {
+    /// Searches for an item that equals `x`. Returns `Ok` with its index. If there is none, returns
+    /// `Err` with the index at which `x` can be inserted so that the items stay sorted. If several
+    /// items equal `x`, the index is that of any of them.
+    ///
+    /// The index in `Err` has this meaning only if the queue is sorted; otherwise it is some index
+    /// up to the length. An `Ok` is right in either case.
+    ///
+    /// ```
+    /// let queue = nevd![alloc; 1, 1, 2, 3, 4, 5, 6, 9]?;
+    /// let found = queue.binary_search(&5); // Ok(5)
+    /// ```
+    pub fn binary_search(&self, x: &T) -> Result<usize, usize>
+    where
+        T: Ord,
+        ensures bound { IsSearchInRange result (length self.now) }
+        ensures position { IsBinarySearchResult (λ y. T.cmp y x.now) self.now result }
+    {
+        self.inner.binary_search(x)
+    }
+
+    /// Searches for an item for which `f` returns `Equal`. Returns `Ok` with its index. If there is
+    /// none, returns `Err` with the index between the items for which `f` returns `Less` and those
+    /// for which it returns `Greater`. If there are several items with `Equal`, the index is that
+    /// of any of them.
+    ///
+    /// The indices have this meaning if what `f` returns depends only on the item. For `Err` the
+    /// queue must also be sorted by `f`: first `Less`, then `Equal`, then `Greater`.
+    ///
+    /// ```
+    /// let queue = nevd![alloc; 500u32, 100, 10]?;
+    /// let place = queue.binary_search_by(|x| 100u32.cmp(x)); // Ok(1)
+    /// ```
+    pub fn binary_search_by<F: FnMut(&T) -> Ordering>(&self, f: F) -> Result<usize, usize>
+        requires { F.IsAlwaysCallable f }
+        ensures bound { IsSearchInRange result (length self.now) }
+        ensures position { (order : T → Ordering) → ComputesKey F.FnMut order f
+            → IsBinarySearchResult order self.now result }
+    {
+        self.inner.binary_search_by(f)
+    }
+
+    /// Searches for an item whose key, as `f` returns it, equals `b`. Returns `Ok` with its index.
+    /// If there is none, returns `Err` with the index at which such an item can be inserted so that
+    /// the keys stay sorted. If several keys equal `b`, the index is that of any such item.
+    ///
+    /// The indices have this meaning if the key depends only on the item. For `Err` the queue must
+    /// also be sorted by the key.
+    ///
+    /// ```
+    /// let queue = nevd![alloc; 1u32, 20, 300]?;
+    /// let place = queue.binary_search_by_key(&10, |x| *x / 2); // Ok(1)
+    /// ```
+    pub fn binary_search_by_key<B: Ord + Drop, F: FnMut(&T) -> B>(
+        &self,
+        b: &B,
+        f: F,
+    ) -> Result<usize, usize>
+        requires { F.IsAlwaysCallable f }
+        ensures bound { IsSearchInRange result (length self.now) }
+        ensures position { (key : T → B) → ComputesKey F.FnMut key f
+            → IsBinarySearchResult (λ y. B.cmp (key y) b.now) self.now result }
+    {
+        self.inner.binary_search_by_key(b, f)
+    }
+
+    /// Returns how many of the first items meet `pred`.
+    ///
+    /// The result has this meaning if what `pred` returns depends only on the item, and no item
+    /// that meets `pred` comes after one that doesn't. In any case it is at most the length.
+    ///
+    /// ```
+    /// let queue = nevd![alloc; 1, 1, 3, 2, 4, 5, 6, 9]?;
+    /// let count = queue.partition_point(|x| *x / 2 < 5); // 8
+    /// ```
+    pub fn partition_point<P: FnMut(&T) -> bool>(&self, pred: P) -> usize
+        requires { P.IsAlwaysCallable pred }
+        ensures bound { result ≤ length self.now }
+        ensures partitioned { (meets : T → Bool) → ComputesKey P.FnMut meets pred
+            → IsPartitionedBy meets self.now → IsPartitionPoint (λ y. meets y ≡ true)
+            (λ y. meets y ≡ false) self.now result }
+    {
+        self.inner.partition_point(pred)
+    }
+}

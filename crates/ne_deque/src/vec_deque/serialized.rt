@@ -1,0 +1,46 @@
+//! Writing an [`NEVecDeque`] to a format and reading it back, by the traits of `serde`.
+ghost use Rattle.std.specs.Prelude.{OnOk};
+ghost use Rattle.serde.specs.Event.{WritesSeq};
+ghost use Rattle.ne_vec.specs.Read.{BeginsSeq};
+
+use super::NEVecDeque;
+use ne_vec::serialized::{read_seq, read_seq_owned};
+use serde::{
+    Described, Deserialize, DeserializeOwned, Deserializer, Format, Serialize, Serializer,
+};
+use std::alloc::Global;
+
+/// Writes what a `VecDeque` of the items writes.
+impl<T: Described> Described for NEVecDeque<T> {
+    ghost writes = { WritesSeq T.writes };
+}
+
+impl<T: Serialize> Serialize for NEVecDeque<T> {
+    fn serialize<S: Serializer>(&self, out: &mut S) -> Result<(), S::Error> {
+        self.inner.serialize(out)
+    }
+}
+
+/// Reads a sequence, from front to back. An empty one is an error, at its place in the input.
+impl<'de, T: Deserialize<'de>> Deserialize<'de> for NEVecDeque<T> {
+    fn deserialize<F: Format>(
+        alloc: Global,
+        from: &mut Deserializer<'de, '_, F>,
+    ) -> Result<NEVecDeque<T>, F::Error>
+        ensures { OnOk result ((item : _) × BeginsSeq F.gives F.stays from.old item) }
+    {
+        read_seq(alloc, from)
+    }
+}
+
+/// Reads a sequence, from front to back. An empty one is an error, at its place in the input.
+impl<T: DeserializeOwned> DeserializeOwned for NEVecDeque<T> {
+    fn deserialize_owned<F: Format>(
+        alloc: Global,
+        from: &mut Deserializer<'_, '_, F>,
+    ) -> Result<NEVecDeque<T>, F::Error>
+        ensures { OnOk result ((item : _) × BeginsSeq F.gives F.stays from.old item) }
+    {
+        read_seq_owned(alloc, from)
+    }
+}

@@ -1,0 +1,4 @@
+pub mod HeapClones
+pub mod HeapItems
+pub mod KeptItems
+pub mod ValidHeap

@@ -1,0 +1,12 @@
+//! Priority queues that hold at least one item.
+//!
+//! An [`NEBinaryHeap`] is std's `BinaryHeap`, and gives its greatest item first. The Rust crate has
+//! no such type.
+//!
+//! In contracts an [`NEBinaryHeap`] is the list of its items, in an order that no clause fixes. The
+//! invariant of the type, `IsValid`, is that there is an item, and that the list is a heap.
+#![tactic(auto)]
+
+pub mod binary_heap;
+
+pub use binary_heap::NEBinaryHeap;
