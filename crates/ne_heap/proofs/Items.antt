@@ -1,5 +1,5 @@
 -- What follows from the order of a list's items: lengths, sums and counts, as `HeapItems` says it.
-use Rattle.std.proofs.Common.{◌≡◌, refl, sym, ap, subst, ◌∙◌, ℕ, ◌+◌, ◌<◌, Bool, true, false, arith}
+use Rattle.std.proofs.Common.{◌≡◌, refl, sym, ap, subst, ◌∙◌, ◌+◌, ◌<◌, Bool, true, arith}
 use Rattle.std.proofs.Common.{cond, List, [], ◌∷◌, ◌++◌, IfSome, length, None, Option, Some}
 use Rattle.std.proofs.Common.{slice_get, slice_index_or}
 use Rattle.std.proofs.lemmas.List.Sorted.{IsPermutation-push_more, IsPermutation-refl}
