@@ -3,8 +3,8 @@
 //! If the check does not find a value by itself, one clause says it by a function of the list `xs`,
 //! and another one what that is.
 ghost use Rattle.std.specs.Prelude.{◌≡◌, ◌∷◌, [], ◌+◌, ◌*◌, ◌/◌, ◌%◌, ◌^◌, ◌==◌, List, ℕ, IfOk};
-ghost use Rattle.std.specs.Prelude.{None, Err, Ok, Some, false, true, map, filter, fold, drop, nat_eq};
-ghost use Rattle.std.specs.Prelude.{codes, cond, ltb};
+ghost use Rattle.std.specs.Prelude.{None, Ok, Some, false, true, map, filter, fold, drop, nat_eq};
+ghost use Rattle.std.specs.Prelude.{codes, cond, ltb, Err};
 ghost use Rattle.std.specs.Bool.{then_some};
 ghost use Rattle.std.specs.Cmp.Lexicographic.{pointwise};
 ghost use Rattle.std.specs.List.{scan, filter_map, flat_map, prefix_len, reduce, take_while, zip};
