@@ -218,3 +218,22 @@ fn owners(rt: HostRuntime) -> Result<(), Fail> {
     let held = queue.map_or(0, |q| q.len().get()) + heap.map_or(0, |h| h.len().get());
     is((held > 0 || left(&token) == 0, left(&token)), (true, 0))
 }
+
+// Reading ends with the format's error, which says that there was no memory.
+#[test]
+fn read(rt: HostRuntime) -> Result<(), Fail> {
+    let text = r#"["a","ß","c","d","e"]"#;
+    let read: Result<NEVec<NEString>, serde_json::Error> = serde_json::from_str(rt.alloc(), text);
+    let outcome = match read {
+        Ok(names) => {
+            is((names.len().get(), names.last().as_str()), (5, "e"))?;
+            "made"
+        }
+        Err(e) => {
+            is(e.is_memory(), true)?;
+            "refused"
+        }
+    };
+    println!(rt; "{outcome}: Deserialize::deserialize of NEVec and NEString")?;
+    Ok(())
+}
