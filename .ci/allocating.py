@@ -24,11 +24,13 @@ ITEMS = {
     "RunsByIter": "NonEmptyIterator::runs_by",
     "TryGroupByIter": "NonEmptyIterator::try_group_by",
 }
+# Types that keep the memory of the vector that they are collected from.
+DRAINED = ("NEVec", "Vec", "NEVecDeque", "NEBinaryHeap")
 # Calls that never allocate, although their type allows an `AllocError`; and methods of traits that
 # have a body only in an implementation, each of which is tested.
 EXCUSED = {
     *("NESlice::clone", "Iter::clone", "NonEmptyIter::clone", "collect into ()"),
-    *(f"FromNonEmptyIterator::from_drained of {it}" for it in ("NEVec", "Vec")),
+    *(f"FromNonEmptyIterator::from_drained of {it}" for it in DRAINED),
     *("FromNonEmptyIterator::from_nonempty_iter", "NonEmptyMap::put"),
     *("NonEmptySet::add", "NonEmptySet::put"),
 }

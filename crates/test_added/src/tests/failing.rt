@@ -62,7 +62,7 @@ fn queues_made(rt: HostRuntime) -> Result<(), Fail> {
     let parts = queue(alloc).map(|q| NEVecDeque::from_parts(0, q.into_deque()));
     tell(&rt, "NEVecDeque::from_parts", parts)?;
     tell(&rt, "NEVecDeque::clone", queue(alloc).map(|q| q.clone()))?;
-    tell(&rt, "nevd!", Ok(nevd![alloc; 1, 2, 3]))?;
+    tell(&rt, "nevd", Ok(nevd![alloc; 1, 2, 3]))?;
     let one: Result<NEVecDeque<u32>, AllocError> = Singleton::singleton(alloc, 1);
     tell(&rt, "Singleton::singleton of NEVecDeque", Ok(one))?;
     let halves: Result<NEVecDeque<u32>, AllocError> = match pair(alloc) {
