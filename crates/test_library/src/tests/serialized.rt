@@ -1,5 +1,5 @@
-//! What is read by `serde`, of which the toolchain's readers say nothing: each type through JSON and
-//! TOML, and what is refused.
+//! What is read by `serde`, of which the toolchain's readers say nothing: each type through JSON
+//! and TOML, and what is refused.
 
 use super::is;
 use nonempty_collections::{NEBTreeMap, NEBTreeSet, NEIndexMap, NEIndexSet, NEMap, NESet, NEVec};
