@@ -1,12 +1,11 @@
-//! What is dropped, called, drawn, cloned, evaluated and printed, chains over a user's own sources,
-//! example cases, and calls with failing allocations.
+//! What is dropped, called, drawn, cloned, evaluated, printed and read, chains over a user's own
+//! sources, and example cases.
 
 mod composed;
 mod draws;
 mod drops;
 mod equality;
 mod extremes;
-mod failing;
 mod generic;
 mod listed;
 mod macros;

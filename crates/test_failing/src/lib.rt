@@ -1,0 +1,5 @@
+//! Tests of the calls that allocate, with each of their allocations failing in turn.
+#![tactic(auto)]
+
+#[cfg(test)]
+mod tests;
