@@ -31,6 +31,22 @@ some_char bs valid some = by (chars bs) (encodes-chars bs valid)
     by [] e = omega (arith, some, ap length e)
     by (c ∷ cs) e = omega arith
 
+-- a text of more than four bytes has more than one character
+pub two_chars : (bs : List ℕ) → IsUtf8 bs → 4 < length bs → 1 < length (chars bs)
+two_chars bs valid long = by (chars bs) (encodes-chars bs valid)
+  where
+    by : (cs : List ℕ) → encode_utf8_all cs ≡ bs → 1 < length cs
+    by [] e = omega (arith, long, ap length e)
+    by (c ∷ []) e = grind (
+      arith,
+      long,
+      ap length e,
+      length-append (encode_utf8 c) [],
+      length-encode c,
+      len_utf8_bounds c,
+    )
+    by (c ∷ d ∷ cs) e = omega arith
+
 -- a text with a character is not empty
 pub some_byte : (bs : List ℕ) → 0 < length (chars bs) → 0 < length bs
 some_byte [] some = omega (arith, some, ap length chars-nil)

@@ -537,7 +537,10 @@ impl NEString {
     fn is_one_char(&self) -> bool
         ensures { MatchBool result (length (chars self.now) ≡ 1) (1 < length (chars self.now)) }
     {
-        let _ = &self.inner; // that the bytes are UTF-8 is known once a field is used
+        // a character takes at most four bytes
+        if self.inner.len() > 4 {
+            return false;
+        }
         self.split_first().1.is_empty()
     }
 }
