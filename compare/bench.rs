@@ -335,13 +335,19 @@ fn product(n: NonZeroUsize) -> u64 {
     checksum
 }
 
+// The calls of the port's enum, of which `vector_calls` makes some, here as there.
+#[allow(dead_code)]
 enum VecCall {
     Push(u64),
     Pop,
     Remove(usize),
     SwapRemove(usize),
     Insert(usize, u64),
+    Swap(usize, usize),
+    Append(Vec<u64>),
     Truncate(NonZeroUsize),
+    SplitOff(NonZeroUsize),
+    Reverse,
     Len,
 }
 
@@ -368,6 +374,7 @@ fn vector_calls(n: NonZeroUsize) -> Vec<VecCall> {
 enum VecReply {
     Done,
     Taken(Option<u64>),
+    Split(Vec<u64>),
     Len(NonZeroUsize),
     Refused,
 }
@@ -383,6 +390,7 @@ fn vector_directly(calls: Vec<VecCall>) -> u64 {
         let told = match reply {
             VecReply::Done => 1,
             VecReply::Taken(taken) => taken.unwrap_or(2),
+            VecReply::Split(rest) => rest.len() as u64,
             VecReply::Len(len) => len.get() as u64,
             VecReply::Refused => 3,
         };
@@ -401,11 +409,15 @@ fn made_directly(items: &mut NEVec<u64>, call: VecCall) -> VecReply {
             return VecReply::Taken(items.swap_remove(i))
         }
         VecCall::Insert(i, x) if i <= len => items.insert(i, x),
-        VecCall::Remove(_) | VecCall::SwapRemove(_) | VecCall::Insert(_, _) => {
-            return VecReply::Refused
-        }
+        VecCall::Swap(i, j) if i < len && j < len => items.as_mut().swap(i, j),
+        VecCall::Append(mut more) => items.append(&mut more),
         VecCall::Truncate(n) => items.truncate(n),
+        VecCall::SplitOff(n) if n.get() <= len => {
+            return VecReply::Split(items.as_mut().split_off(n.get()))
+        }
+        VecCall::Reverse => items.reverse(),
         VecCall::Len => return VecReply::Len(items.len()),
+        _ => return VecReply::Refused,
     }
     VecReply::Done
 }
