@@ -39,7 +39,7 @@ def workloads(folder):
             for it in files:
                 shutil.copy2(os.path.join(at, it), os.path.join(to, it.removesuffix(".txt")))
     with open(os.path.join(root, "crates.txt"), "w", encoding="utf-8") as it:
-        it.write("\n".join([*lines, f"test_bench: {' '.join(names)}", ""]))
+        it.write("\n".join([*lines, f"test_bench: {' '.join(names)} serde_json", ""]))
     return root
 
 
