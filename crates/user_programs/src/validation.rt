@@ -1,16 +1,28 @@
-//! A form whose fields are numbers: their values, or everything that is wrong with them.
-ghost use Rattle.std.specs.Prelude.{◌≡◌, ◌≢◌, [], IfOk, MatchResult, map, Ok, Some};
+//! A form whose fields have a name and a number: its fields, or everything that is wrong with them.
+ghost use Rattle.std.specs.Prelude.{◌≡◌, ◌≢◌, [], IfOk, MatchResult, map, Ok, Some, string_bytes};
 ghost use Rattle.nonempty_collections.specs.Collected.{values_or_first_err};
-ghost use Rattle.user_programs.specs.Fields.{number_of, reading, readings, faults_of, fault_text};
+ghost use Rattle.user_programs.specs.Fields.{name_text, number_text, number_of};
+ghost use Rattle.user_programs.specs.Fields.{reading, readings, faults_of, fault_text};
 
-use nonempty_collections::{NEVec, NonEmptyIterator};
+use ne_string::NEString;
+use nonempty_collections::{IntoNonEmptyIterator, NEVec, NonEmptyIterator};
 use std::alloc::{AllocError, Global};
 use std::fmt;
 
-/// Says that the field at index `place`, from 0, is not a number.
+/// A field of a form.
+#[derive(Debug, Drop, PartialEq, Eq)]
+pub struct Field {
+    pub name: NEString,
+    pub number: u32,
+}
+
+/// What is wrong with the field at a place, counted from 0.
 #[derive(Clone, Copy, Debug, PartialEq, Eq)]
-pub struct Fault {
-    pub place: usize,
+pub enum Fault {
+    /// It has no name.
+    NoName(usize),
+    /// It has no number.
+    NoNumber(usize),
 }
 
 impl fmt::Display for Fault {
@@ -18,8 +30,16 @@ impl fmt::Display for Fault {
 
     fn fmt<W: fmt::Write>(&self, f: &mut fmt::Formatter<W>) -> fmt::Result {
         // people count from 1; no index is the greatest `usize`
-        let number = self.place.saturating_add(1);
-        write!(f, "field {number} is not a number below 2^32")
+        match self {
+            Fault::NoName(place) => write!(f, "field {} has no name", place.saturating_add(1)),
+            Fault::NoNumber(place) => {
+                write!(
+                    f,
+                    "field {} has no number below 2^32",
+                    place.saturating_add(1)
+                )
+            }
+        }
     }
 }
 
@@ -30,48 +50,62 @@ pub fn number(text: &str) -> Option<u32>
     text.parse::<u32>().ok()
 }
 
-/// Returns the number in the field at index `place`, or a fault if it is not a number.
-pub fn read(place: usize, text: &str) -> Result<u32, Fault>
-    ensures { result ≡ reading place text.now }
+/// Returns what stands before the first `=` of a line, or the line if there is none.
+pub fn name_in(mut line: String) -> String
+    ensures { string_bytes result ≡ name_text (string_bytes line) }
 {
-    number(text).ok_or(Fault { place })
+    if let Some((name, _)) = line.as_str().split_once('=') {
+        let end = name.len();
+        line.truncate(end);
+    }
+    line
 }
 
-/// Returns the numbers of all fields, or the first fault.
-pub fn numbers(alloc: Global, fields: &NEVec<&str>) -> Result<Result<NEVec<u32>, Fault>, AllocError>
-    ensures { IfOk result (λ valid. valid ≡ values_or_first_err (readings fields.now)) }
+/// Returns the number that a line writes after the first `=`, or `None` if it writes none there.
+pub fn number_in(line: &str) -> Option<u32>
+    ensures { result ≡ number_of (number_text line.now) }
 {
-    fields
-        .nonempty_iter()
+    let (_, text) = line.split_once('=')?;
+    number(text)
+}
+
+/// Returns the field that a line writes as `NAME=NUMBER`, with its name in the memory of the line,
+/// or what is wrong with it.
+pub fn read(place: usize, line: String) -> Result<Field, Fault>
+    ensures { result ≡ reading place (string_bytes line) }
+{
+    let number = number_in(line.as_str());
+    let name = NEString::try_from_string(name_in(line)).ok_or(Fault::NoName(place))?;
+    let number = number.ok_or(Fault::NoNumber(place))?;
+    Ok(Field { name, number })
+}
+
+/// Returns the fields that all lines write, or the first fault.
+pub fn fields(
+    alloc: Global,
+    lines: NEVec<String>,
+) -> Result<Result<NEVec<Field>, Fault>, AllocError>
+    ensures { IfOk result (λ valid. valid ≡ values_or_first_err (readings lines)) }
+{
+    lines
+        .into_nonempty_iter()
         .enumerate()
-        .map(|(place, text)| read(place, text))
+        .map(|(place, line)| read(place, line))
         .collect(alloc)
 }
 
-/// Returns all faults of the fields, of which there may be none.
-pub fn faults(alloc: Global, fields: &NEVec<&str>) -> Result<Vec<Fault>, AllocError>
-    ensures { IfOk result (λ v. v.items ≡ faults_of fields.now) }
-{
-    fields
-        .nonempty_iter()
-        .enumerate()
-        .map(|(place, text)| read(place, text))
-        .filter_map(|reading| reading.err())
-        .collect(alloc)
-}
-
-/// Returns the numbers of all fields, or all faults if any field is not a number.
+/// Returns the fields that all lines write, or all faults if any line writes none.
 pub fn validate(
     alloc: Global,
-    fields: &NEVec<&str>,
-) -> Result<Result<NEVec<u32>, NEVec<Fault>>, AllocError>
+    lines: NEVec<String>,
+) -> Result<Result<NEVec<Field>, NEVec<Fault>>, AllocError>
     ensures { IfOk result (λ valid. MatchResult valid
-        (λ numbers. readings fields.now ≡ map Ok numbers)
-        (λ faults. (faults ≡ faults_of fields.now) × (faults ≢ []))) }
+        (λ fields. readings lines ≡ map Ok fields)
+        (λ faults. (faults ≡ faults_of lines) × (faults ≢ []))) }
 {
-    fields
-        .nonempty_iter()
+    lines
+        .into_nonempty_iter()
         .enumerate()
-        .map(|(place, text)| read(place, text))
+        .map(|(place, line)| read(place, line))
         .all_or_errors(alloc)
 }

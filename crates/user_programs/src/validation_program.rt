@@ -1,5 +1,5 @@
-//! Reads a form, one field a line, in which each field has to be a number below 2^32. It prints the
-//! numbers, or each fault with the place of its field, counted from 1.
+//! Reads a form, one field `NAME=NUMBER` a line, in which each name has a character and each number
+//! is below 2^32. It prints the fields, or each fault with the place of its field, counted from 1.
 
 use crate::validation::validate;
 use anyhow::{Context, Result};
@@ -10,12 +10,15 @@ use std::io;
 pub fn run(rt: &HostRuntime) -> Result<()> {
     let alloc = rt.alloc();
     let text = io::read_to_string(alloc, rt.reader())?;
-    let fields: Vec<&str> = text.lines().collect(alloc)?;
-    let fields = NEVec::try_from_vec(fields).context("there is no field")?;
-    match validate(alloc, &fields)? {
-        Ok(numbers) => {
-            for number in numbers.iter() {
-                println!(rt; "{number}")?;
+    let mut lines = Vec::new(alloc);
+    for line in text.lines() {
+        lines.push(String::from_str(alloc, line)?)?;
+    }
+    let lines = NEVec::try_from_vec(lines).context("there is no field")?;
+    match validate(alloc, lines)? {
+        Ok(fields) => {
+            for field in fields.iter() {
+                println!(rt; "{}: {}", field.name, field.number)?;
             }
         }
         Err(faults) => {
