@@ -1,5 +1,4 @@
 pub mod Counted
-pub mod Described
 pub mod Determined
 pub mod Groups
 pub mod GroupsOfRows

@@ -1,4 +1,3 @@
-pub mod Descriptions
 pub mod Fields
 pub mod Points
 pub mod Queries

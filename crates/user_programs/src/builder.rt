@@ -1,33 +1,27 @@
-//! A builder of queries. A query has at least one column, and if it has conditions, at least one.
-ghost use Rattle.std.specs.Prelude.{
-  ◌≡◌,
-  ◌++◌,
-  ◌∷◌,
-  [],
-  IfOk,
-  OnOk,
-  Some,
-  None,
-  MatchOption,
-  string_bytes,
-};
+//! Queries, which are built step by step, or read by `serde`. No name, condition or list of a query
+//! is empty.
+ghost use Rattle.std.specs.Prelude.{◌≡◌, ◌++◌, ◌∷◌, [], IfOk, Some, None, MatchOption};
+ghost use Rattle.std.specs.Prelude.{string_bytes};
 ghost use Rattle.std.specs.List.{join_by};
 ghost use Rattle.user_programs.specs.Queries.{query_text};
 
+use ne_string::NEString;
 use nonempty_collections::{NEVec, NonEmptyIterator};
+use serde::Deserialize;
 use std::alloc::{AllocError, Global};
 
 /// A query for columns of a table, with conditions if there are any.
-#[derive(Drop)]
+#[derive(Deserialize, Drop)]
+#[serde(deny_unknown_fields)]
 pub struct Query {
-    pub columns: NEVec<String>,
-    pub table: String,
-    pub conditions: Option<NEVec<String>>,
+    pub columns: NEVec<NEString>,
+    pub table: NEString,
+    pub conditions: Option<NEVec<NEString>>,
 }
 
 impl Query {
     /// Returns a query for one column.
-    pub fn select(alloc: Global, table: String, column: String) -> Result<Query, AllocError>
+    pub fn select(alloc: Global, table: NEString, column: NEString) -> Result<Query, AllocError>
         ensures { IfOk result (λ q.
             (q.columns ≡ column ∷ []) × (q.table ≡ table) × (q.conditions ≡ None)) }
     {
@@ -40,7 +34,7 @@ impl Query {
     }
 
     /// Returns the query with one more column.
-    pub fn column(mut self, column: String) -> Result<Query, AllocError>
+    pub fn column(mut self, column: NEString) -> Result<Query, AllocError>
         ensures { IfOk result (λ q. (q.columns ≡ self.columns ++ column ∷ [])
             × (q.table ≡ self.table) × (q.conditions ≡ self.conditions)) }
     {
@@ -49,7 +43,7 @@ impl Query {
     }
 
     /// Returns the query with one more condition.
-    pub fn filter(mut self, alloc: Global, condition: String) -> Result<Query, AllocError>
+    pub fn filter(mut self, alloc: Global, condition: NEString) -> Result<Query, AllocError>
         ensures { IfOk result (λ q. (q.columns ≡ self.columns) × (q.table ≡ self.table)
             × MatchOption self.conditions (q.conditions ≡ Some (condition ∷ []))
             (λ those. q.conditions ≡ Some (those ++ condition ∷ []))) }
@@ -67,47 +61,29 @@ impl Query {
             string_bytes text ≡ query_text self.now.columns self.now.table self.now.conditions) }
     {
         let mut text = String::from_str(alloc, "SELECT ")?;
-        push_joined(&mut text, &self.columns, ", ")?;
+        text.push_str(joined(alloc, &self.columns, ", ")?.as_str())?;
         text.push_str(" FROM ")?;
         text.push_str(self.table.as_str())?;
         if let Some(conditions) = &self.conditions {
             text.push_str(" WHERE ")?;
-            push_joined(&mut text, conditions, " AND ")?;
+            text.push_str(joined(alloc, conditions, " AND ")?.as_str())?;
         }
         Ok(text)
     }
 }
 
-/// Appends the parts to a text, with the separator between each two.
-pub fn push_joined(
-    text: &mut String,
-    parts: &NEVec<String>,
-    separator: &str,
-) -> Result<(), AllocError>
-    ensures { OnOk result (string_bytes text.new
-        ≡ string_bytes text.old ++ join_by string_bytes separator.now parts.now) }
-{
-    let (first, rest) = parts.split_first();
-    text.push_str(first.as_str())?;
-    for part in rest {
-        text.push_str(separator)?;
-        text.push_str(part.as_str())?;
-    }
-    Ok(())
-}
-
-/// Returns borrowed names as one text, with the separator between each two.
+/// Returns the parts as one text, with the separator between each two.
 pub fn joined<'a>(
     alloc: Global,
-    names: &NEVec<&'a str>,
+    parts: &'a NEVec<NEString>,
     separator: &'a str,
 ) -> Result<String, AllocError>
     ensures { IfOk result (λ text.
-        string_bytes text ≡ join_by (λ t. t.now) separator.now names.now) }
+        string_bytes text ≡ join_by (λ part. part) separator.now parts.now) }
 {
-    names
+    parts
         .nonempty_iter()
-        .copied()
+        .map(|part| part.as_str())
         .intersperse(separator)
         .collect::<Result<String, AllocError>>(alloc)?
 }

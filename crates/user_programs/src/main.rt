@@ -4,7 +4,6 @@
 
 mod builder;
 mod commands;
-mod description;
 mod intervals;
 mod intervals_program;
 mod jobs;

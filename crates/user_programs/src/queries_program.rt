@@ -1,9 +1,10 @@
-//! Reads the description of a query and prints its text. The first line is `table NAME`, the second
-//! `column NAME`, and each further line `column NAME` or `where CONDITION`.
+//! Reads a query as JSON and prints its text: `{"table": "t", "columns": ["a", "b"]}`, perhaps with
+//! a list `"conditions"`.
 //!
-//! A description that makes no query is refused, and the error says why.
+//! Another text is refused, also one with an empty list, name or condition, and the error says why
+//! and where.
 
-use crate::description;
+use crate::builder::Query;
 use anyhow::Result;
 use std::io;
 
@@ -11,8 +12,7 @@ use std::io;
 pub fn run(rt: &HostRuntime) -> Result<()> {
     let alloc = rt.alloc();
     let text = io::read_to_string(alloc, rt.reader())?;
-    let lines = description::read(alloc, text.as_str())?;
-    let query = description::query(alloc, lines)?;
+    let query: Query = serde_json::from_str(alloc, text.as_str())?;
     rt.println(query.to_text(alloc)?)?;
     Ok(())
 }
