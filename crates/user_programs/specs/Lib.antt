@@ -2,4 +2,5 @@ pub mod Fields
 pub mod Points
 pub mod Queries
 pub mod Reports
+pub mod Rounds
 pub mod Turns

@@ -8,6 +8,7 @@ mod intervals;
 mod intervals_program;
 mod jobs;
 mod queries_program;
+mod queue;
 mod report;
 mod report_program;
 mod rows;
