@@ -1,3 +1,4 @@
+pub mod Configurations
 pub mod Fields
 pub mod Points
 pub mod Queries

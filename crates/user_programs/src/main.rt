@@ -4,6 +4,8 @@
 
 mod builder;
 mod commands;
+mod configuration;
+mod configuration_program;
 mod intervals;
 mod intervals_program;
 mod jobs;
@@ -27,6 +29,7 @@ fn main(rt: HostRuntime) -> Result<()> {
         bail!("usage: user_programs NAME");
     };
     match name.as_str() {
+        "configuration" => configuration_program::run(&rt),
         "intervals" => intervals_program::run(&rt),
         "queries" => queries_program::run(&rt),
         "report" => report_program::run(&rt),
