@@ -475,7 +475,7 @@ try_from_vec 5
 chain
 """
 # Each call that may report a failed allocation, over a hundred thousand items; an array has at most
-# 32. `.ci/calls` fails if one is left out.
+# 32.
 LARGE = """
 vector 7
 from_elem 100000 7

@@ -407,8 +407,7 @@ keys_clone
 values_clone
 """
 
-# Calls that may report a failed allocation, over a hundred thousand keys. `.ci/calls` fails if one
-# is left out.
+# Each call that may report a failed allocation, over a hundred thousand keys.
 LARGE_ROOM = """
 with_capacity {numbers} 100000
 capacity 100000
