@@ -1,6 +1,7 @@
 """The calls that `compare/replay` makes and that the Rust crate lacks, a few others to be made
-between them, and their scripts, in the form of `calls.py`. Their reference implementation is
-`replay_added.rs`. A script begins with the kind of the collection and its numbers."""
+between them, and their scripts, in the form of `calls.py`. All calls on queues and priority queues
+are among them. Their reference implementation is `replay_added.rs`, with `replay_queues.rs`. A
+script begins with the kind of the collection and its numbers."""
 
 import itertools
 from collections import namedtuple
@@ -15,7 +16,12 @@ NAME = "added"
 REFERENCE = "replay_added"
 VECTOR = ["vector"]
 TREES = ["tree_map", "tree_set"]
-SUBJECTS = VECTOR + MAPS + SETS
+DEQUE = ["deque"]
+HEAP = ["heap"]
+QUEUES = DEQUE + HEAP
+# The collections whose numbers are items, and not keys.
+ITEMS = VECTOR + QUEUES
+SUBJECTS = VECTOR + MAPS + SETS + QUEUES
 
 
 def a_span(chance, keys):
@@ -107,6 +113,37 @@ ROWS = [
     ("first last", SETS[:1], NONE, "", READS),
     ("range", TREES, NONE, "span", READS),
     ("is_empty", TREES, NONE, "", READS),
+    ("new singleton push_front push_back front_mut back_mut", DEQUE, NONE, "item", CHANGES),
+    ("written_one extend_one", DEQUE, NONE, "item", CHANGES),
+    ("written_two", DEQUE, NONE, "pair", CHANGES),
+    ("with_capacity", QUEUES, NONE, "count item", CHANGES),
+    ("from_parts", DEQUE, NONE, "other", CHANGES),
+    ("from_vec from_drained collect", QUEUES, NONE, "other", CHANGES),
+    ("try_from_deque", DEQUE, NONE, "items", CHANGES),
+    ("try_from append extend", QUEUES, NONE, "items", CHANGES),
+    ("get_mut index_mut insert", DEQUE, NONE, "place item", CHANGES),
+    ("swap", DEQUE, NONE, "place place", CHANGES),
+    ("remove swap_remove_front swap_remove_back", DEQUE, NONE, "place", CHANGES),
+    ("rotate_left rotate_right", DEQUE, NONE, "place", CHANGES),
+    ("pop_front pop_back make_contiguous", DEQUE, NONE, "", CHANGES),
+    ("truncate split_off", DEQUE, NONE, "size", CHANGES),
+    ("iter_mut nonempty_iter_mut for_mut retain retain_mut", DEQUE, ANY, "", CHANGES),
+    ("reserve", QUEUES, NONE, "count", CHANGES),
+    ("shrink_to_fit", QUEUES, NONE, "", CHANGES),
+    ("get index", DEQUE, NONE, "place", READS),
+    ("contains binary_search", DEQUE, NONE, "item", READS),
+    ("binary_search_by binary_search_by_key partition_point", DEQUE, PURE, "item", READS),
+    ("front back first last as_slices into_deque iter_rev", DEQUE, NONE, "", READS),
+    ("nonempty_iter_clone", DEQUE, NONE, "", READS),
+    ("len is_empty capacity as_ref clone into_vec debug", QUEUES, NONE, "", READS),
+    ("iter nonempty_iter into_iter into_nonempty_iter ref_into_iter", QUEUES, NONE, "", READS),
+    ("ref_into_nonempty_iter", QUEUES, NONE, "", READS),
+    ("eq cmp partial_cmp lt hash", DEQUE, NONE, "other", READS),
+    ("new singleton push extend_one replace_greatest", HEAP, NONE, "item", CHANGES),
+    ("try_from_heap", HEAP, NONE, "items", CHANGES),
+    ("pop", HEAP, NONE, "", CHANGES),
+    ("retain", HEAP, PURE, "", CHANGES),
+    ("peek into_sorted_vec into_heap as_nonempty_slice", HEAP, NONE, "", READS),
 ]
 # Other calls, which follow these in scripts.
 OTHERS = [
@@ -120,7 +157,7 @@ OTHERS = [
     ("get_mut", MAPS[:2], NONE, "key value", CHANGES),
     ("get_index_of", MAPS[2:], NONE, "key", READS),
     ("get", SETS, NONE, "key", READS),
-    ("iter", SUBJECTS, NONE, "", READS),
+    ("iter", VECTOR + MAPS + SETS, NONE, "", READS),
 ]
 Row = namedtuple("Row", "closures kinds does is_added")
 CALLS = {
@@ -138,19 +175,28 @@ EXCUSED = [
         "numbers that a closure makes equal are compared themselves",
     ),
     (
-        "retain of hashed maps and sets: closures with state",
+        "retain of hashed maps and sets and of heaps: closures with state",
         "in which order the closure is called is open in both",
     ),
     (
-        "swap, split_off: places out of range; range: ends out of order",
+        "swap, split_off, rotate_left, rotate_right, and insert, index and index_mut of queues: "
+        "places out of range; range: ends out of order",
         "Rust panics; in the port that they are in range and in order is a condition of the call. "
         "Both programs say so and make no call",
+    ),
+    (
+        "searches in queues: which of several items is found, and queues in another order",
+        "Rust leaves them open; both programs sort a copy, and write the key of what is found",
+    ),
+    (
+        "reserve, with_capacity: sizes far above the length",
+        "without memory Rust ends the process",
     ),
 ]
 
 
 def setting(subject, keys):
-    return (subject, "", tuple(keys)) if subject == "vector" else keyed_calls.setting(subject, keys)
+    return (subject, "", tuple(keys)) if subject in ITEMS else keyed_calls.setting(subject, keys)
 
 
 def is_allowed(script):
@@ -421,8 +467,68 @@ indexed_set 7
 retain
 iter
 """
-# Calls over a hundred thousand items or keys. `.ci/calls` fails if one is left out that may report
-# a failed allocation.
+DEQUE_ROWS = """
+deque 1
+pop_front
+pop_back
+remove 0
+swap_remove_front 0
+swap_remove_back 7
+push_front 0
+push_back 2
+as_slices
+make_contiguous
+pop_back
+deque 4 6 8
+insert 1 5
+insert 4 9
+insert 6 0
+rotate_left 2
+rotate_left 6
+rotate_right 1
+swap_remove_front 3
+swap_remove_back 1
+remove 1
+append 7 5
+split_off 2
+split_off 9
+truncate 1
+retain falling
+retain
+deque 2 3
+debug
+deque 7 1 1 2 1
+debug
+binary_search 1
+partition_point half 1
+retain_mut calls
+iter_mut total
+"""
+HEAP_ROWS = """
+heap 1
+pop
+replace_greatest 0
+push 2
+pop
+heap 3 1 4 1 5 9 2 6
+pop
+replace_greatest 7
+replace_greatest 0
+into_sorted_vec
+append 8 8
+pop
+pop
+pop
+retain
+retain digit
+retain falling
+debug
+heap 7
+retain
+debug
+"""
+# Each call that may report a failed allocation, and some others, over a hundred thousand items or
+# keys.
 LARGE_ROWS = """
 vector 7
 run_vec 200000*11
@@ -479,11 +585,48 @@ swap_remove 100000
 shift_remove 100002
 retain half
 iter
+deque 7
+new 7
+singleton 7
+written_two 7 8
+with_capacity 100000 7
+from_parts 100000*1
+collect 100000*1
+clone
+deque 100000*7919
+push_front 5
+push_back 6
+extend_one 7
+insert 50000 8
+reserve 100000
+extend 100000*1
+append 100000*1
+split_off 150000
+shrink_to_fit
+iter
+heap 7
+new 7
+singleton 7
+with_capacity 100000 7
+collect 100000*7919
+clone
+push 120831
+extend_one 7
+reserve 100000
+extend 100000*1
+append 100000*3
+shrink_to_fit
+pop
+replace_greatest 3
+retain half
+into_sorted_vec
+iter
 """
 EXAMPLES = [
     VECTOR_ROWS,
     *(TREE_MAP_ROWS, HASHED_MAP_ROWS, INDEXED_MAP_ROWS),
     *(TREE_SET_ROWS, HASHED_SET_ROWS, INDEXED_SET_ROWS),
+    *(DEQUE_ROWS, HEAP_ROWS),
 ]
 
 
@@ -518,7 +661,11 @@ def numbers_for(count):
         "value": [(7,), (8,)],
         "place": [(0,), (count - 1,)],
         "size": [(count,), (1,)],
+        "item": [(count // 2,), (count,)],
+        "pair": [(5, 9), (count, 0)],
+        "count": [(count,), (1,)],
         "items": [(5, 9), ()],
+        "other": [(f"{count}*7919",), (f"{count}*1", 3)],
         "span": [(1, 2 * count), (count, count)],
         "vector_calls": [(0, 7, 8, count, 9, 1, 1, 0, 1, 0), (10, 5, 2, count, 6, 0, 7, 0)],
         "map_calls": [(4, count, 0, 4, 0, 0, 3, 0, 0), (0, 4 * count, 8, 4, 1, 0, 2, count, 0)],
@@ -534,6 +681,6 @@ def sample():
         telling = {name: kind.telling for name, kind in KINDS.items()}
         script += each(setting(subject, (6, 3, 8, 1, 7, 12, 9)), telling)
         for count in 1, 2, 10:
-            size = count if subject == "vector" else 2 * count
+            size = count if subject in ITEMS else 2 * count
             script += each((subject, "", (f"{size}*7919",)), numbers_for(count))
     return script + parsed(LARGE_ROWS)

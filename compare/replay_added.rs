@@ -2,12 +2,14 @@
 // are made on std's collections, and for index maps and sets on lists that are searched by `==`.
 // The last entry is never removed: a removal returns `None` or `false` if there is no other. This
 // program reads and prints what `replay.rs` does, and needs no crate.
+#[path = "replay_queues.rs"]
+mod queues;
 #[allow(dead_code)] // The other program uses the rest.
 #[path = "replay_script.rs"]
 mod script;
 
 use script::{write, Call, Key, Transcript};
-use std::collections::{BTreeMap, BTreeSet, HashMap, HashSet};
+use std::collections::{BTreeMap, BTreeSet, BinaryHeap, HashMap, HashSet, VecDeque};
 use std::fmt::Debug;
 use std::io::{self, Read, Write as _};
 
@@ -33,7 +35,8 @@ fn replayed(script: &str) -> String {
         let call = Call::parsed(line);
         answered(&mut subject, &call, &mut out);
         out.said(" | ");
-        out.is_sorted = matches!(subject, Subject::HashedMap(_) | Subject::HashedSet(_));
+        out.is_sorted =
+            matches!(subject, Subject::HashedMap(_) | Subject::HashedSet(_) | Subject::Heap(_));
         out.is_brief = true;
         subject.write(&call, &mut out);
         out.is_brief = false;
@@ -62,6 +65,8 @@ fn answered(subject: &mut Subject, call: &Call, out: &mut Transcript) {
         "tree_set" => *subject = Subject::TreeSet(items().into_iter().collect()),
         "hashed_set" => *subject = Subject::HashedSet(items().into_iter().collect()),
         "indexed_set" => *subject = Subject::IndexedSet(each_once(items())),
+        "deque" => *subject = Subject::Deque(queues::some_numbers(call)),
+        "heap" => *subject = Subject::Heap(queues::some_numbers(call)),
         _ => subject.answered(call, out),
     }
 }
@@ -74,6 +79,8 @@ enum Subject {
     TreeSet(TreeSet),
     HashedSet(HashedSet),
     IndexedSet(IndexedSet),
+    Deque(VecDeque<u32>),
+    Heap(BinaryHeap<u32>),
 }
 
 impl Subject {
@@ -86,6 +93,8 @@ impl Subject {
             Subject::TreeSet(set) => tree_set(set, call, out),
             Subject::HashedSet(set) => hashed_set(set, call, out),
             Subject::IndexedSet(set) => indexed_set(set, call, out),
+            Subject::Deque(items) => queues::deque(items, call, out),
+            Subject::Heap(heap) => queues::heap(heap, call, out),
         }
     }
 
@@ -103,6 +112,14 @@ impl Subject {
             Subject::TreeSet(set) => out.yielded(set),
             Subject::HashedSet(set) => out.yielded(set),
             Subject::IndexedSet(items) => out.yielded(items),
+            Subject::Deque(items) => {
+                out.yielded(items);
+                out.said(&format!(" | {}", call.closure.calls()))
+            }
+            Subject::Heap(heap) => {
+                out.yielded(heap);
+                out.said(&format!(" | {}", call.closure.calls()))
+            }
         }
     }
 }

@@ -3,9 +3,9 @@
 //!
 //! A line that names a kind of collection makes one of its numbers, on which the following lines
 //! call. A script begins with a vector. The line that is printed has the result, and then the
-//! collection as it is after the call, or its length if it is long; on a vector also how often the
-//! call's closure was called. A reference implementation does the same with the Rust crate, and
-//! another one makes the calls that the Rust crate lacks: see `compare/replay`.
+//! collection as it is after the call, or its length if it is long; on a vector or a queue also how
+//! often the call's closure was called. A reference implementation does the same with the Rust
+//! crate, and another one makes the calls that the Rust crate lacks: see `compare/replay`.
 #![tactic(auto)]
 
 mod adapters;
@@ -14,6 +14,8 @@ mod call;
 mod closure;
 mod collected;
 mod consumers;
+mod deque;
+mod heap;
 mod key;
 mod keyed;
 mod slice;
@@ -22,6 +24,8 @@ mod vector;
 
 use call::Call;
 use keyed::{HashedMap, HashedSet, IndexedMap, IndexedSet, TreeMap, TreeSet};
+use ne_deque::NEVecDeque;
+use ne_heap::NEBinaryHeap;
 use nonempty_collections::{IntoNonEmptyIterator, NEVec, NonEmptyIterator};
 use std::alloc::{AllocError, Global};
 use std::io;
@@ -58,7 +62,7 @@ fn replay(subject: &mut Subject, call: &Call, out: &mut Transcript) -> Written {
         out.said("AllocError")?;
     }
     out.said(" | ")?;
-    out.is_sorted = subject.is_hashed();
+    out.is_sorted = subject.is_unordered();
     out.is_brief = true;
     subject.write(call, out)?;
     out.is_brief = false;
@@ -76,6 +80,11 @@ fn written(subject: &mut Subject, call: &Call, out: &mut Transcript) -> Written 
         "tree_set" => put(subject, Ok(Subject::TreeSet(keyed::set(call, alloc)?))),
         "hashed_set" => put(subject, Ok(Subject::HashedSet(keyed::set(call, alloc)?))),
         "indexed_set" => put(subject, Ok(Subject::IndexedSet(keyed::set(call, alloc)?))),
+        "deque" => put(subject, Ok(Subject::Deque(deque::queue(call, alloc)?))),
+        "heap" => put(
+            subject,
+            Ok(Subject::Heap(NEBinaryHeap::from(call.vector(alloc)?))),
+        ),
         _ => subject.written(call, out),
     }
 }
@@ -90,12 +99,17 @@ enum Subject {
     TreeSet(TreeSet),
     HashedSet(HashedSet),
     IndexedSet(IndexedSet),
+    Deque(NEVecDeque<u32>),
+    Heap(NEBinaryHeap<u32>),
 }
 
 impl Subject {
     // Whether its order of iteration is unspecified.
-    fn is_hashed(&self) -> bool {
-        matches!(self, Subject::HashedMap(_) | Subject::HashedSet(_))
+    fn is_unordered(&self) -> bool {
+        matches!(
+            self,
+            Subject::HashedMap(_) | Subject::HashedSet(_) | Subject::Heap(_)
+        )
     }
 
     fn written(&mut self, call: &Call, out: &mut Transcript) -> Written {
@@ -107,6 +121,8 @@ impl Subject {
             Subject::TreeSet(set) => keyed::tree_set(set, call, out),
             Subject::HashedSet(set) => keyed::hashed_set(set, call, out),
             Subject::IndexedSet(set) => keyed::indexed_set(set, call, out),
+            Subject::Deque(items) => deque::made(items, call, out),
+            Subject::Heap(heap) => heap::made(heap, call, out),
         }
     }
 
@@ -119,6 +135,8 @@ impl Subject {
             Subject::TreeSet(set) => keyed::tree_set_written(set, out),
             Subject::HashedSet(set) => keyed::hashed_set_written(set, out),
             Subject::IndexedSet(set) => keyed::indexed_set_written(set, out),
+            Subject::Deque(items) => deque::written_out(items, call, out),
+            Subject::Heap(heap) => heap::written_out(heap, call, out),
         }
     }
 }

@@ -58,8 +58,8 @@ fn written(items: &mut NEVec<u32>, call: &Call, out: &mut Transcript) -> Written
     }
 }
 
-// Writes what the closure returns in place of each item.
-fn rewrite<'a, I: IntoIterator<Item = &'a mut u32>>(iter: I, call: &Call)
+/// Writes what the closure returns in place of each item.
+pub fn rewrite<'a, I: IntoIterator<Item = &'a mut u32>>(iter: I, call: &Call)
     requires { IsFiniteIterable I.into_iter_gives I.IntoIter.can_next I.IntoIter.remaining iter }
 {
     for item in iter {
@@ -180,8 +180,8 @@ pub fn shared(iter: std_slice::Iter<u32>, out: &mut Transcript) -> Written {
     out.yielded(iter)
 }
 
-// Writes what an iterator by value yields.
-fn owned(iter: vec::IntoIter<u32>, out: &mut Transcript) -> Written {
+/// Writes what an iterator by value yields.
+pub fn owned(iter: vec::IntoIter<u32>, out: &mut Transcript) -> Written {
     out.yielded(iter)
 }
 
