@@ -1,11 +1,10 @@
-//! What is printed, dropped, read and written, large inputs, and calls with failing allocations.
+//! What is dropped, read and written, room, texts, and calls with failing allocations.
 
 mod binary_heap;
 mod failing;
 mod string;
 mod vec_deque;
 
-use std::alloc::Global;
 use std::fmt::Debug;
 use std::num::NonZeroUsize;
 use std::rc::Rc;
@@ -23,12 +22,6 @@ pub(crate) fn is<T: PartialEq + Debug + Drop>(given: T, wanted: T) -> Result<(),
     } else {
         Err(Fail::new(format_args!("expected {wanted:?}, found {given:?}")))
     }
-}
-
-// Fails unless the value prints this text.
-pub(crate) fn prints<T: Debug>(alloc: Global, value: &T, wanted: &str) -> Result<(), Fail> {
-    let text = format!(in alloc; "{value:?}")?;
-    is(text.as_str(), wanted)
 }
 
 // How many owners the token has besides `token` itself.
