@@ -21,25 +21,28 @@ def numbers_of(words, usage):
     return [int(word) for word in words]
 
 
-def workloads(folder):
-    """Writes a repository of the libraries and of the crate `test_bench`, the program of the
-    workloads, into this folder, and returns its root. The program's files have the ending `.txt`
-    here, since each `.rt` file of this repository belongs to a crate that the gate proves."""
+def separate(folder, name, home, listed=()):
+    """Writes a repository of the libraries and of the crate of this name, a program, into this
+    folder, and returns its root. The program's files are those of the folder `home` here. They have
+    the ending `.txt`, since each `.rt` file of this repository belongs to a crate that the gate
+    proves. If no crates are listed that the program stands on, these are all the libraries, and
+    `serde_json`."""
     root = os.path.join(folder, "port")
     with open(os.path.join(HERE, os.pardir, "crates.txt"), encoding="utf-8") as it:
         lines = re.findall(r"^(?:ne_(?!runs)|nonempty_)\w+: .*$", it.read(), re.M)
     names = [it.partition(":")[0] for it in lines]
     sources = [(os.path.join(HERE, os.pardir, "crates", it), it, ("out",)) for it in names]
-    sources.append((os.path.join(HERE, "workloads"), "test_bench/src", ()))
-    for source, name, left_out in sources:
+    sources.append((os.path.join(HERE, home), f"{name}/src", ()))
+    for source, crate, left_out in sources:
         for at, folders, files in os.walk(source):
             folders[:] = [it for it in folders if it not in left_out]
-            to = os.path.join(root, "crates", name, os.path.relpath(at, source))
+            to = os.path.join(root, "crates", crate, os.path.relpath(at, source))
             os.makedirs(to, exist_ok=True)
             for it in files:
                 shutil.copy2(os.path.join(at, it), os.path.join(to, it.removesuffix(".txt")))
     with open(os.path.join(root, "crates.txt"), "w", encoding="utf-8") as it:
-        it.write("\n".join([*lines, f"test_bench: {' '.join(names)} serde_json", ""]))
+        listed = listed or [*names, "serde_json"]
+        it.write("\n".join([*lines, f"{name}: {' '.join(listed)}", ""]))
     return root
 
 
