@@ -2,10 +2,10 @@
 //!
 //! Each shows what no example in a comment shows (`user_examples`): chains, references, texts,
 //! sources of any type, and maps and sets in general. They are proved from the public contracts of
-//! what they call. Two have a proof file: `pairs_of_any_sources`, which calls a law, and
-//! `how_many_small`, for its loop. `total_of_few` and two functions of `runs` call a law too. Most
-//! ensure the exact result. If less is proved today, as of `unzip` of texts, the function ensures
-//! that.
+//! what they call. Three have proof files: `pairs_of_any_sources`, which calls a law, and
+//! `how_many_small` and `totals`, for their loops. `total_of_few` and two functions of `runs` call
+//! a law too. Most ensure the exact result. If less is proved today, as of `unzip` of texts, the
+//! function ensures that.
 #![tactic(auto)]
 
 pub mod adapters;
@@ -20,6 +20,7 @@ pub mod loops;
 pub mod mixed;
 pub mod nested;
 pub mod parts;
+pub mod recipes;
 pub mod references;
 pub mod runs;
 pub mod sources;
