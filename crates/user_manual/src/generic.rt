@@ -2,7 +2,8 @@
 ghost use Rattle.std.specs.Prelude.{◌≡◌, ◌<◌, ◌/◌, ◌^◌, ℕ, List, IfOk, length, map, string_bytes};
 ghost use Rattle.std.specs.Borrow.{Bor};
 ghost use Rattle.std.specs.Iterator.{size};
-ghost use Rattle.std.specs.List.{enumerate_from, flat_map};
+ghost use Rattle.std.specs.Prelude.{◌+◌, ◌%◌};
+ghost use Rattle.std.specs.List.{enumerate_from, flat_map, fold};
 
 use nonempty_collections::iter::ItemSource;
 use nonempty_collections::{IntoNonEmptyIterator, NEVec, NonEmptyIterator};
@@ -108,4 +109,24 @@ pub fn halves_of_vector(alloc: Global, items: NEVec<u32>) -> Result<NEVec<u32>, 
     ensures { IfOk result (λ v. v ≡ map (λ x. x / 2) items) }
 {
     halves_of(alloc, items)
+}
+
+/// Returns the sum of a value's items, modulo 2 ^ 32, by a fold.
+pub fn wrapping_sum_of<V: IntoNonEmptyIterator<Item = u32>>(items: V) -> u32
+    requires { (s : V.IntoNEIter) → V.into_nonempty_iter_gives items s
+        → ⟦<V::IntoNEIter as ItemSource>⟧.ends s }
+    ensures { (s : V.IntoNEIter) × V.into_nonempty_iter_gives items s
+        × ((xs : List ℕ) → ⟦<V::IntoNEIter as ItemSource>⟧.listed s xs
+        → result ≡ fold (λ sum x. (sum + x) % 2 ^ 32) 0 xs) }
+{
+    items
+        .into_nonempty_iter()
+        .fold(0, |sum: u32, x| sum.wrapping_add(x))
+}
+
+/// Returns the sum of a vector's items, modulo 2 ^ 32.
+pub fn wrapping_sum_of_vector(items: NEVec<u32>) -> u32
+    ensures { result ≡ fold (λ sum x. (sum + x) % 2 ^ 32) 0 items }
+{
+    wrapping_sum_of(items)
 }

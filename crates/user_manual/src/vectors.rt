@@ -1,6 +1,7 @@
 //! Calls on a vector that drop items, and searches.
 ghost use Rattle.std.specs.Prelude.{◌≡◌, ◌≢◌, ◌/◌, [], All, Contains, IfOk, IfSome, MatchOption};
 ghost use Rattle.std.specs.Prelude.{MatchResult, Some, filter, ltb, map, nat_eq, slice_get};
+ghost use Rattle.std.specs.Prelude.{◌<◌, ℕ, length};
 ghost use Rattle.std.specs.Ordering.{nat_cmp};
 ghost use Rattle.nonempty_collections.specs.Divisions.{by_first, heads, runs_of};
 ghost use Rattle.nonempty_collections.specs.KeyOrder.{KeysAscend};
@@ -112,4 +113,14 @@ pub fn sort_and_search(
 {
     lines.sort_by_key(|l| l.article)?;
     Ok(lines.binary_search_by_key(&article, |l| l.article))
+}
+
+/// Swaps the first item and the item at an index.
+pub fn swap_with_first(items: &mut NEVec<u32>, place: usize)
+    requires { place < length items.old }
+    ensures first { slice_get items.new 0 ≡ slice_get items.old place }
+    ensures other { slice_get items.new place ≡ slice_get items.old 0 }
+    ensures rest { (i : ℕ) → 0 < i → i ≢ place → slice_get items.new i ≡ slice_get items.old i }
+{
+    items.swap(0, place);
 }

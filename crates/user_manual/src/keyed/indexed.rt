@@ -1,7 +1,8 @@
 //! Index maps and sets.
 ghost use Rattle.std.specs.Prelude.{◌≡◌, ◌≤◌, ◌+◌, ◌/◌, ◌++◌, ◌↔◌, [], ◌∷◌, map, nat_eq, IfOk};
 ghost use Rattle.std.specs.Prelude.{All, IfSome, IsTrue, MatchOption, None, OnOk, Some, true};
-ghost use Rattle.std.specs.Prelude.{◌%◌, ◌⊎◌, filter, ltb, slice_get};
+ghost use Rattle.std.specs.Prelude.{◌%◌, ◌⊎◌, ◌<◌, ◌^◌, filter, ltb, slice_get};
+ghost use Rattle.std.specs.Option.{unwrap_or};
 ghost use Rattle.std.specs.String.{string_bytes};
 ghost use Rattle.indexmap.specs.IndexMap.{get, get_by_text, hasher_of, keys, values};
 ghost use Rattle.indexmap.specs.IndexSet.{contains, union, IsSameSet};
@@ -244,4 +245,21 @@ pub fn is_in_either(
 {
     let both: NEIndexSet<u32> = a.union(b).copied().collect(alloc)?;
     Ok(both.contains(&x))
+}
+
+/// Returns the value of a key, which is `v` and put there if the key is new.
+pub fn value_or_put(map: &mut NEIndexMap<u32, u32>, k: u32, v: u32) -> Result<u32, AllocError>
+    ensures value { IfOk result (λ found. found ≡ unwrap_or (get nat_eq map.old k) v) }
+    ensures there { IfOk result (λ found. get nat_eq map.new k ≡ Some found) }
+{
+    Ok(*map.or_insert(k, v)?)
+}
+
+/// Counts a key: its value is one more, or 1 if the key is new.
+pub fn count_one(map: &mut NEIndexMap<u32, u64>, k: u32) -> Result<(), AllocError>
+    requires { unwrap_or (get nat_eq map.old k) 0 + 1 < 2 ^ 64 }
+    ensures { OnOk result (get nat_eq map.new k ≡ Some (unwrap_or (get nat_eq map.old k) 0 + 1)) }
+{
+    *map.or_insert(k, 0)? += 1;
+    Ok(())
 }

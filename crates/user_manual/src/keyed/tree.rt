@@ -2,11 +2,12 @@
 ghost use Rattle.std.specs.Prelude.{◌≡◌, ◌+◌, ◌≤◌, ◌≢◌, ◌/◌, ◌++◌, ◌↔◌, [], ◌∷◌, ℕ, map, nat_eq};
 ghost use Rattle.std.specs.Prelude.{All, Contains, IfOk, IfSome, IsSome, IsTrue, None, OnOk, Some};
 ghost use Rattle.std.specs.Prelude.{◌%◌, ◌⊎◌, filter, ltb, MatchOption};
-ghost use Rattle.std.specs.BTreeMap.{get, get_by_text, values, IsUnchanged};
+ghost use Rattle.std.specs.BTreeMap.{get, get_by_text, keys, values, IsUnchanged};
 ghost use Rattle.std.specs.BTreeSet.{contains, union, IsSameSet};
 ghost use Rattle.std.specs.Ordering.{nat_cmp};
 ghost use Rattle.std.specs.String.{string_bytes};
 ghost use Rattle.nonempty_collections.specs.Collected.{IsMapOfPairs, IsSetOf};
+ghost use Rattle.nonempty_collections.specs.KeptEntries.{kept_entries};
 ghost use Rattle.nonempty_collections.specs.SameMap.{IsSameMap};
 
 use super::two;
@@ -233,4 +234,41 @@ pub fn is_in_either(
 {
     let both: NEBTreeSet<u32> = a.union(b).copied().collect(alloc)?;
     Ok(both.contains(&x))
+}
+
+/// Writes the value of a key, and returns whether the key is there.
+pub fn write_if_there(map: &mut NEBTreeMap<u32, u32>, k: u32, v: u32) -> bool
+    ensures found { IsTrue result ↔ IsSome (get nat_cmp map.old k) }
+    ensures value { IsTrue result → get nat_cmp map.new k ≡ Some v }
+    ensures others { (q : ℕ) → q ≢ k → get nat_cmp map.new q ≡ get nat_cmp map.old q }
+{
+    match map.get_mut(&k) {
+        Some(value) => {
+            *value = v;
+            true
+        }
+        None => false,
+    }
+}
+
+/// Halves each value. The contract says only that the keys stay.
+pub fn halve_values(map: &mut NEBTreeMap<u32, u32>)
+    ensures { keys map.new ≡ keys map.old }
+{
+    for value in map.values_mut() {
+        *value /= 2;
+    }
+}
+
+/// Returns the entries with even values, with half of these, or `None` if there are none.
+pub fn even_values_halved(map: NEBTreeMap<u32, u32>) -> Option<NEBTreeMap<u32, u32>>
+    ensures { IfSome result (λ kept. kept.entries
+        ≡ kept_entries (λ k v. nat_eq (v % 2) 0) (λ k v. v / 2) map.entries) }
+{
+    let kept = map.retain(|_k, v| {
+        let is_even = *v % 2 == 0;
+        *v /= 2;
+        is_even
+    });
+    kept.ok()
 }
