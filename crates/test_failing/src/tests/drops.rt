@@ -96,7 +96,7 @@ fn from_parts(rt: HostRuntime) -> Result<(), Fail> {
     let Ok((token, items, next)) = prepared(rt.alloc()) else {
         return report(&rt, "not reached", call);
     };
-    let result = NEVec::from_parts(next, Vec::from(items));
+    let result = NEVec::from_parts(next, items.into_vec());
     held(&rt, call, result, &token, 3)
 }
 
