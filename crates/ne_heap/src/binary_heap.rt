@@ -41,9 +41,10 @@ use std::{mem, slice};
 
 /// A priority queue that holds at least one item. It wraps std's [`BinaryHeap`].
 ///
-/// There always is a greatest item. In contracts the value of a heap is the list of its items, in
-/// an order that no clause fixes: clauses say by `SameItems`, a permutation, which items it has,
-/// and by `IsUpperBound T.cmp x h` that no item of `h` is greater than `x`.
+/// There always is a greatest item. In contracts the value of a heap is the list of its items.
+/// Item 0 is a greatest one, and no clause fixes the order of the others: clauses say by
+/// `SameItems`, a permutation, which items there are, and by `IsUpperBound T.cmp x h` that no item
+/// of `h` is greater than `x`.
 ///
 /// ```
 /// let mut heap = NEBinaryHeap::new(alloc, 4)?;

@@ -4,6 +4,7 @@ pub mod Sifts
 pub mod Kept
 pub mod Mapped
 pub mod SortedKeys
+pub mod SortedItems
 pub mod Chunked
 pub mod Compared
 pub mod FirstRuns

@@ -47,7 +47,7 @@ module _ {A K : Type 0} {cmp : K → K → Ordering} (total : IsTotalOrder cmp) 
         ∙ subst (λ o. is_eq o ≡ (not (is_lt o) && not (is_lt (cmp (key y) (key x)))))
         (sym (total.antisymm (key x) (key y))) (tie_back (cmp (key y) (key x)))
 
-    keeps : (xs ys : List A) → IsStableByKey key cmp xs ys → KeepsTies key eq xs ys
+    pub keeps : (xs ys : List A) → IsStableByKey key cmp xs ys → KeepsTies key eq xs ys
     unfolding KeepsTies
     keeps xs ys stable k =
         let test = λ (x : A). eq (key x) k in

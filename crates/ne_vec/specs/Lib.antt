@@ -4,6 +4,7 @@ pub mod SliceRuns
 pub mod Kept
 pub mod Calls
 pub mod KeyOrder
+pub mod Orders
 pub mod Taken
 pub mod Searches
 pub mod Chunks

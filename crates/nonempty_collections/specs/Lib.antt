@@ -6,6 +6,7 @@ pub use Rattle.ne_vec.specs.Lists
 pub use Rattle.ne_vec.specs.ListLaws
 pub use Rattle.ne_vec.specs.Kept
 pub use Rattle.ne_vec.specs.KeyOrder
+pub use Rattle.ne_vec.specs.Orders
 pub use Rattle.ne_vec.specs.SliceRuns
 pub use Rattle.ne_vec.specs.Taken
 pub use Rattle.ne_iter.specs.Calls

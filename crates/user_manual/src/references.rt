@@ -10,6 +10,8 @@ ghost use Rattle.std.specs.Int.NonZero.{non_zero_usize_get};
 ghost use Rattle.std.specs.Ordering.{nat_cmp};
 ghost use Rattle.nonempty_collections.specs.Consumers.{IsFirstLeast};
 ghost use Rattle.nonempty_collections.specs.KeyOrder.{KeepsTies, KeysAscend};
+ghost use Rattle.nonempty_collections.specs.Orders.{ItemsAscend, KeepsTied, and_then, by_number};
+ghost use Rattle.nonempty_collections.specs.Orders.{reversed};
 
 use crate::nested::Order;
 use nonempty_collections::laws::sums_are_bounded;
@@ -114,6 +116,18 @@ pub fn sort_unstable_by_price(sales: &mut NEVec<Sale>)
     ensures ascend { KeysAscend (λ s. s.price) nat_cmp sales.new }
 {
     sales.sort_unstable_by_key(|s| s.price);
+}
+
+/// Sorts the sales by their buyers, and those of a buyer by the price, the dearest first.
+pub fn sort_by_buyer(sales: &mut NEVec<Sale>) -> Result<(), AllocError>
+    ensures permutation { IsPermutation sales.old sales.new }
+    ensures ascend { OnOk result (ItemsAscend
+        (and_then (by_number (λ s. s.buyer)) (reversed (by_number (λ s. s.price)))) sales.new) }
+    ensures ties { KeepsTied
+        (and_then (by_number (λ s. s.buyer)) (reversed (by_number (λ s. s.price))))
+        sales.old sales.new }
+{
+    sales.sort_by(|s, t| s.buyer.cmp(&t.buyer).then(t.price.cmp(&s.price)))
 }
 
 /// Returns the price of the last sale, by a fold.

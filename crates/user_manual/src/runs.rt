@@ -1,10 +1,11 @@
 //! Runs of items by a key or by a test of two items, and of a slice by a test.
 ghost use Rattle.std.specs.Prelude.{◌≡◌, ◌<◌, ◌-◌, ◌/◌, length, ltb, map, nat_eq, true, All, IfOk};
-ghost use Rattle.std.specs.Prelude.{slice_index_or};
+ghost use Rattle.std.specs.Prelude.{slice_index_or, string_bytes, IsPermutation, List};
 ghost use Rattle.std.specs.Int.NonZero.{non_zero_usize_get};
 ghost use Rattle.std.specs.String.{string_eq};
 ghost use Rattle.nonempty_collections.specs.Divisions.{IsDivision, by_first, by_previous, runs_of};
 ghost use Rattle.nonempty_collections.specs.Keys.{IsDividedBy};
+ghost use Rattle.nonempty_collections.specs.Orders.{ItemsAscend, by_text};
 ghost use Rattle.nonempty_collections.specs.RunsBy.{AreRuns};
 
 use crate::nested::Order;
@@ -133,6 +134,22 @@ pub fn by_customer(alloc: Global, orders: NEVec<Order>) -> Result<NEVec<NEVec<Or
     ensures { IfOk result (λ runs. runs
         ≡ runs_of by_first (λ a b. string_eq a.customer b.customer) orders) }
 {
+    orders
+        .into_nonempty_iter()
+        .try_group_by(alloc, |o| o.customer.clone())
+        .collect::<Result<NEVec<NEVec<Order>>, AllocError>>(alloc)?
+}
+
+/// Sorts the orders by their customers, and returns those of each customer.
+pub fn of_each_customer(
+    alloc: Global,
+    mut orders: NEVec<Order>,
+) -> Result<NEVec<NEVec<Order>>, AllocError>
+    ensures { IfOk result (λ runs. (sorted : List Order) × IsPermutation orders sorted
+        × ItemsAscend (by_text (λ o. string_bytes o.customer)) sorted
+        × (runs ≡ runs_of by_first (λ a b. string_eq a.customer b.customer) sorted)) }
+{
+    orders.sort_by(|a, b| a.customer.cmp(&b.customer))?;
     orders
         .into_nonempty_iter()
         .try_group_by(alloc, |o| o.customer.clone())

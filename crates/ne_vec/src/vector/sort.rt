@@ -4,6 +4,7 @@ ghost use Rattle.std.specs.List.Sorted.{IsStable, IsSortedByClosure, IsStableByC
 ghost use Rattle.std.specs.List.Sorted.{IsSortedByKeyClosure, IsStableByKeyClosure};
 ghost use Rattle.std.specs.Iterator.{ActsAsAt};
 ghost use Rattle.ne_vec.specs.KeyOrder.{KeepsTies, KeysAscend};
+ghost use Rattle.ne_vec.specs.Orders.{ComparesBy, ItemsAscend, KeepsTied, Order};
 
 use super::NEVec;
 use std::alloc::AllocError;
@@ -35,8 +36,9 @@ impl<T> NEVec<T> {
     /// order.
     ///
     /// `f` must be callable with any two values of the items' type. The items are sorted if the
-    /// results of `f` are a total preorder; otherwise they are in some order. Returns `AllocError`
-    /// as `sort` does.
+    /// results of `f` are a total preorder; otherwise they are in some order. The clause `ordered`
+    /// covers an `f` that compares numbers or texts of the items, also in reverse or one after
+    /// another; `sorted` and `stable` cover any. Returns `AllocError` as `sort` does.
     ///
     /// ```
     /// let mut items = nev![alloc; 3, 1, 4, 1, 5, 9, 2, 6]?;
@@ -47,6 +49,8 @@ impl<T> NEVec<T> {
         ensures permutation { IsPermutation self.old self.new }
         ensures sorted { OnOk result (IsSortedByClosure F.FnMut f self.new) }
         ensures stable { IsStableByClosure F.FnMut f self.old self.new }
+        ensures ordered { (order : Order T) → ComparesBy F.FnMut f order
+            → OnOk result (ItemsAscend order self.new) × KeepsTied order self.old self.new }
         ensures unchanged { OnErr result (self.new ≡ self.old) }
         ensures small { length self.old ≤ 20 → IsOk result }
     {
@@ -106,6 +110,8 @@ impl<T> NEVec<T> {
         requires { F.IsAlwaysCallable f }
         ensures permutation { IsPermutation self.old self.new }
         ensures sorted { IsSortedByClosure F.FnMut f self.new }
+        ensures ordered { (order : Order T) → ComparesBy F.FnMut f order
+            → ItemsAscend order self.new }
     {
         self.inner.sort_unstable_by(f);
     }

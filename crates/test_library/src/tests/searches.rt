@@ -1,4 +1,4 @@
-//! Searches of a vector and sorts by keys, beside those of its slice by std.
+//! Searches of a vector and `sort_unstable_by_key`, beside those of its slice by std.
 
 use super::{is, list, same};
 use nonempty_collections::{NEVec, nev};
