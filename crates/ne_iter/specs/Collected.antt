@@ -31,9 +31,11 @@ values_or_first_err [] = Ok []
 values_or_first_err (Ok x ∷ rs) = result_map_both (λ xs. x ∷ xs) (λ e. e) (values_or_first_err rs)
 values_or_first_err (Err e ∷ rs) = Err e
 
--- `Ok` of all values if each item is `Ok`, and otherwise `Err` of all errors, in order.
+-- `Ok` of all values if each item is `Ok`, and otherwise `Err` of all errors, in order. That there
+-- is no error in a list of values is for the automatic proof.
 abbrev pub IsAllOrErrors : {T E : Type 0} → List (Result T E) → Result (List T) (List E) → Type 0
-IsAllOrErrors rs result = MatchResult result (λ values. rs ≡ map Ok values)
+IsAllOrErrors rs result = MatchResult result
+    (λ values. (rs ≡ map Ok values) × (filter_map result_err rs ≡ []))
     (λ errors. errors ≡ filter_map result_err rs)
 
 module _ {T V : Type 0} (collected : List T → V → Type 0) (is_complete : V → Bool) where

@@ -2,7 +2,7 @@
 ghost use Rattle.std.specs.Prelude.{◌≡◌, ◌/◌, ◌%◌, ◌+◌, ◌++◌, ◌<◌, ◌≤◌, ◌^◌, map, sum, length, ℕ};
 ghost use Rattle.std.specs.Prelude.{Ok, Err, IfOk, IsPermutation, IsSorted, Some};
 ghost use Rattle.std.specs.Prelude.{from_bits, slice_get, take, MatchResult, nat_eq, ltb, cond};
-ghost use Rattle.std.specs.Prelude.{[], MatchOption};
+ghost use Rattle.std.specs.Prelude.{[], ◌∷◌, MatchOption};
 ghost use Rattle.std.specs.List.{All, Contains, filter_map, fold, list_all};
 ghost use Rattle.std.specs.Result.{result_err};
 ghost use lib.Ieee as Ieee;
@@ -12,6 +12,7 @@ ghost use Rattle.std.specs.Ordering.{nat_cmp};
 ghost use Rattle.nonempty_collections.specs.Collected.{IsAllOrErrors, IsSetOf};
 ghost use Rattle.nonempty_collections.specs.Collected.{values_or_first_err};
 ghost use Rattle.nonempty_collections.specs.KeyOrder.{KeepsTies, KeysAscend};
+ghost use Rattle.user_manual.specs.declared.consumers.Fault.TheVariants.{TooGreat, TooLong};
 
 use nonempty_collections::{IntoIteratorExt, IntoNonEmptyIterator, NEVec, NonEmptyIterator};
 use std::alloc::{AllocError, Global};
@@ -108,18 +109,61 @@ pub fn checked_as_vec(alloc: Global, items: NEVec<u32>) -> Result<Result<Vec<u32
         .collect(alloc)
 }
 
-/// Returns the items if each is less than 10, and otherwise those that are not.
+/// What is wrong with a list.
+#[derive(Drop)]
+pub enum Fault {
+    TooLong,
+    TooGreat(u32),
+}
+
+/// Returns the items if each is less than 10, and otherwise a fault for each that is not.
 pub fn all_checked(
     alloc: Global,
     items: &NEVec<u32>,
-) -> Result<Result<NEVec<u32>, NEVec<u32>>, AllocError>
+) -> Result<Result<NEVec<u32>, NEVec<Fault>>, AllocError>
     ensures { IfOk result (IsAllOrErrors
-        (map (λ x. cond (ltb x 10) (Ok x) (Err x)) items.now)) }
+        (map (λ x. cond (ltb x 10) (Ok x) (Err (TooGreat x))) items.now)) }
 {
     items
         .nonempty_iter()
-        .map(|x| if *x < 10 { Ok(*x) } else { Err(*x) })
+        .map(|x| if *x < 10 {
+            Ok(*x)
+        } else {
+            Err(Fault::TooGreat(*x))
+        })
         .all_or_errors(alloc)
+}
+
+/// Returns the items if there are at most `limit` and each is less than 10, and otherwise all
+/// faults: that of the list, and then those of the items.
+pub fn list_checked(
+    alloc: Global,
+    items: &NEVec<u32>,
+    limit: usize,
+) -> Result<Result<NEVec<u32>, NEVec<Fault>>, AllocError>
+    ensures { IfOk result (λ valid. MatchResult valid
+        (λ v. (map (λ x. cond (ltb x 10) (Ok x) (Err (TooGreat x))) items.now ≡ map Ok v)
+        × (length items.now ≤ limit))
+        (λ faults. faults ≡ cond (ltb limit (length items.now)) (TooLong ∷ []) []
+        ++ filter_map result_err
+        (map (λ x. cond (ltb x 10) (Ok x) (Err (TooGreat x))) items.now))) }
+{
+    let fits = items.len().get() <= limit;
+    match all_checked(alloc, items)? {
+        Ok(values) => {
+            if fits {
+                Ok(Ok(values))
+            } else {
+                Ok(Err(NEVec::new(alloc, Fault::TooLong)?))
+            }
+        }
+        Err(mut faults) => {
+            if !fits {
+                faults.insert(0, Fault::TooLong)?;
+            }
+            Ok(Err(faults))
+        }
+    }
 }
 
 /// Returns all values or all errors of a list that may be empty.

@@ -189,7 +189,7 @@ pub(super) fn one_value_or_error<T: Drop, E: Drop>(
 }
 
 // Adds an item to all values, or to all errors, of the items before it.
-#[tactic(auto, using(crate::proofs::Errors::no_error, crate::proofs::Errors::error_more))]
+#[tactic(auto, using(crate::proofs::Errors::value_more, crate::proofs::Errors::error_more))]
 pub(super) fn add_value_or_error<T: Drop, E: Drop>(
     alloc: Global,
     made: &mut Result<NEVec<T>, NEVec<E>>,
