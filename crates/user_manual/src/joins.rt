@@ -5,6 +5,8 @@ ghost use Rattle.std.specs.Prelude.{◌≡◌, ◌+◌, ◌*◌, ◌++◌, take,
 ghost use Rattle.std.specs.Prelude.{codes, length, string_bytes};
 ghost use Rattle.std.specs.Int.NonZero.{non_zero_usize_get};
 ghost use Rattle.std.specs.List.{flat_map, join_by};
+ghost use Rattle.std.specs.String.{string_eq};
+ghost use Rattle.nonempty_collections.specs.Divisions.{by_first, heads, runs_of};
 ghost use Rattle.nonempty_collections.specs.Intersperse.{interspersed};
 
 use crate::nested::Order;
@@ -128,4 +130,15 @@ pub fn separated(alloc: Global, numbers: NEVec<u64>) -> Result<NEVec<u64>, Alloc
         .into_nonempty_iter()
         .intersperse(0)
         .collect::<Result<NEVec<u64>, AllocError>>(alloc)?
+}
+
+/// Returns the customer of each run of orders of one customer, with a comma between each two.
+pub fn customers_of_runs(alloc: Global, orders: NEVec<Order>) -> Result<String, AllocError>
+    ensures { IfOk result (λ text. string_bytes text
+        ≡ join_by (λ o. string_bytes o.customer) (codes ", ")
+        (heads (runs_of by_first (λ a b. string_eq a.customer b.customer) orders))) }
+{
+    let mut first_ones = orders;
+    first_ones.dedup_by(|a, b| a.customer == b.customer);
+    customers(alloc, &first_ones)
 }

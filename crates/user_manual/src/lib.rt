@@ -2,10 +2,10 @@
 //!
 //! Each shows what no example in a comment shows (`user_examples`): chains, references, texts,
 //! sources of any type, and maps and sets in general. They are proved from the public contracts of
-//! what they call. Three have proof files: `pairs_of_any_sources`, which calls a law, and
-//! `how_many_small` and `totals`, for their loops. `total_of_few` and two functions of `runs` call
-//! a law too. Most ensure the exact result. If less is proved today, as of `unzip` of texts, the
-//! function ensures that.
+//! what they call. Five have proof files: `pairs_of_any_sources`, which calls a law, and
+//! `how_many_small`, `chunk_vectors`, `totals` and `totals_by_customer`, for their loops.
+//! `total_of_few` and two functions of `runs` call a law too. Most ensure the exact result. If less
+//! is proved today, as of `unzip` of texts, the function ensures that.
 #![tactic(auto)]
 
 pub mod adapters;

@@ -6,6 +6,7 @@ ghost use Rattle.nonempty_collections.specs.Chunks.{chunks};
 
 use nonempty_collections::{NESlice, NEVec, NonEmptyIterator};
 use std::alloc::{AllocError, Global};
+use std::convert::AsSlice;
 use std::num::NonZeroUsize;
 
 /// Returns the chunks of `n` items.
@@ -17,6 +18,28 @@ pub fn chunks_of<'a>(
     ensures { IfOk result (λ v. v ≡ chunks (non_zero_usize_get n) items.now) }
 {
     items.nonempty_chunks(n).collect(alloc)
+}
+
+/// Returns the chunks as vectors of their own, in a loop, since a closure of `map` that allocates
+/// returns a `Result`.
+pub fn chunk_vectors(
+    alloc: Global,
+    items: &NEVec<u32>,
+    n: NonZeroUsize,
+) -> Result<NEVec<NEVec<u32>>, AllocError>
+    ensures { IfOk result (λ v. v ≡ chunks (non_zero_usize_get n) items.now) }
+{
+    let parts = chunks_of(alloc, items, n)?;
+    let all = parts.as_slice();
+    let mut vectors = Vec::new(alloc);
+    for part in all {
+        let vector: NEVec<u32> = part.nonempty_iter().copied().collect(alloc)?;
+        vectors.push(vector)?;
+    }
+    match NEVec::try_from_vec(vectors) {
+        Some(vectors) => Ok(vectors),
+        None => unreachable!(),
+    }
 }
 
 /// Returns how many items each chunk has.

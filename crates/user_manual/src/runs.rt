@@ -1,6 +1,7 @@
 //! Runs of items by a key or by a test of two items, and of a slice by a test.
 ghost use Rattle.std.specs.Prelude.{◌≡◌, ◌<◌, ◌-◌, ◌/◌, length, ltb, map, nat_eq, true, All, IfOk};
-ghost use Rattle.std.specs.Prelude.{slice_index_or, string_bytes, IsPermutation, List};
+ghost use Rattle.std.specs.Prelude.{◌≤◌, Contains, slice_index_or, string_bytes, IsPermutation};
+ghost use Rattle.std.specs.Prelude.{List};
 ghost use Rattle.std.specs.Int.NonZero.{non_zero_usize_get};
 ghost use Rattle.std.specs.String.{string_eq};
 ghost use Rattle.nonempty_collections.specs.Divisions.{IsDivision, by_first, by_previous, runs_of};
@@ -209,6 +210,17 @@ pub fn lengths_ascending(alloc: Global, items: NESlice<'_, u32>) -> Result<NEVec
         .adjacent_runs(|x, y| *x < *y)
         .map(|run| run.len().get())
         .collect(alloc)
+}
+
+/// Returns the length of the longest run of ascending items.
+pub fn longest_ascending(alloc: Global, items: NESlice<'_, u32>) -> Result<usize, AllocError>
+    ensures among { IfOk result (λ n. Contains
+        (map (λ run. length run) (runs_of by_previous (λ x y. ltb x y) items.entry)) n) }
+    ensures bound { IfOk result (λ n. All (λ m. m ≤ n)
+        (map (λ run. length run) (runs_of by_previous (λ x y. ltb x y) items.entry))) }
+{
+    let lengths = lengths_ascending(alloc, items)?;
+    Ok(*lengths.nonempty_iter().max())
 }
 
 /// Returns the runs of the items that are in the same ten as the run's first one. They are parts of
