@@ -217,8 +217,8 @@ EXCUSED = [
     ),
     (
         "how often the closure of a sort or a search is called",
-        "it is open in both, and tests hold it to std's; both programs call a copy, which is not "
-        "counted",
+        "it is open in both, and tests hold searches and `sort_unstable_by_key` to std's; both "
+        "programs call a copy, which is not counted",
     ),
     (
         "from_elem, with_capacity, nev_many: sizes far above the length",
