@@ -1,6 +1,6 @@
 //! Sets that hold at least one item, whatever their type is: the library's three set types, and a
 //! user's own.
-ghost use Rattle.std.specs.Prelude.{◌≡◌, Bool, List, length, is_some, not, IfOk, OnErr, OnOk};
+ghost use Rattle.std.specs.Prelude.{◌≡◌, List, length, is_some, not, IfOk, OnErr, OnOk};
 ghost use Rattle.std.specs.BTreeSet.{contains, get, BTreeSet};
 ghost use Rattle.std.specs.Int.NonZero.{non_zero_usize_get};
 ghost use Rattle.std.specs.List.{find};

@@ -13,9 +13,9 @@ use Rattle.std.specs.List.Sorted.{IsSortedByClosure, IsStableByClosure}
 use Rattle.std.specs.Ordering.{is_lt}
 use Rattle.std.specs.declared.cmp.Ordering.{Ordering}
 use Rattle.ne_vec.proofs.SortedKeys.{keeps}
-use Rattle.ne_vec.specs.KeyOrder.{KeepsTies}
+use Rattle.ne_vec.specs.KeyOrder.{KeysAscend, KeepsTies}
 use Rattle.ne_vec.specs.Orders.{Order, by_number, by_signed, by_text, reversed, and_then, compare}
-use Rattle.ne_vec.specs.Orders.{ComparesBy, ItemsAscend, KeepsTied}
+use Rattle.ne_vec.specs.Orders.{ComparesBy, ItemsAscend, KeepsTiesOf}
 
 total : {A : Type 0} (order : Order A) → IsTotalOrder (compare order)
 total (by_number number) = on_total number nat_cmp_total
@@ -38,12 +38,12 @@ module _ {A F : Type 0} (calls : Mut F (Bor A × (Bor A × Unit {0})) Ordering) 
       (ap is_lt m.1, m.0))
 
   pub items_ascend : (ys : List A) → IsSortedByClosure calls f ys → ItemsAscend order ys
-  unfolding ItemsAscend
+  unfolding ItemsAscend KeysAscend
   items_ascend ys up =
       let ranks = ranks_by (total order) (λ x. x) in
       sorted_far _ ranks ys (up _ ranks compares)
 
-  pub keeps_tied : (xs ys : List A) → IsStableByClosure calls f xs ys → KeepsTied order xs ys
-  unfolding KeepsTied KeepsTies
+  pub keeps_tied : (xs ys : List A) → IsStableByClosure calls f xs ys → KeepsTiesOf order xs ys
+  unfolding KeepsTiesOf KeepsTies
   keeps_tied xs ys stable = keeps (total order) (λ x. x) (λ j k. refl) xs ys
       (stable _ (ranks_by (total order) (λ x. x)) compares)

@@ -1,12 +1,12 @@
 -- The order that a sort by a comparison makes. `grind` unfolds neither `ItemsAscend` nor
--- `KeepsTied`.
-use Rattle.std.specs.Prelude.{◌≡◌, ℕ, ℤ, ◌≤◌, ◌<◌, false, List, length, slice_index_or}
+-- `KeepsTiesOf`.
+use Rattle.std.specs.Prelude.{◌≡◌, ℕ, ℤ, List}
 use Rattle.std.specs.Borrow.{Bor}
 use Rattle.std.specs.Cmp.Lexicographic.{slice_cmp}
 use Rattle.std.specs.Fn.{CalledAtTwo, Mut}
-use Rattle.std.specs.List.{filter}
-use Rattle.std.specs.Ordering.{int_cmp, is_eq, is_lt, nat_cmp, ordering_then}
+use Rattle.std.specs.Ordering.{int_cmp, is_eq, nat_cmp, ordering_then}
 use Rattle.std.specs.declared.cmp.Ordering.{Ordering}
+use Rattle.ne_vec.specs.KeyOrder.{KeysAscend, KeepsTies}
 
 -- An order of items: by a number or a text that each has, the reverse of an order, or one order and
 -- then another where the first ties.
@@ -28,13 +28,11 @@ compare (and_then first second) x y = ordering_then (compare first x y) (compare
 module _ {A : Type 0} (order : Order A) where
   -- The items ascend: no later item is less than an earlier one.
   unfoldable pub ItemsAscend : List A → Type 0
-  ItemsAscend xs = (i j : ℕ) (d : A) → i ≤ j → j < length xs
-      → is_lt (compare order (slice_index_or xs j d) (slice_index_or xs i d)) ≡ false
+  ItemsAscend xs = KeysAscend (λ x. x) (compare order) xs
 
   -- Items that tie are in ys in the order that they have in xs.
-  unfoldable pub KeepsTied : List A → List A → Type 0
-  KeepsTied xs ys = (x : A) → filter (λ y. is_eq (compare order y x)) ys
-      ≡ filter (λ y. is_eq (compare order y x)) xs
+  unfoldable pub KeepsTiesOf : List A → List A → Type 0
+  KeepsTiesOf xs ys = KeepsTies (λ x. x) (λ y x. is_eq (compare order y x)) xs ys
 
 -- Each call of f with two items returns how the order compares them, and leaves f as it was.
 abbrev pub ComparesBy : {A F : Type 0} → Mut F (Bor A × (Bor A × Unit {0})) Ordering → F

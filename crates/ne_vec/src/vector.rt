@@ -11,7 +11,7 @@
 //! returns `AllocError`, and its comment says what holds after that. Constructors take an
 //! allocator, and each vector keeps its own. The comment of each method says what else differs from
 //! the Rust crate.
-ghost use Rattle.std.specs.Prelude.{◌≡◌, ◌-◌, ◌<◌, ◌≤◌, ◌↔◌, Bool, false, [], ◌∷◌, ◌++◌};
+ghost use Rattle.std.specs.Prelude.{◌≡◌, ◌-◌, ◌<◌, ◌≤◌, ◌↔◌, false, [], ◌∷◌, ◌++◌};
 ghost use Rattle.std.specs.Prelude.{length, take, drop, reverse, replicate, Some, None, IsSome};
 ghost use Rattle.std.specs.Prelude.{IfSome, IfOk, OnOk, OnErr, slice_get};
 ghost use Rattle.std.specs.NonZero.{non_zero_usize_get};

@@ -1,6 +1,6 @@
 //! A chain over a source that is one of two, whose closure may have state.
 ghost use Rattle.std.specs.Prelude.{true, IfOk, List};
-ghost use Rattle.std.specs.Iterator.{CallableOnAll, IsFiniteIterable};
+ghost use Rattle.std.specs.Iterator.{CallableOnAll};
 ghost use Rattle.nonempty_collections.specs.Calls.{Calls};
 ghost use Rattle.nonempty_collections.specs.Sides.{MatchSide};
 

@@ -10,7 +10,7 @@ ghost use Rattle.std.specs.Int.NonZero.{non_zero_usize_get};
 ghost use Rattle.std.specs.Ordering.{nat_cmp};
 ghost use Rattle.nonempty_collections.specs.Consumers.{IsFirstLeast};
 ghost use Rattle.nonempty_collections.specs.KeyOrder.{KeepsTies, KeysAscend};
-ghost use Rattle.nonempty_collections.specs.Orders.{ItemsAscend, KeepsTied, and_then, by_number};
+ghost use Rattle.nonempty_collections.specs.Orders.{ItemsAscend, KeepsTiesOf, and_then, by_number};
 ghost use Rattle.nonempty_collections.specs.Orders.{reversed};
 
 use crate::nested::Order;
@@ -123,7 +123,7 @@ pub fn sort_by_buyer(sales: &mut NEVec<Sale>) -> Result<(), AllocError>
     ensures permutation { IsPermutation sales.old sales.new }
     ensures ascend { OnOk result (ItemsAscend
         (and_then (by_number (λ s. s.buyer)) (reversed (by_number (λ s. s.price)))) sales.new) }
-    ensures ties { KeepsTied
+    ensures ties { KeepsTiesOf
         (and_then (by_number (λ s. s.buyer)) (reversed (by_number (λ s. s.price))))
         sales.old sales.new }
 {

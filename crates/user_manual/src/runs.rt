@@ -6,7 +6,7 @@ ghost use Rattle.std.specs.Int.NonZero.{non_zero_usize_get};
 ghost use Rattle.std.specs.String.{string_eq};
 ghost use Rattle.nonempty_collections.specs.Divisions.{IsDivision, by_first, by_previous, runs_of};
 ghost use Rattle.nonempty_collections.specs.Keys.{IsDividedBy};
-ghost use Rattle.nonempty_collections.specs.Orders.{ItemsAscend, by_text};
+ghost use Rattle.nonempty_collections.specs.Orders.{ItemsAscend, KeepsTiesOf, by_text};
 ghost use Rattle.nonempty_collections.specs.RunsBy.{AreRuns};
 
 use crate::nested::Order;
@@ -141,13 +141,14 @@ pub fn by_customer(alloc: Global, orders: NEVec<Order>) -> Result<NEVec<NEVec<Or
         .collect::<Result<NEVec<NEVec<Order>>, AllocError>>(alloc)?
 }
 
-/// Sorts the orders by their customers, and returns those of each customer.
+/// Sorts the orders by their customers, and returns those of each customer, in their order.
 pub fn of_each_customer(
     alloc: Global,
     mut orders: NEVec<Order>,
 ) -> Result<NEVec<NEVec<Order>>, AllocError>
     ensures { IfOk result (λ runs. (sorted : List Order) × IsPermutation orders sorted
         × ItemsAscend (by_text (λ o. string_bytes o.customer)) sorted
+        × KeepsTiesOf (by_text (λ o. string_bytes o.customer)) orders sorted
         × (runs ≡ runs_of by_first (λ a b. string_eq a.customer b.customer) sorted)) }
 {
     orders.sort_by(|a, b| a.customer.cmp(&b.customer))?;

@@ -1,5 +1,4 @@
 //! The adapter that divides the items of a source into runs by a test of two items.
-ghost use Rattle.std.specs.Prelude.{[]};
 ghost use Rattle.ne_iter.specs.Consumers.{CallableOnTwo};
 ghost use Rattle.ne_iter.specs.RunsBy.{CanCut, CutsNext, runs_by_source, runs_by_callee};
 ghost use Rattle.ne_iter.specs.GroupingRuns.{IsUnread, runs_left};

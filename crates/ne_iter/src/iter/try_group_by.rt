@@ -1,5 +1,4 @@
 //! The adapter that divides the items of a source into runs of equal keys, which may fail.
-ghost use Rattle.std.specs.Prelude.{[]};
 ghost use Rattle.ne_iter.specs.Consumers.{CallableOnTwo};
 ghost use Rattle.ne_iter.specs.GroupingRuns.{IsUnread, runs_left};
 ghost use Rattle.ne_iter.specs.RunsBy.{CanCut, CutsNext};

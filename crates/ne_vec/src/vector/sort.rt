@@ -4,7 +4,7 @@ ghost use Rattle.std.specs.List.Sorted.{IsStable, IsSortedByClosure, IsStableByC
 ghost use Rattle.std.specs.List.Sorted.{IsSortedByKeyClosure, IsStableByKeyClosure};
 ghost use Rattle.std.specs.Iterator.{ActsAsAt};
 ghost use Rattle.ne_vec.specs.KeyOrder.{KeepsTies, KeysAscend};
-ghost use Rattle.ne_vec.specs.Orders.{ComparesBy, ItemsAscend, KeepsTied, Order};
+ghost use Rattle.ne_vec.specs.Orders.{ComparesBy, ItemsAscend, KeepsTiesOf, Order};
 
 use super::NEVec;
 use std::alloc::AllocError;
@@ -50,7 +50,7 @@ impl<T> NEVec<T> {
         ensures sorted { OnOk result (IsSortedByClosure F.FnMut f self.new) }
         ensures stable { IsStableByClosure F.FnMut f self.old self.new }
         ensures ordered { (order : Order T) → ComparesBy F.FnMut f order
-            → OnOk result (ItemsAscend order self.new) × KeepsTied order self.old self.new }
+            → OnOk result (ItemsAscend order self.new) × KeepsTiesOf order self.old self.new }
         ensures unchanged { OnErr result (self.new ≡ self.old) }
         ensures small { length self.old ≤ 20 → IsOk result }
     {
@@ -100,7 +100,8 @@ impl<T> NEVec<T> {
     /// `Equal` may change their order. The Rust crate lacks it; it is `Vec`'s.
     ///
     /// `f` must be callable with any two values of the items' type. The items are sorted if the
-    /// results of `f` are a total preorder; otherwise they are in some order.
+    /// results of `f` are a total preorder; otherwise they are in some order. The clause `ordered`
+    /// is of the `f` that it covers in `sort_by`.
     ///
     /// ```
     /// let mut items = nev![alloc; 3, 1, 4, 9, 5]?;

@@ -1,9 +1,7 @@
 //! The examples of priority queues.
 ghost use Rattle.std.specs.Prelude.{◌≡◌, ◌/◌, ◌∷◌, [], map, length, None, Some, true, false, ⊤};
 ghost use Rattle.std.specs.Prelude.{IfOk, MatchResult};
-ghost use Rattle.std.specs.List.Sorted.{IsSorted};
 ghost use Rattle.std.specs.Option.{IsSomeAnd};
-ghost use Rattle.std.specs.Ordering.{nat_cmp};
 
 use ne_heap::NEBinaryHeap;
 use ne_iter::{Error, IntoNonEmptyIterator, NonEmptyIterator};
