@@ -1,5 +1,5 @@
 //! Kinds of source, collected. Only `pairs_of_any_sources`, which is generic in its sources, calls
-//! a law and has a stored proof.
+//! laws and has a stored proof.
 ghost use Rattle.std.specs.Prelude.{◌≡◌, ◌/◌, ℕ, List, IfOk, Ok, map};
 ghost use Rattle.nonempty_collections.specs.Sources.{ReadsList};
 ghost use Rattle.nonempty_collections.specs.Pairs.{cartesian_product};
@@ -46,8 +46,8 @@ pub fn halves_of_either(
 
 /// Returns each item of one source paired with each item of another, for any types of source.
 ///
-/// A generic function knows nothing of its sources but their bounds, so it calls the law of the
-/// product, which its proof applies to the two lists.
+/// A generic function knows nothing of its sources but their bounds, so it calls two laws, which
+/// its proof applies to the two lists.
 pub fn pairs_of_any_sources<S, U>(
     alloc: Global,
     rows: S,
