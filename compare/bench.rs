@@ -1,6 +1,6 @@
 // The workloads on the Rust crate `nonempty-collections`, with which the port's speed is compared.
-// The steps and the numbers are those of the port. Adapters and collecting are in `bench_chains`,
-// consumers in `bench_passes`.
+// The steps and the numbers are those of the port. Further adapters and collecting are in
+// `bench_chains`, consumers in `bench_passes`.
 mod bench_chains;
 mod bench_passes;
 
@@ -579,7 +579,7 @@ trait Table {
     fn length(&self) -> u64;
     fn combined(&self) -> u64;
     fn is_same(&self, other: &Self) -> bool;
-    // The Rust crate has no removals. These are those of the map inside.
+    // The Rust crate's maps have no removals. These are those of the map inside.
     fn removed(self, n: NonZeroUsize) -> u64;
 }
 

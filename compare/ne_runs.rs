@@ -1,4 +1,5 @@
-// `ne_runs` in plain Rust, with its modes, checks and faults. The port's speed is compared with it.
+// `ne_runs` in plain Rust, with its modes, its checks, and its faults but `out of memory`. The
+// port's speed is compared with it.
 use indexmap::IndexSet;
 use std::fmt::{self, Display, Write as _};
 use std::io::{self, Read, Write};

@@ -1,5 +1,5 @@
 // The calls of `crates/test_replay` on the Rust crate `nonempty-collections`, with which the port
-// is compared. It reads and prints the same, and its functions have the names of the port's.
+// is compared. It reads and prints the same.
 #![allow(deprecated)]
 #[path = "replay_keyed.rs"]
 mod keyed;

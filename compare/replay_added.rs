@@ -1,7 +1,7 @@
-// The calls of `crates/test_replay` that the Rust crate lacks, with a few others between them. They
-// are made on std's collections, and for index maps and sets on lists that are searched by `==`.
-// The last entry is never removed: a removal returns `None` or `false` if there is no other. This
-// program reads and prints what `replay.rs` does, and needs no crate.
+// Calls of `crates/test_replay` that the Rust crate lacks, with a few others between them. They are
+// made on std's collections, and for index maps and sets on lists. The only entry is never removed:
+// a removal returns `None` or `false` if there is no other. This program reads scripts and prints
+// results in the form of `replay.rs`, and needs no crate.
 #[path = "replay_queues.rs"]
 mod queues;
 #[allow(dead_code)] // The other program uses the rest.

@@ -1,5 +1,5 @@
 """Bodies that always report a failed allocation, one for each public function that may report one.
-Its contract allows it at any time, so no proof refuses such a body; tests do."""
+Most contracts allow it at any time, so no proof refuses such a body; tests do."""
 
 import re
 

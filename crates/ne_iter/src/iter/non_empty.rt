@@ -88,13 +88,14 @@ use std::num::NonZeroUsize;
 /// iterator.
 ///
 /// The law of this trait is `not_empty`: the iterator made from any value first returns an item. An
-/// implementation proves this law and needs nothing else; all methods but `next` are final.
+/// implementation proves this law and needs nothing else; all methods but `next` and `append_to` are
+/// final.
 ///
-/// In contracts, `item_view` is the view through which chains are proved: a reference is seen as
-/// the item that it points to, and any other item as itself. A source of references has the line
-/// `ghost item_view = { referenced };`, and the call that makes it says which list its references
-/// point to (`Listed`), as `nonempty_iter` of a vector does. The Rust crate has nothing of the
-/// kind.
+/// In contracts, `item_view` is the view through which chains are proved: a reference of a
+/// collection's iterator is seen as what it points to, also in the pairs of a map, of `zip` and of
+/// `enumerate`; an item of any other source as itself. A source of references has the line `ghost
+/// item_view = { referenced };`, and the call that makes it says which list its references point to
+/// (`Listed`), as `nonempty_iter` of a vector does. The Rust crate has nothing of the kind.
 ///
 /// ```
 /// let halves = [3u32, 1, 2].into_nonempty_iter().map(|x| x / 2);
@@ -105,8 +106,7 @@ pub trait NonEmptyIterator: IntoIterator {
 
     /// Returns the first item, which always exists, and the iterator over the others.
     ///
-    /// Unlike the other methods this one is not final: the toolchain rejects a trait with only
-    /// final methods if an implementation requires a closure. The contract allows no other result.
+    /// This method is not final, but its contract allows no other result.
     ///
     /// ```
     /// let items = nev![alloc; 4, 6]?;
