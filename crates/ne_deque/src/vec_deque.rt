@@ -1,16 +1,18 @@
 //! [`NEVecDeque`], a double-ended queue that is never empty, and its iterators.
 //!
-//! The methods have the names of those of std's [`VecDeque`], and are in its order. `first` and
-//! `last` are the names that the other collections of this library have for `front` and `back`. A
-//! method that removes an item never removes the only one, and `clear`, `drain`, `resize` and
-//! `resize_with`, which may leave none, are not here. Nor are `as_mut_slices` and `range`.
+//! Most methods have the names of those of std's [`VecDeque`]. `first` and `last` are the names
+//! that the other collections of this library have for `front` and `back`. A method that removes an
+//! item by `&mut self` never removes the only one; `retain` and `retain_mut` take the queue.
+//! `clear`, `drain`, `resize` and `resize_with`, which may leave none, are not here. Nor are
+//! `as_mut_slices` and `range`.
 //!
 //! This module has the methods that read and edit, `search` those that search, `retain` those that
 //! keep what meets a test, `iter` the non-empty iterators, `traits` the other trait
 //! implementations, and `serialized` the traits of `serde`.
 //!
 //! A method that allocates returns `AllocError` if the allocation fails, and its comment says what
-//! holds after that. Constructors take an allocator, and each queue keeps its own.
+//! holds after that; only `shrink_to_fit` then keeps the memory. `new` and `with_capacity` take an
+//! allocator, the other constructors that of their argument, and each queue keeps its own.
 ghost use Rattle.std.specs.Prelude.{◌≡◌, ◌-◌, ◌<◌, ◌≤◌, ◌↔◌, false, [], ◌∷◌, ◌++◌};
 ghost use Rattle.std.specs.Prelude.{length, take, drop, Some, None, IsSome};
 ghost use Rattle.std.specs.Prelude.{IfSome, IfOk, OnOk, OnErr, slice_get};
@@ -527,7 +529,8 @@ impl<T> NEVecDeque<T> {
     }
 
     /// Removes the item at `index` and returns it, or returns `None` if `index` is not less than
-    /// the length, or if there is only one item, which then stays. The first item moves to `index`.
+    /// the length, or if there is only one item, which then stays. The first item takes its place,
+    /// which then has the index `index - 1`.
     ///
     /// ```
     /// let mut queue = nevd![alloc; 4, 6, 8]?;
@@ -658,7 +661,7 @@ impl<T> NEVecDeque<T> {
         T: Drop,
         requires { IsFiniteIterable I.into_iter_gives I.IntoIter.can_next I.IntoIter.remaining
             iter }
-        // The old items, followed by those that were drawn: at `Ok`, all of the source.
+        // The old items, followed by those that were added: at `Ok`, all of the source.
         ensures ran { ExtendsWithItems I.into_iter_gives I.IntoIter.next_gives
             (λ old xs new. new ≡ old ++ xs) iter self.old self.new result }
         // The same at `Ok`, by the list of the source.

@@ -1,5 +1,5 @@
--- What an `NEMap` holds after a mutable borrow of its values ends, for `iter_mut`, `values_mut` and
--- `get_mut`.
+-- What an `NEMap` holds after a mutable borrow of its values ends, for the methods that lend them,
+-- such as `iter_mut` and `get_mut`.
 use Rattle.std.specs.declared.hash.BuildHasher as builder
 use Rattle.std.specs.declared.hash.Hasher as hasher
 use Rattle.std.specs.Prelude.{◌≡◌, Option}

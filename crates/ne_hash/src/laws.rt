@@ -56,8 +56,8 @@ pub fn hashed_set_equality_is_an_equivalence<T: Eq + Hash, S: BuildHasher>()
         → IsSameSet T.eq s u }
 {}
 
-/// Pairs that are added one by one, by `singleton` and then `extend_one`, make what they make when
-/// they are collected. Two maps made from the same pairs have the same value at each key.
+/// What is said of pairs that are added one by one, by `singleton` and then `extend_one`, is what
+/// is said of them collected. Two maps made from the same pairs have the same value at each key.
 pub fn hashed_maps_one_by_one_are_collected<K: Eq + Hash + Drop, V: Drop>()
     ensures same_word { (pairs : List (K × V)) (m : Entries K V _)
         → ⟦<NEMap<K, V> as Singleton>⟧.collected pairs m
@@ -68,8 +68,8 @@ pub fn hashed_maps_one_by_one_are_collected<K: Eq + Hash + Drop, V: Drop>()
         → (q : K) → get K.eq m q ≡ get K.eq n q }
 {}
 
-/// Items that are added one by one, by `singleton` and then `extend_one`, make what they make when
-/// they are collected. Two sets made from the same items are the same set.
+/// What is said of items that are added one by one, by `singleton` and then `extend_one`, is what
+/// is said of them collected. Two sets made from the same items have equal items.
 pub fn hashed_sets_one_by_one_are_collected<T: Eq + Hash + Drop>()
     ensures same_word { (items : List T) (s : Keys T _)
         → ⟦<NESet<T> as Singleton>⟧.collected items s

@@ -3,8 +3,9 @@
 //! An [`NEMap`] finds a key by its hash, and iterates in an unspecified order. Keys are compared by
 //! `==`. A key that is in the map stays as it is if an equal one is inserted.
 //!
-//! A method that removes an entry never removes the only one. The Rust crate lacks these methods,
-//! and `values_mut`, `into_keys`, `into_values` and `into_map`.
+//! A method that removes an entry by `&mut self` never removes the only one; `retain` takes the
+//! map. The Rust crate lacks these methods, and `values_mut`, `into_keys`, `into_values` and
+//! `into_map`.
 ghost use Rattle.std.specs.Prelude.{◌≡◌, ◌+◌, ◌<◌, ◌≤◌, ◌^◌, ◌++◌, [], ◌∷◌, if◌then◌else◌, ◌↔◌};
 ghost use Rattle.std.specs.Prelude.{false, filter, is_some, length, None, IfOk, IfSome, IsOk};
 ghost use Rattle.std.specs.Prelude.{MatchOption, OnErr, OnOk, Some, Bool, Contains, IsErr, IsTrue};
@@ -68,8 +69,8 @@ use std::num::NonZeroUsize;
 /// `m.entries` is the list of the pairs in the order of iteration, `IsValid K.eq m` says that there
 /// is a key and that no two keys are equal, and `hasher_of m` is the hasher.
 ///
-/// Equality, hashing and clones of keys and values are assumed to be lawful only where a clause
-/// says so.
+/// Equality and hashing are lawful, as the laws of their traits require. That a clone equals its
+/// original is assumed only where a clause says so.
 ///
 /// ```
 /// let map = nem![alloc; 1 => 10, 2 => 20, 1 => 30]?;
@@ -606,7 +607,8 @@ impl<K: Eq + Hash, V, S: BuildHasher> NEMap<K, V, S> {
     ///
     /// `f` is called once for each entry, in the order of iteration. It must be callable with each
     /// of them. The clause `filtered` covers an `f` that only tests the entry, `kept` one whose
-    /// result and changes depend only on the entry, and `called` any `f`.
+    /// result and new value depend only on the entry and that changes nothing else, and `called`
+    /// any `f`.
     ///
     /// ```
     /// let even = NEMap::new(alloc, 2, 24)?.retain(|k, _v| *k % 2 == 0); // Ok({2: 24})
@@ -639,8 +641,8 @@ impl<K: Eq + Hash, V, S: BuildHasher> NEMap<K, V, S> {
     /// Releases room that the map does not need. The entries stay, but the order of iteration may
     /// change.
     ///
-    /// If the allocation of the smaller room fails, the map keeps the room that it has, so this
-    /// never returns `AllocError`.
+    /// If an allocation of smaller room fails, that part of the room stays as it is, so this never
+    /// returns `AllocError`.
     pub fn shrink_to_fit(&mut self) -> Result<(), AllocError>
         ensures done { IsOk result }
         ensures entries { IsReordered K.eq self.old self.new }
@@ -667,7 +669,7 @@ impl<K: Eq + Hash, V, S: BuildHasher> NEMap<K, V, S> {
         V: Drop,
         requires { IsFiniteIterable I.into_iter_gives I.IntoIter.can_next I.IntoIter.remaining
             iter }
-        // The map of the old pairs and those that were drawn: at `Ok`, all of the source.
+        // The map of the old pairs and those that were added: at `Ok`, all of the source.
         ensures ran { ExtendsWithItems I.into_iter_gives I.IntoIter.next_gives
             (λ old pairs new. IsMapOfPairs K.eq (old.entries ++ pairs) new.entries)
             iter self.old self.new result }

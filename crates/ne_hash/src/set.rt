@@ -3,8 +3,8 @@
 //! An [`NESet`] finds an item by its hash, and iterates in an unspecified order. Items are compared
 //! by `==`. Of several equal items the set holds one.
 //!
-//! A method that removes an item never removes the only one. The Rust crate lacks these methods,
-//! and `into_set`.
+//! A method that removes an item by `&mut self` never removes the only one; `retain` takes the set.
+//! The Rust crate lacks these methods, and `into_set`.
 ghost use Rattle.std.specs.Prelude.{◌≡◌, ◌+◌, ◌<◌, ◌≤◌, ◌^◌, ◌↔◌, ◌++◌, [], ◌∷◌, if◌then◌else◌};
 ghost use Rattle.std.specs.Prelude.{true, false, not, is_some, length, IfOk, IsOk, IsTrue};
 ghost use Rattle.std.specs.Prelude.{MatchOption, OnErr, OnOk, Bool, Some, IfSome, IsErr};
@@ -416,7 +416,7 @@ impl<T: Eq + Hash, S: BuildHasher> NESet<T, S> {
     ///
     /// `f` is called once for each item, in the order of iteration. It must be callable with any
     /// value of the items' type. The clause `kept` covers an `f` whose result depends only on the
-    /// item; `called` covers any `f`.
+    /// item and that changes nothing; `called` covers any `f`.
     ///
     /// ```
     /// let even = NESet::new(alloc, 4)?.retain(|x| *x % 2 == 0); // Ok({4})
@@ -546,8 +546,8 @@ impl<T: Eq + Hash, S: BuildHasher> NESet<T, S> {
     /// Releases room that the set does not need. The items stay, but the order of iteration may
     /// change.
     ///
-    /// If the allocation of the smaller room fails, the set keeps the room that it has, so this
-    /// never returns `AllocError`.
+    /// If an allocation of smaller room fails, that part of the room stays as it is, so this never
+    /// returns `AllocError`.
     pub fn shrink_to_fit(&mut self) -> Result<(), AllocError>
         ensures done { IsOk result }
         ensures keys { IsReordered T.eq self.old self.new }
@@ -590,7 +590,7 @@ impl<T: Eq + Hash, S: BuildHasher> NESet<T, S> {
         T: Drop,
         requires { IsFiniteIterable I.into_iter_gives I.IntoIter.can_next I.IntoIter.remaining
             iter }
-        // The set of the old items and those that were drawn: at `Ok`, all of the source.
+        // The set of the old items and those that were added: at `Ok`, all of the source.
         ensures ran { ExtendsWithItems I.into_iter_gives I.IntoIter.next_gives
             (λ old items new. IsSetOf T.eq (old.keys ++ items) new.keys)
             iter self.old self.new result }

@@ -5,8 +5,8 @@
 //! item first, `std::cmp::Reverse` holds the items. Iterators go over the items in no particular
 //! order, and [`NEBinaryHeap::into_sorted_vec`] returns them in ascending order.
 //!
-//! The methods are in the order of std's `BinaryHeap`. [`NEBinaryHeap::pop`] never removes the only
-//! item, and there is no `clear` or `drain`. The Rust crate has no such type.
+//! [`NEBinaryHeap::pop`] never removes the only item, and there is no `clear` or `drain`. The Rust
+//! crate has no such type.
 ghost use Rattle.std.specs.Prelude.{◌≡◌, ◌≤◌, ◌++◌, [], ◌∷◌, false, length};
 ghost use Rattle.std.specs.Prelude.{Bool, List, ◌↔◌, IfOk, IfSome, IsErr, MatchOption, OnErr, OnOk};
 ghost use Rattle.std.specs.BinaryHeap.{heap_items, IsUpperBound};
@@ -114,8 +114,8 @@ impl<T: Ord> NEBinaryHeap<T> {
     /// Returns a heap of the items of `heap` in the same memory, or `None` if and only if `heap` is
     /// empty. It doesn't allocate.
     ///
-    /// No contract of std says that a `BinaryHeap` is in order, so this puts the items in order
-    /// again, in linear time.
+    /// The type of std's `BinaryHeap` has no invariant that says that it is in order, so this puts
+    /// the items in order again, in linear time.
     ///
     /// ```
     /// let mut inner = BinaryHeap::new(alloc);
@@ -136,7 +136,8 @@ impl<T: Ord> NEBinaryHeap<T> {
         }
     }
 
-    /// Returns the greatest item, which is always there. It is the item that `pop` would return.
+    /// Returns the greatest item, which is always there. It is the item that `pop` would return if
+    /// there were others.
     ///
     /// ```
     /// let mut heap = NEBinaryHeap::new(alloc, 4)?;
@@ -320,8 +321,8 @@ impl<T: Ord> NEBinaryHeap<T> {
     /// is no such item.
     ///
     /// `f` is called once for each item, in no particular order. It must be callable with any value
-    /// of the items' type. The clause `kept` covers an `f` whose result depends only on the item;
-    /// `called` covers any `f`.
+    /// of the items' type. The clause `kept` covers an `f` whose result depends only on the item
+    /// and that changes nothing; `called` covers any `f`.
     ///
     /// ```
     /// let even = NEBinaryHeap::new(alloc, 4)?.retain(|x| *x % 2 == 0); // Ok([4])

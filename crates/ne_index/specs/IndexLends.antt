@@ -1,5 +1,5 @@
--- What an `NEIndexMap` holds after a mutable borrow of its values ends, for `iter_mut`,
--- `values_mut`, `get_mut` and the other methods that return references to one value.
+-- What an `NEIndexMap` holds after a mutable borrow of its values ends, for the methods that lend
+-- them, such as `iter_mut` and `get_mut`.
 use Rattle.std.specs.declared.hash.BuildHasher as builder
 use Rattle.std.specs.declared.hash.Hasher as hasher
 use Rattle.std.specs.Prelude.{◌≡◌, ℕ, Option, Result, Some}

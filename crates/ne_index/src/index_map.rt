@@ -1,11 +1,12 @@
 //! Index maps that hold at least one key, their iterators, and the traits that they implement.
 //!
-//! An [`NEIndexMap`] iterates in the order in which its keys were inserted, and each key has an
-//! index. Keys are looked up by `Eq` and `Hash`. A key that is in the map stays as it is, at its
-//! index, if an equal one is inserted.
+//! An [`NEIndexMap`] iterates in the order in which its keys were inserted, unless `swap_indices`
+//! or a removal that swaps moved some, and each key has an index. Keys are looked up by `Eq` and
+//! `Hash`. A key that is in the map stays as it is, at its index, if an equal one is inserted.
 //!
-//! A method that removes an entry, in `remove`, never removes the only one. The Rust crate lacks
-//! these methods, and `first_mut`, `last_mut`, `or_insert` and `into_map`.
+//! A method that removes an entry by `&mut self`, in `remove`, never removes the only one; `retain`
+//! takes the map. The Rust crate lacks these methods, and `first_mut`, `last_mut`, `or_insert` and
+//! `into_map`.
 ghost use Rattle.std.specs.Prelude.{◌≡◌, ◌+◌, ◌-◌, ◌<◌, ◌≤◌, ◌^◌, ◌++◌, [], ◌∷◌, if◌then◌else◌};
 ghost use Rattle.std.specs.Prelude.{false, is_some, slice_get, unwrap_or, length, None, Some, IfOk};
 ghost use Rattle.std.specs.Prelude.{IfSome, IsSome, IfNone, IsOk, MatchOption, OnErr, OnOk};
@@ -58,8 +59,8 @@ use std::num::NonZeroUsize;
 /// The default hasher has a fixed seed; the Rust crate's default is `RandomState`. If untrusted
 /// users can choose the keys, create the map by `with_hasher` with `RandomState`.
 ///
-/// Equality, hashing and clones of keys and values are assumed to be lawful only where a clause
-/// says so.
+/// Equality and hashing are lawful, as the laws of their traits require. That a clone equals its
+/// original is assumed only where a clause says so.
 ///
 /// ```
 /// let map = neim![alloc; 1 => 10, 2 => 20, 1 => 30]?;
@@ -672,7 +673,7 @@ impl<K: Eq + Hash, V, S: BuildHasher> NEIndexMap<K, V, S> {
         V: Drop,
         requires { IsFiniteIterable I.into_iter_gives I.IntoIter.can_next I.IntoIter.remaining
             iter }
-        // The map of the old pairs and those that were drawn: at `Ok`, all of the source.
+        // The map of the old pairs and those that were added: at `Ok`, all of the source.
         ensures ran { ExtendsWithItems I.into_iter_gives I.IntoIter.next_gives
             (λ old pairs new. IsKeyListMapOf K.eq (old.entries ++ pairs) new.entries
             × (hasher_of new ≡ hasher_of old))

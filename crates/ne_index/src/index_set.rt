@@ -1,10 +1,11 @@
 //! Index sets that hold at least one item, their iterators, and the traits that they implement.
 //!
-//! An [`NEIndexSet`] iterates in the order in which its items were inserted. Items are looked up by
-//! `Eq` and `Hash`. Of several equal items the set holds one.
+//! An [`NEIndexSet`] iterates in the order in which its items were inserted, unless a removal that
+//! swaps moved some. Items are looked up by `Eq` and `Hash`. Of several equal items the set holds
+//! one.
 //!
-//! A method that removes an item never removes the only one. The Rust crate lacks these methods,
-//! and `into_set`.
+//! A method that removes an item by `&mut self` never removes the only one; `retain` takes the set.
+//! The Rust crate lacks these methods, and `into_set`.
 ghost use Rattle.std.specs.Prelude.{◌≡◌, ◌+◌, ◌<◌, ◌≤◌, ◌^◌, ◌↔◌, ◌++◌, [], ◌∷◌, if◌then◌else◌};
 ghost use Rattle.std.specs.Prelude.{◌-◌, true, false, not, is_some, length, filter, take, IfNone};
 ghost use Rattle.std.specs.Prelude.{IfOk, IsOk, IsTrue, MatchOption, OnErr, OnOk, Some, Bool};
@@ -494,8 +495,8 @@ impl<T: Eq + Hash, S: BuildHasher> NEIndexSet<T, S> {
     /// if there is no such item. Both have the hasher of this set.
     ///
     /// `f` is called once for each item, in the set's order. It must be callable with any value of
-    /// the items' type. The clause `kept` covers an `f` whose result depends only on the item;
-    /// `called` covers any `f`.
+    /// the items' type. The clause `kept` covers an `f` whose result depends only on the item and
+    /// that changes nothing; `called` covers any `f`.
     ///
     /// ```
     /// let even = neis![alloc; 6, 5]?.retain(|x| *x % 2 == 0); // Ok({6})
@@ -671,7 +672,7 @@ impl<T: Eq + Hash, S: BuildHasher> NEIndexSet<T, S> {
         T: Drop,
         requires { IsFiniteIterable I.into_iter_gives I.IntoIter.can_next I.IntoIter.remaining
             iter }
-        // The set of the old items and those that were drawn: at `Ok`, all of the source.
+        // The set of the old items and those that were added: at `Ok`, all of the source.
         ensures ran { ExtendsWithItems I.into_iter_gives I.IntoIter.next_gives
             (λ old items new. IsKeyListSetOf T.eq (old.keys ++ items) new.keys
             × (hasher_of new ≡ hasher_of old))

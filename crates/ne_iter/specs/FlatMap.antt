@@ -59,8 +59,8 @@ SpreadsThrough calls f view inner lists becomes gives u v = EachList (lists view
     (h : view.Target → List inner.Target) → Naming (flat_map h xs) (λ ys.
     ReturnsLists calls f (becomes inner) (λ x. h (view.of x)) → gives inner v ys))
 
--- The list is said of the items themselves, and through the views that are not `itself`.
--- `flat_map` yields the lists of the sources that f returns, through each view.
+-- `flat_map` yields the lists of the sources that f returns, through each view but `itself`; the
+-- lists of the items themselves are said by `SpreadsLists`.
 abbrev pub SpreadsViews : {U A W B V F : Type 0} → Mut F (A × Unit {0}) W → F → (view : View A)
     → (inner : View B) → ((view : View A) → U → List view.Target → Type 0)
     → ((inner : View B) → W → List inner.Target → Type 0)

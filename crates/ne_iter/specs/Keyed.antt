@@ -1,4 +1,5 @@
--- What the maps and sets share: their iterators, clones, `extend`, `retain` and key lists.
+-- What the maps and sets share: their iterators, clones, equality, removals, `extend`, `retain` and
+-- key lists.
 pub mod Iterators
 pub mod IteratorLaws
 pub mod Clones

@@ -55,7 +55,7 @@ module _ {A F : Type 0} (calls : Shared F (Bor A × (Bor A × Unit {0})) Bool) w
     Draws (Held k x) s xs t = Yields steps s xs t
     Draws Ended s xs t = YieldsThen steps s xs None t
 
-    -- No run comes: nothing was taken before, and the source ends at once.
+    -- No run comes: no item is held, and if nothing was taken before, the source ends at once.
     abbrev pub EndsAtOnce : {K : Type 0} → State K A → S → S → Type 0
     EndsAtOnce Unread s t = steps s None t
     EndsAtOnce (Held k x) s t = ⊥

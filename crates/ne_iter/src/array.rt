@@ -163,10 +163,11 @@ where
     }
 }
 
-/// Marks the arrays of 1 to 32 items. It is used in contracts only.
+/// Marks the arrays of 1 to 32 items. It has no method; the implementations for arrays above
+/// require it, so other arrays have none.
 ///
-/// Its law is that there is at least one item. The Rust crate instead writes the implementations
-/// above for each length, with a macro.
+/// Its law is that there is at least one item. The Rust crate instead writes these implementations
+/// for each length, with a macro.
 pub trait NonEmptyArray<const N: usize> {
     ghost has_item: { 0 < N };
 }

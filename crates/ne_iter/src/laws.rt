@@ -1,8 +1,9 @@
-//! Laws about sources, adapters, closures and collecting. Each law is the contract of a function
-//! that does nothing: a caller calls it, and then knows what it ensures.
+//! Laws about sources, adapters, closures, groupings, collecting and numbers. Each law is the
+//! contract of a function that does nothing: a caller calls it, and then knows what it ensures.
 //!
-//! A law is needed where a proof has to follow a closure with a state, a source of the caller's own
-//! type, or runs.
+//! Most chains need no law. One is called in generic code, and where a proof has to follow a
+//! closure with a state, a source of the caller's own type, runs, or the sum or extremes of
+//! numbers.
 
 mod closures;
 mod collected;

@@ -1,7 +1,7 @@
 //! Iterators that give at least one item, and collecting from them.
 //!
 //! This is the part of the port of `nonempty-collections` that the crates of maps and sets build
-//! on. Its modules and the items in them have the Rust crate's names.
+//! on. What the Rust crate has too has its name there, in a module of the same name.
 //!
 //! Contracts describe a source by the items that it may yield: the lists `xs` for which
 //! `reads whole source xs` holds. If `whole` is true, the source yields `xs` and ends; otherwise it

@@ -136,7 +136,7 @@ impl<K: Eq + Hash + Drop, V: Drop, S: BuildHasher> NonEmptyMap<K, V> for NEIndex
         Some(mem::replace(place, v))
     }
 
-    // As the crate `indexmap`'s own `remove`, this moves the last entry to the removed one's index.
+    // As the deprecated `remove` of Rust's `indexmap`, this puts the last entry in its place.
     fn take(&mut self, k: &K) -> Option<V> {
         self.swap_remove(k)
     }

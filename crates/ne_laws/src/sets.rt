@@ -149,7 +149,7 @@ impl<T: Eq + Hash + Drop, S: BuildHasher> NonEmptySet<T> for NEIndexSet<T, S> {
         self.contains(x)
     }
 
-    // As the crate `indexmap`'s own `remove`, this moves the last item to the removed one's index.
+    // As the deprecated `remove` of Rust's `indexmap`, this puts the last item in its place.
     fn discard(&mut self, x: &T) -> bool {
         // The contract of `len` says that no two items are equal.
         let _len = self.len();

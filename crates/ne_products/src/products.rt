@@ -125,9 +125,9 @@ pub trait NonEmptyItertools: NonEmptyIterator {
 
 impl<T: NonEmptyIterator> NonEmptyItertools for T {}
 
-// Makes a full set eight times as large, but no larger than for `most` items: so a large set is
-// seldom built anew, and a small one is enough for an item that is soon repeated. Without memory
-// for that, the set is left as it is.
+// Makes room in a full set for seven times as many further items and 56 more, but for no more than
+// `most` items in all: so a large set is seldom built anew, and a small one is enough for an item
+// that is soon repeated. Without memory for that, the set is left as it is.
 fn make_room<T: Eq + Hash>(seen: &mut HashSet<T>, most: usize)
     ensures { (q : T) → contains T.eq seen.new q ≡ contains T.eq seen.old q }
 {

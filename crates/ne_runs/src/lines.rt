@@ -63,8 +63,8 @@ fn number(line: &[u8]) -> Option<u32>
     Some(value)
 }
 
-/// Returns the numbers of all lines of a text, in order. Returns the first bad line if there is
-/// one, or `Memory` if an allocation fails.
+/// Returns the numbers of all lines of a text, in order, or `BadLine` with the place of the first
+/// bad line. Returns `Memory` if an allocation fails before that line.
 ///
 /// The sum of the numbers fits in 64 bits: there are no more numbers than bytes, and each number
 /// fits in 32 bits.

@@ -16,7 +16,7 @@ use std::alloc::Global;
 /// The greatest number of bytes that a run accepts.
 pub const LIMIT: usize = 1_048_576;
 
-// How many bytes are asked for at a time.
+// How many bytes are asked for at a time, at most.
 const CHUNK: usize = 16_384;
 
 /// Returns the word if there is exactly one, or `Usage` otherwise. It does not allocate.

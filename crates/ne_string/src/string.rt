@@ -1,6 +1,6 @@
 //! [`NEString`], a text that is never empty, and its iterators.
 //!
-//! The methods have the names of std's `String` and `str`, with those that always have a value in
+//! Most methods have the names of std's `String` and `str`, with those that always have a value in
 //! place of those that return an `Option`, in the order of the methods of `NEVec`. `iter` has the
 //! non-empty iterators, `traits` the implementations of traits, and `serialized` those of serde.
 //!
@@ -250,7 +250,8 @@ impl NEString {
     }
 
     /// Returns whether a character begins at byte `index`, or the text ends there. It is the test
-    /// for what `insert`, `remove`, `truncate` and `split_off` require of an index.
+    /// for what `insert`, `insert_str` and `split_off` require of an index, and `truncate` of one
+    /// up to the length; `remove` also requires that it is less than the length.
     ///
     /// ```
     /// let name = NEString::new(alloc, 'A', "da")?;

@@ -1,5 +1,5 @@
--- What an `NEBTreeMap` holds after a mutable borrow of its values ends, for `iter_mut`,
--- `values_mut`, `get_mut` and the functions that these call.
+-- What an `NEBTreeMap` holds after a mutable borrow of its values ends, for the methods that lend
+-- them, such as `iter_mut` and `get_mut`, and the functions that these call.
 use Rattle.std.specs.contracts.alloc.Global as global
 use Rattle.std.specs.Prelude.{◌≡◌, Option}
 use Rattle.std.specs.Borrow.{Fml, GName, RattleType, MutBor, LendsSo, follows}

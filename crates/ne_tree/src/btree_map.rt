@@ -3,9 +3,9 @@
 //! An [`NEBTreeMap`] iterates in ascending order of its keys. Keys are looked up by `Ord`. A key
 //! that is in the map stays as it is if an equal one is inserted.
 //!
-//! A method that removes an entry never removes the only one. The Rust crate lacks these methods,
-//! and `range`, `values_mut`, `into_keys`, `into_values`, `into_map`, `is_empty` and those for the
-//! first and the last key.
+//! A method that removes an entry by `&mut self` never removes the only one; `retain` takes the
+//! map. The Rust crate lacks these methods, and `range`, `values_mut`, `into_keys`, `into_values`,
+//! `into_map`, `is_empty` and those for the first and the last key.
 ghost use Rattle.std.specs.Prelude.{◌≡◌, ◌+◌, ◌<◌, ◌^◌, ◌++◌, [], ◌∷◌, if◌then◌else◌, ◌-◌, ◌↔◌};
 ghost use Rattle.std.specs.Prelude.{is_some, false, length, take, slice_get, None, Some, IfOk};
 ghost use Rattle.std.specs.Prelude.{IfSome, IsSome, MatchOption, OnErr, OnOk, Bool, IsErr};
@@ -63,8 +63,8 @@ use std::ops::RangeBounds;
 /// `m.entries` is the list of the pairs in ascending order of the keys, and `IsValid K.cmp m` says
 /// that there is a key and that the keys are in that order.
 ///
-/// Equality, order and clones of keys and values are assumed to be lawful only where a clause says
-/// so.
+/// Equality and order are lawful, as the laws of their traits require. That a clone equals its
+/// original is assumed only where a clause says so.
 ///
 /// ```
 /// let map = nebtm![alloc; 1 => 10, 2 => 20, 1 => 30]?;
@@ -620,7 +620,8 @@ impl<K: Ord, V> NEBTreeMap<K, V> {
     ///
     /// `f` is called once for each entry, in ascending order of the keys. It must be callable with
     /// each of them. The clause `filtered` covers an `f` that only tests the entry, `kept` one
-    /// whose result and changes depend only on the entry, and `called` any `f`.
+    /// whose result and new value depend only on the entry and that changes nothing else, and
+    /// `called` any `f`.
     ///
     /// ```
     /// let even = nebtm![alloc; 2 => 24, 4 => 27]?.retain(|_k, v| *v % 2 == 0); // Ok({2: 24})
@@ -665,7 +666,7 @@ impl<K: Ord, V> NEBTreeMap<K, V> {
         V: Drop,
         requires { IsFiniteIterable I.into_iter_gives I.IntoIter.can_next I.IntoIter.remaining
             iter }
-        // The map of the old pairs and those that were drawn: at `Ok`, all of the source.
+        // The map of the old pairs and those that were added: at `Ok`, all of the source.
         ensures ran { ExtendsWithItems I.into_iter_gives I.IntoIter.next_gives
             (λ old pairs new. IsMapOfPairs K.eq (old.entries ++ pairs) new.entries)
             iter self.old self.new result }

@@ -3,8 +3,8 @@
 //! An [`NEBTreeSet`] iterates in ascending order of its items. Items are compared by `Ord`. Of
 //! several equal items the set holds one.
 //!
-//! A method that removes an item never removes the only one. The Rust crate lacks these methods,
-//! and `range`, `into_set`, `is_empty`, `first` and `last`.
+//! A method that removes an item by `&mut self` never removes the only one; `retain` takes the set.
+//! The Rust crate lacks these methods, and `range`, `into_set`, `is_empty`, `first` and `last`.
 ghost use Rattle.std.specs.Prelude.{◌≡◌, ◌+◌, ◌<◌, ◌^◌, ◌↔◌, ◌++◌, [], ◌∷◌, if◌then◌else◌, ◌-◌};
 ghost use Rattle.std.specs.Prelude.{true, false, not, is_some, length, take, slice_get, IfOk};
 ghost use Rattle.std.specs.Prelude.{IsTrue, MatchOption, OnErr, OnOk, Bool, Some, IfSome, IsErr};
@@ -427,8 +427,8 @@ impl<T: Ord> NEBTreeSet<T> {
     /// if there is no such item.
     ///
     /// `f` is called once for each item, in ascending order. It must be callable with any value of
-    /// the items' type. The clause `kept` covers an `f` whose result depends only on the item;
-    /// `called` covers any `f`.
+    /// the items' type. The clause `kept` covers an `f` whose result depends only on the item and
+    /// that changes nothing; `called` covers any `f`.
     ///
     /// ```
     /// let even = nebts![alloc; 4, 5]?.retain(|x| *x % 2 == 0); // Ok({4})
@@ -562,7 +562,7 @@ impl<T: Ord> NEBTreeSet<T> {
         T: Drop,
         requires { IsFiniteIterable I.into_iter_gives I.IntoIter.can_next I.IntoIter.remaining
             iter }
-        // The set of the old items and those that were drawn: at `Ok`, all of the source.
+        // The set of the old items and those that were added: at `Ok`, all of the source.
         ensures ran { ExtendsWithItems I.into_iter_gives I.IntoIter.next_gives
             (λ old items new. IsSetOf T.eq (old.keys ++ items) new.keys)
             iter self.old self.new result }

@@ -55,8 +55,8 @@ pub fn set_equality_is_an_equivalence<T: Ord>()
         → IsSameSet T.cmp s u }
 {}
 
-/// Pairs that are added one by one, by `singleton` and then `extend_one`, make what they make when
-/// they are collected. Two maps made from the same pairs have the same value at each key.
+/// What is said of pairs that are added one by one, by `singleton` and then `extend_one`, is what
+/// is said of them collected. Two maps made from the same pairs have the same value at each key.
 pub fn maps_one_by_one_are_collected<K: Ord + Drop, V: Drop>()
     ensures same_word { (pairs : List (K × V)) (m : Entries K V)
         → ⟦<NEBTreeMap<K, V> as Singleton>⟧.collected pairs m
@@ -67,8 +67,8 @@ pub fn maps_one_by_one_are_collected<K: Ord + Drop, V: Drop>()
         → (q : K) → get K.cmp m q ≡ get K.cmp n q }
 {}
 
-/// Items that are added one by one, by `singleton` and then `extend_one`, make what they make when
-/// they are collected. Two sets made from the same items are the same set.
+/// What is said of items that are added one by one, by `singleton` and then `extend_one`, is what
+/// is said of them collected. Two sets made from the same items have equal items.
 pub fn sets_one_by_one_are_collected<T: Ord + Drop>()
     ensures same_word { (items : List T) (s : Keys T)
         → ⟦<NEBTreeSet<T> as Singleton>⟧.collected items s

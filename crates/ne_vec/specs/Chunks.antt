@@ -10,7 +10,7 @@ use Rattle.ne_vec.specs.Lists.{Listed}
 abbrev pub chunk : {X : Type 0} → ℕ → List X → ℕ → List X
 chunk n xs j = take n (drop (j * n) xs)
 
--- all chunks of xs: chunk j for each j such that xs has an item at place j * n
+-- all chunks of xs, if n is not 0: chunk j for each j such that xs has an item at place j * n
 abbrev pub chunks : {X : Type 0} → ℕ → List X → List (List X)
 chunks n xs = map (chunk n xs) (range_with_len 0 (chunk_count (length xs) n))
 

@@ -1,6 +1,6 @@
--- The precondition of searches, `retain`, `retain_mut` and `map_in_place` on a closure, which they
--- call with items of a list in any order, and what a search by a key finds. The precondition is a
--- record, as the automatic proof finds one where it is known.
+-- The precondition of searches, `retain`, `retain_mut` and `map_in_place` on a closure: it may be
+-- called with items of a list, in any order. And what a search by a key finds. The precondition is
+-- a record, as the automatic proof finds one where it is known.
 use Rattle.std.specs.Prelude.{◌≡◌, ℕ, List, All, Contains, Some, slice_get, map}
 use Rattle.std.specs.Borrow.{Bor, MutBor}
 use Rattle.std.specs.Fn.{Mut, Called, CalledAt, CalledAtMut, Takes, TakesAt}

@@ -1,4 +1,4 @@
--- Methods that remove an item, but never the last one. If they remove none, the list is unchanged.
+-- Methods that remove an item, but never the only one. If they remove none, the list is unchanged.
 -- Otherwise `taken` says which item is returned and which are left, and `left` the latter alone.
 use Rattle.std.specs.Prelude.{◌≡◌, ◌↔◌, ◌⊎◌, Bool, false, List, Option, None, MatchBool}
 use Rattle.std.specs.Prelude.{MatchOption, length}

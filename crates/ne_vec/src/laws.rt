@@ -37,7 +37,7 @@ pub fn computed_runs_are_the_division<T>()
         → rs ≡ runs_of place same xs }
 {}
 
-/// The runs of a list, except its last one, are the first runs of each longer list.
+/// The runs of a list, except its last one, are the first runs of each list that begins with it.
 pub fn longer_list_keeps_runs<T>()
     ensures { (goes_on : List T → T → Bool) (xs more : List T) (rs all : List (List T))
         (last : List T) → IsDivision goes_on xs (rs ++ last ∷ [])

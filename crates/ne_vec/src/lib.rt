@@ -1,7 +1,7 @@
 //! Vectors and slices that hold at least one item.
 //!
-//! This is the part of the port of `nonempty-collections` that the other crates build on. Its
-//! modules and the items in them have the Rust crate's names.
+//! This is the part of the port of `nonempty-collections` that the other crates build on. What the
+//! Rust crate has too has its name there, in a module of the same name.
 //!
 //! In contracts the value of an [`NEVec`] or an [`NESlice`] is the list of its items. That this
 //! list is not empty is the invariant of both types.
@@ -63,7 +63,7 @@ pub trait Singleton: Sized {
     fn singleton(alloc: Global, item: Self::Item) -> Result<Self, AllocError>
         ensures { IfOk result (collected (item ∷ [])) };
 
-    /// Adds an item: `push` on a vector, `insert` on a set or a map.
+    /// Adds an item, as `push` on a vector and `insert` on a set or a map do.
     ///
     /// Returns `AllocError` if the collection has to grow and the allocation fails; it is then
     /// still what its items made, and the new item is dropped.

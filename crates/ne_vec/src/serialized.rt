@@ -1,9 +1,10 @@
 //! Reading a collection that holds at least one item from a format, by `serde`.
 //!
-//! Each collection of the crates above is read by one of these functions, through [`Singleton`]: a
-//! vector, queue or set from a sequence, a map from a map. The items are added in the order in
-//! which they come, so of equal keys the collection keeps what its insertion keeps. A sequence or a
-//! map without items is the format's error with the text of [`Error::Empty`](crate::Error::Empty).
+//! Each collection but `NEString`, which is read as a text, is read by one of these functions,
+//! through [`Singleton`]: a vector, queue, heap or set from a sequence, a map from a map. The items
+//! are added in the order in which they come, so of equal keys the collection keeps what its
+//! insertion keeps. A sequence or a map without items is the format's error with the text of
+//! [`Error::Empty`](crate::Error::Empty).
 ghost use Rattle.std.specs.Prelude.{OnOk};
 ghost use Rattle.ne_vec.specs.Read.{BeginsMap, BeginsSeq};
 

@@ -25,8 +25,8 @@ use std::{fmt, slice};
 
 /// A borrowed slice that holds at least one item.
 ///
-/// In contracts its value is the list of its items. None of its methods allocates. References and
-/// parts that they return, but those of `as_slice` and of indexing, may outlive the `NESlice`.
+/// In contracts its value is the list of its items. None of its methods allocates. What they return
+/// may outlive the `NESlice`, except by `as_slice`, indexing, and `into_iter` of a reference to it.
 ///
 /// ```
 /// let items = nev![alloc; 4, 6, 8]?;
@@ -169,9 +169,9 @@ impl<'a, T> NESlice<'a, T> {
         }
     }
 
-    /// Returns the runs of the items, in order. An item continues the run if
-    /// `same(first item of the run, item)` returns `true`; otherwise it begins the next run. No
-    /// item is compared with the one before it; [`adjacent_runs`](Self::adjacent_runs) does that.
+    /// Returns the runs of the items, in order. An item continues the run if `same(first item of
+    /// the run, item)` returns `true`; otherwise it begins the next run.
+    /// [`adjacent_runs`](Self::adjacent_runs) compares each item with the one before it instead.
     ///
     /// Each run is a part of the slice, so nothing is copied and nothing is allocated. If what
     /// `same` returns depends only on the two items, the runs are the one division of the items;

@@ -5,12 +5,13 @@
 //! `random` those that draw from a random number generator, `retain` those that keep what meets a
 //! test, `dedup` those that drop repeated neighbours, `map` the one that replaces each item, and
 //! `split` those that part the first or the last item from the others. `iter` has the non-empty
-//! iterators, `serialized` the traits of `serde`, and `traits` the other trait implementations.
+//! iterators and `IntoIterator`, `serialized` the traits of `serde`, and `traits` the other trait
+//! implementations.
 //!
 //! If an allocation fails, the Rust crate's methods abort the process. Here a method that allocates
 //! returns `AllocError`, and its comment says what holds after that. Constructors take an
-//! allocator, and each vector keeps its own. The comment of each method says what else differs from
-//! the Rust crate.
+//! allocator, or a `Vec` with its own, and each vector keeps it. The comment of each method says
+//! what else differs from the Rust crate.
 ghost use Rattle.std.specs.Prelude.{◌≡◌, ◌-◌, ◌<◌, ◌≤◌, ◌↔◌, false, [], ◌∷◌, ◌++◌};
 ghost use Rattle.std.specs.Prelude.{length, take, drop, reverse, replicate, Some, None, IsSome};
 ghost use Rattle.std.specs.Prelude.{IfSome, IfOk, OnOk, OnErr, slice_get};
@@ -92,8 +93,8 @@ impl<T> NEVec<T> {
 
     /// Returns a vector of `n` items: `elem` itself, and clones of it.
     ///
-    /// Returns `AllocError` if the allocation fails, or if cloning `elem` fails. The items are all
-    /// the same if a clone equals its original.
+    /// Returns `AllocError` if the allocation fails, or if cloning `elem` fails; `elem` is then
+    /// dropped. The items are all the same if a clone equals its original.
     ///
     /// ```
     /// let n = NonZeroUsize::new(2).unwrap();
@@ -307,8 +308,8 @@ impl<T> NEVec<T> {
     /// Returns how many items the vector can hold before it has to grow, which is at least the
     /// length.
     ///
-    /// If the items have size 0, std returns `usize::MAX`. The Rust crate relies on std's capacity
-    /// not being 0; this returns the greater of std's capacity and the length.
+    /// The Rust crate relies on std's capacity not being 0; this returns the greater of std's
+    /// capacity and the length. For items of size 0 it need not be `usize::MAX`.
     ///
     /// ```
     /// let items = nev![alloc; 3, 1, 4]?;
@@ -395,7 +396,7 @@ impl<T> NEVec<T> {
     /// Returns all items as a mutable slice. They can be changed and swapped, but their number
     /// stays the same.
     ///
-    /// It replaces the Rust crate's `AsMut<Vec<T>>`, through which a caller could remove the last
+    /// It replaces the Rust crate's `AsMut<Vec<T>>`, through which a caller could remove the only
     /// item.
     ///
     /// ```
@@ -471,7 +472,8 @@ impl<T> NEVec<T> {
 
     /// Swaps the items at the indices `a` and `b`. All other items stay where they are.
     ///
-    /// Both indices must be less than the length; `Vec` panics otherwise.
+    /// Both indices must be less than the length; Rust's `Vec` panics otherwise. The Rust crate
+    /// lacks this method.
     ///
     /// ```
     /// let mut items = nev![alloc; 4, 6, 8]?;
@@ -514,12 +516,12 @@ impl<T> NEVec<T> {
     /// Keeps the first `at` items, and returns the others, in order, in a `Vec` with the same
     /// allocator. At least one item stays, and what is returned may be empty.
     ///
-    /// `at` must be at most the length; `Vec` panics otherwise. Returns `AllocError` if the
-    /// allocation fails; the vector is then unchanged.
+    /// `at` must be at most the length; Rust's `Vec` panics otherwise. Returns `AllocError` if the
+    /// allocation fails; the vector is then unchanged. The Rust crate lacks this method.
     ///
     /// ```
     /// let mut items = nev![alloc; 4, 6, 8, 9]?;
-    /// let rest = items.split_off(NonZeroUsize::new(1).unwrap())?; // &[6, 8, 9], and items is [4]
+    /// let rest = items.split_off(NonZeroUsize::new(1).unwrap())?; // [6, 8, 9], and items is [4]
     /// ```
     pub fn split_off(&mut self, at: NonZeroUsize) -> Result<Vec<T>, AllocError>
         requires { non_zero_usize_get at ≤ length self.old }
@@ -651,7 +653,7 @@ impl<T> NEVec<T> {
     ///
     /// Returns `AllocError` if the vector has to grow and the allocation fails, or if cloning an
     /// item fails; the vector is then unchanged. The items are the same if a clone equals its
-    /// original.
+    /// original. The Rust crate lacks this method.
     ///
     /// ```
     /// let mut items = nev![alloc; 4, 6]?;

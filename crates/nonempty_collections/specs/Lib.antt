@@ -1,5 +1,5 @@
 -- The definitions that a user's contracts cite, re-exported from the library's crates. So a user's
--- crate lists only this library.
+-- contracts import them from this library alone.
 pub use Rattle.ne_vec.specs.Chunks
 pub use Rattle.ne_vec.specs.Divisions
 pub use Rattle.ne_vec.specs.Lists

@@ -1,7 +1,7 @@
-//! The laws of the port, so that a user's crate depends on one library: those about sources,
-//! adapters, closures, extremes, ends and groupings; about divisions, chunks and comparisons; about
-//! tree, hashed and index maps and sets; and about products and sources that are one of two. That
-//! each collection ends is stated here, since it concerns all of them.
+//! The laws of the port, so that a user's crate imports them from one library: those about sources,
+//! adapters, closures, collecting, extremes, ends and groupings; about divisions, chunks and
+//! comparisons; about tree, hashed and index maps and sets; and about products and sources that are
+//! one of two. That each collection ends is stated here, since it concerns all of them.
 //!
 //! Each law is the contract of a function that does nothing. A caller calls it, and then knows what
 //! it ensures. The Rust crate has no such module.

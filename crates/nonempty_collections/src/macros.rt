@@ -26,11 +26,11 @@ macro_rules! add_each {
 /// Makes a vector of the given items, as in `nev![alloc; 1, 2, 3]`, or of one item repeated, as in
 /// `nev![alloc; 0; 7]`.
 ///
-/// It evaluates to a `Result`, which is `AllocError` if the allocation fails; the items are then
-/// dropped. The expressions are evaluated from left to right, the allocator first, and none after a
-/// failure. They may not contain `return`, `break` or `?`. The number of repetitions is a `usize`
-/// that must not be 0; in the Rust crate it is a constant. Without an item the macro doesn't
-/// compile.
+/// It evaluates to a `Result`, which is `AllocError` if an allocation, or a clone of the repeated
+/// item, fails; the items are then dropped. The expressions are evaluated from left to right, the
+/// allocator first, and none after a failure. They may not contain `return`, `break` or `?`. The
+/// number of repetitions is a `usize` that must not be 0; in the Rust crate it is a constant.
+/// Without an item the macro doesn't compile.
 ///
 /// ```
 /// let three = nev![alloc; 7, 5, 9]?; // [7, 5, 9]

@@ -19,7 +19,8 @@ impl<T: Drop> NEVecDeque<T> {
     /// error if there is no such item.
     ///
     /// `f` is called once for each item, in order, and must be callable with the queue's items. The
-    /// clause `kept` covers an `f` whose result depends only on the item; `called` covers any `f`.
+    /// clause `kept` covers an `f` whose result depends only on the item and that changes nothing;
+    /// `called` covers any `f`.
     ///
     /// ```
     /// let even = nevd![alloc; 4, 5, 6, 7]?.retain(|x| *x % 2 == 0); // Ok([4, 6])

@@ -1,5 +1,5 @@
-//! The non-empty iterators over an [`NEMap`], and how a map and these iterators are turned into
-//! std's iterators.
+//! The non-empty iterators over an [`NEMap`], and how a map, and those of them that lend its values
+//! by `&mut`, are turned into std's iterators.
 ghost use Rattle.std.specs.Prelude.{◌≡◌, ◌<◌, ◌^◌, length};
 ghost use Rattle.std.specs.HashMap.{IsUnique, hash_map_len};
 ghost use Rattle.std.specs.HashMap.IterMut.{iter_mut_name, iter_mut_rest, values_mut_rest};

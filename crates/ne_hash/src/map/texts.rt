@@ -1,6 +1,6 @@
-//! The methods of an [`NEMap`] whose keys are `String`s that look a key up by a `&str`, for
-//! which no `String` is made. They stand in place of the Rust crate's `get("text")` and so on,
-//! whose look-ups take any `Borrow` of the key.
+//! The methods of an [`NEMap`] whose keys are `String`s that look a key up by a `&str`, for which
+//! no `String` is made. All but `remove_by_text` stand in place of calls of the Rust crate as
+//! `get("text")`, whose look-ups take any `Borrow` of the key.
 //!
 //! In contracts, `get_by_text m bs` is the value of the key whose bytes are bs.
 ghost use Rattle.std.specs.Prelude.{◌≡◌, ◌+◌, if◌then◌else◌, is_some, IfSome, None, Some};

@@ -25,8 +25,8 @@ impl<T: Eq + Hash, S: BuildHasher> AsRef<HashSet<T, S>> for NESet<T, S> {
     }
 }
 
-/// Compares sets: they are equal if each item of one is in the other. The order of iteration does
-/// not matter.
+/// Compares sets: they are equal if each item of either is in the other. The order of iteration
+/// does not matter.
 impl<T: Eq + Hash, S: BuildHasher> PartialEq for NESet<T, S> {
     ghost use Rattle.std.specs.Cmp.{partial_equiv_from_equiv};
     ghost use Rattle.std.specs.HashSet.Eq.{hash_set_eq_equiv};

@@ -1,5 +1,5 @@
-//! The non-empty iterators over an [`NEIndexMap`], and how a map and these iterators are turned
-//! into iterators of the crate `indexmap`.
+//! The non-empty iterators over an [`NEIndexMap`], and how a map, and those of them that lend its
+//! values by `&mut`, are turned into iterators of the crate `indexmap`.
 ghost use Rattle.std.specs.Prelude.{◌≡◌, ◌<◌, ◌^◌, length};
 ghost use Rattle.std.specs.Map.Iter.{deref, deref_pair};
 ghost use Rattle.indexmap.specs.IndexMap.{index_map_len, IsUnique};

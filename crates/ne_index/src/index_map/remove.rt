@@ -1,4 +1,5 @@
-//! The methods of an [`NEIndexMap`] that remove entries. They never remove the only one.
+//! The methods of an [`NEIndexMap`] that remove entries. None but `retain`, which takes the map by
+//! value, removes the only one.
 ghost use Rattle.std.specs.Prelude.{◌≡◌, ◌+◌, ◌-◌, ◌++◌, [], ◌∷◌, if◌then◌else◌, ◌↔◌, is_some};
 ghost use Rattle.std.specs.Prelude.{filter, take, None, Some, IfSome, Bool, IsErr, IsTrue};
 ghost use Rattle.std.specs.Map.Calls.{CallableOnEachPair, CalledAtPair, RetainsPairs, TakesPair};

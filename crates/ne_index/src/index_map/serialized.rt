@@ -11,7 +11,7 @@ use serde::{
 use std::alloc::Global;
 use std::hash::{BuildHasher, Hash};
 
-/// Writes what a `IndexMap` of the entries writes.
+/// Writes the entries as std's maps write theirs, in the map's order.
 impl<K: Described + Eq + Hash, V: Described, H: BuildHasher> Described for NEIndexMap<K, V, H> {
     ghost writes = { λ m. WritesMap K.writes V.writes m.entries };
 }

@@ -1,5 +1,5 @@
-//! The non-empty iterators over an [`NEIndexSet`] and over a union, and how a set and these
-//! iterators are turned into iterators of the crate `indexmap`.
+//! The non-empty iterators over an [`NEIndexSet`] and over a union, and how a set is turned into
+//! one of them or into iterators of the crate `indexmap`.
 ghost use Rattle.std.specs.Prelude.{◌≡◌, length};
 ghost use Rattle.std.specs.Map.Iter.{deref};
 ghost use Rattle.ne_vec.specs.Lists.{view_by};

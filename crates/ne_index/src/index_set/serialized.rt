@@ -11,7 +11,7 @@ use serde::{
 use std::alloc::Global;
 use std::hash::{BuildHasher, Hash};
 
-/// Writes what a `IndexSet` of the items writes.
+/// Writes the items as std's sets write theirs, in the set's order.
 impl<T: Described + Eq + Hash, H: BuildHasher> Described for NEIndexSet<T, H> {
     ghost writes = { λ s. WritesSeq T.writes s.keys };
 }

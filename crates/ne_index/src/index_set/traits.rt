@@ -29,8 +29,8 @@ impl<T: Eq + Hash, S: BuildHasher> AsRef<IndexSet<T, S>> for NEIndexSet<T, S> {
     }
 }
 
-/// Compares sets: they are equal if each item of one is in the other. The order of the items does
-/// not matter.
+/// Compares sets: they are equal if each item of either is in the other. The order of the items
+/// does not matter.
 impl<T: Eq + Hash, S: BuildHasher> PartialEq for NEIndexSet<T, S> {
     ghost eq = { index_set_eq T.eq };
 

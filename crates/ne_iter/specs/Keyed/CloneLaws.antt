@@ -1,5 +1,5 @@
--- Proofs, for the crates of maps and sets, that a list of clones is as long as its original, and
--- equal to it if each clone equals its original.
+-- Proofs, for the crates of maps and sets, that a list of clones is not empty if its original is
+-- not, and equals its original if each clone equals its own.
 use Rattle.std.proofs.Common.{◌<◌, List, [], ◌∷◌, length, ap₂, subst}
 use Rattle.std.proofs.lemmas.List.Elements.{length_all_zip}
 use Rattle.std.specs.List.{AllZip, each_same}

@@ -1,5 +1,5 @@
--- Proof, for the crates of maps, that a removal takes what is found if more than one entry is left.
--- In each, `result` is what the inner collection's removal returned.
+-- Proof, for the crates of maps and sets, that a removal takes what is found if there is more than
+-- one entry before it. In each, `result` is what the inner collection's removal returned.
 use Rattle.std.proofs.Common.{◌≡◌, ◌<◌, ◌⊎◌, Bool, true, false, List, Option, None, Some, arith}
 use Rattle.std.proofs.Common.{inl, inr, length, refl, sym, ◌∙◌}
 use Rattle.std.specs.Prelude.{IfNone, IfSome}

@@ -211,9 +211,8 @@ pub(super) fn add_value_or_error<T: Drop, E: Drop>(
     Ok(())
 }
 
-// Appends the items that are left of an iterator. It is inlined, and so is what collects into a
-// vector: where the compiler does not see how a vector's own iterator was made, each item takes
-// eight times as many instructions.
+// Appends the items that are left of an iterator. It is inlined, and so is most of what collects
+// into a vector, so that the compiler sees how a vector's own iterator was made.
 #[inline(always)]
 pub(super) fn append<T: Drop, I: Iterator<Item = T>>(
     alloc: Global,

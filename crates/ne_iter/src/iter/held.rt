@@ -1,8 +1,8 @@
 //! A non-empty iterator that holds an iterator of std or of a crate.
 //!
-//! The iterators over maps and sets are this type, by an alias for each. What is known of the
-//! iterator inside is said by a type of the crate that has the alias, which implements
-//! [`HeldIterator`].
+//! The iterators over maps and sets are this type, by an alias for each, except the mutable ones.
+//! What is known of the iterator inside is said by a type of the crate that has the alias, which
+//! implements [`HeldIterator`].
 ghost use Rattle.std.specs.Prelude.{◌≡◌, ◌<◌, ℕ, ⊤};
 ghost use Rattle.ne_vec.specs.Lists.{View, itself};
 ghost use Rattle.ne_iter.specs.Sources.{HasFirst};

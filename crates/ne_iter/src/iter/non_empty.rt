@@ -88,10 +88,10 @@ use std::num::NonZeroUsize;
 /// iterator.
 ///
 /// The law of this trait is `not_empty`: the iterator made from any value first returns an item. An
-/// implementation proves this law and needs nothing else; all methods but `next` and `append_to` are
-/// final.
+/// implementation proves this law and needs nothing else; all methods but `next` and `append_to`
+/// are final.
 ///
-/// In contracts, `item_view` is the view through which chains are proved: a reference of a
+/// In contracts, `item_view` is the view through which chains are proved: a shared reference of a
 /// collection's iterator is seen as what it points to, also in the pairs of a map, of `zip` and of
 /// `enumerate`; an item of any other source as itself. A source of references has the line `ghost
 /// item_view = { referenced };`, and the call that makes it says which list its references point to
@@ -547,10 +547,9 @@ pub trait NonEmptyIterator: IntoIterator {
     ///
     /// `f` is called once for each item taken, in order, and returns its key. The first item begins
     /// a run. Each further item continues the run if `key of the run's first item == its own key`;
-    /// otherwise it begins the next run. So no item is compared with the one before it. A run is
-    /// returned when the first item of the next one was taken, or when the source has ended.
-    /// Nothing more is taken: if the caller stops early, at most one item after the returned runs
-    /// has been taken.
+    /// otherwise it begins the next run. A run is returned when the first item of the next one was
+    /// taken, or when the source has ended. Nothing more is taken: if the caller stops early, at
+    /// most one item after the returned runs has been taken.
     ///
     /// `f` must be callable with the items of the source, in order; it may reject any other value.
     /// For example, if all items are above 0, the key may be `|x| 100 / *x`.
@@ -602,8 +601,8 @@ pub trait NonEmptyIterator: IntoIterator {
     /// Unlike [`group_by`](Self::group_by) it needs no key, and so no clone of a part of an item.
     /// The runs are those of [`NESlice::runs_by`](ne_vec::NESlice::runs_by) with the same closure.
     /// Nothing is taken before the first run is requested. A run is returned when the first item of
-    /// the next one was taken, or when the source has ended; at most one item after the returned
-    /// runs has been taken.
+    /// the next one was taken, or when the source has ended; unless an `Err` was returned, at most
+    /// one item after the returned runs has been taken.
     ///
     /// `same` must be callable with any two items of the source. A run is allocated from `alloc`
     /// when it is requested. If an allocation for it fails, `Err` is returned in its place; the
@@ -646,7 +645,7 @@ pub trait NonEmptyIterator: IntoIterator {
     ///
     /// Nothing is taken before the first run is requested. Each item that is taken is passed to `f`
     /// once. A run is returned when the first item of the next one was taken, or when the source
-    /// has ended; at most one item after the returned runs has been taken.
+    /// has ended; unless an `Err` was returned, at most one item after these runs has been taken.
     ///
     /// `f` must be callable with each item of the source. A run is allocated from `alloc` when it
     /// is requested. After an `Err`, of `f` or of an allocation for the run, the items that were

@@ -1,4 +1,5 @@
-//! Laws about closures: what their calls return if they act as functions.
+//! Laws about closures: what their calls return if they act as functions, and where a closure that
+//! can be called with any value may be called.
 ghost use Rattle.std.specs.Prelude.{◌≡◌, List, map};
 ghost use Rattle.std.specs.Iterator.{ActsAs, CallableOnAllAt};
 ghost use Rattle.ne_iter.specs.Calls.{Calls};
@@ -12,7 +13,7 @@ pub fn calls_of_a_function<A, B, F: FnMut(A) -> B>(f: &F)
 
 /// A closure that can be called with any item can be called with each item of an iterator, one
 /// after another. Generic code that knows the former calls this law before a method that requires
-/// the latter, such as `group_by`.
+/// the latter, as `max_by_key` does, or before it collects what `group_by` returns.
 pub fn always_callable_is_callable_on_all_items<I: Iterator, R, F: FnMut(&I::Item) -> R>()
     ensures { (it : I) (f : F) → F.IsAlwaysCallable f
         → CallableOnAllAt I.next_gives F.FnMut it f }

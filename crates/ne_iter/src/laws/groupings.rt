@@ -26,8 +26,8 @@ pub fn groupings_stand_at_any_moment<I: Iterator, K: PartialEq, F: FnMut(&I::Ite
         → ReturnsOn I.next_gives F.FnMut K.eq s f done results h }
 {}
 
-/// A grouping that has nothing ahead has taken everything that its source gave, and has returned
-/// the runs of that.
+/// A grouping that has nothing ahead, and returned no `Err`, has taken everything that its source
+/// gave, and has returned the runs of that.
 pub fn whole_reading_gives_the_division<I: Iterator, K: PartialEq, F: FnMut(&I::Item) -> K>()
     ensures { (s : I) (f : F) (rs : List (List I.Item)) (g : Grouping I K I.Item F)
         → HasRead I.next_gives F.FnMut K.eq s f rs g → IsOver g

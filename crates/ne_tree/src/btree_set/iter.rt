@@ -1,5 +1,5 @@
-//! The non-empty iterators over an [`NEBTreeSet`] and over a union, and how a set and these
-//! iterators are turned into std's iterators.
+//! The non-empty iterators over an [`NEBTreeSet`] and over a union, and how a set is turned into
+//! one of them or into std's iterators.
 ghost use Rattle.std.specs.Prelude.{◌≡◌, length};
 ghost use Rattle.std.specs.BTreeSet.{IsOrdered};
 ghost use Rattle.std.specs.Map.Iter.{deref};

@@ -1,6 +1,6 @@
 //! The methods of an [`NEBTreeSet`] of `String`s that look an item up by a `&str`, for which no
-//! `String` is made. They stand in place of the Rust crate's `contains("text")` and so on, whose
-//! look-ups take any `Borrow` of the item.
+//! `String` is made. `contains_by_text` stands in place of the Rust crate's `contains("text")`,
+//! whose look-ups take any `Borrow` of the item; the Rust crate has no removals.
 //!
 //! In contracts, `contains_text s bs` says whether the item whose bytes are bs is in the set.
 ghost use Rattle.std.specs.Prelude.{◌≡◌, ◌+◌, if◌then◌else◌, false, is_some};

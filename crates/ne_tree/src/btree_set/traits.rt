@@ -25,7 +25,7 @@ impl<T: Ord> AsRef<BTreeSet<T>> for NEBTreeSet<T> {
     }
 }
 
-/// Compares sets: they are equal if each item of one is in the other. It iterates over both sets
+/// Compares sets: they are equal if each item of either is in the other. It iterates over both sets
 /// once, side by side, up to the first difference, and does not allocate.
 impl<T: Ord> PartialEq for NEBTreeSet<T> {
     ghost eq = { λ s t. pointwise T.eq s.keys t.keys };

@@ -13,7 +13,8 @@ impl<T> NEVec<T> {
     /// allocates nothing, so unlike collecting a `map` it cannot fail.
     ///
     /// `f` must be callable with the vector's items. The clause `mapped` covers an `f` whose result
-    /// depends only on the item; `called` covers any `f`. The Rust crate lacks this method.
+    /// depends only on the item and that changes nothing; `called` covers any `f`. The Rust crate
+    /// lacks this method.
     ///
     /// ```
     /// let halves = nev![alloc; 3, 1, 4]?.map_in_place(|x| x / 2); // [1, 0, 2]

@@ -18,8 +18,8 @@ impl<T: Drop> NEVec<T> {
     /// error if there is no such item.
     ///
     /// `f` is called once for each item, in order, and must be callable with the vector's items.
-    /// The clause `kept` covers an `f` whose result depends only on the item; `called` covers any
-    /// `f`.
+    /// The clause `kept` covers an `f` whose result depends only on the item and that changes
+    /// nothing; `called` covers any `f`.
     ///
     /// ```
     /// let even = nev![alloc; 4, 5, 6, 7]?.retain(|x| *x % 2 == 0); // Ok([4, 6])
@@ -45,8 +45,8 @@ impl<T: Drop> NEVec<T> {
     /// them, or returns the empty vector as an error if there is no such item.
     ///
     /// `f` is called once for each item, in order, and must be callable with the vector's items.
-    /// The clause `kept` covers an `f` whose result and changes depend only on the item; `called`
-    /// covers any `f`.
+    /// The clause `kept` covers an `f` whose result and new item depend only on the item and that
+    /// changes nothing else; `called` covers any `f`.
     ///
     /// ```
     /// let items = nev![alloc; 3, 1, 4, 1, 5, 9, 2, 6]?;

@@ -38,7 +38,8 @@ impl<T> NEVec<T> {
     /// `f` must be callable with any two values of the items' type. The items are sorted if the
     /// results of `f` are a total preorder; otherwise they are in some order. The clause `ordered`
     /// covers an `f` that compares numbers or texts of the items, also in reverse or one after
-    /// another; `sorted` and `stable` cover any. Returns `AllocError` as `sort` does.
+    /// another, and that changes nothing; `sorted` and `stable` cover any. Returns `AllocError` as
+    /// `sort` does.
     ///
     /// ```
     /// let mut items = nev![alloc; 3, 1, 4, 1, 5, 9, 2, 6]?;

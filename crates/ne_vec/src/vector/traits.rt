@@ -1,4 +1,5 @@
-//! The traits that [`NEVec`] implements: conversions, indexing, comparison as a list, and printing.
+//! Traits that [`NEVec`] implements: conversions, indexing, cloning, extending, comparison and
+//! hashing as a list, and printing. `iter` and `serialized` have the others.
 ghost use Rattle.std.specs.Prelude.{◌≡◌, ◌-◌, ◌<◌, ◌≤◌, [], ◌++◌, length, Some, MatchResult};
 ghost use Rattle.std.specs.Prelude.{slice_get};
 ghost use Rattle.std.specs.Cmp.Lexicographic.{pointwise, slice_cmp, slice_partial_cmp, lists_equiv};

@@ -1,5 +1,5 @@
-//! Laws that the collections' iterators end: each yields as many items as there are. With these
-//! laws and those of the adapters, every chain built on a collection ends.
+//! Laws that the collections' iterators end, and two more: those of a peeked source and of
+//! `intersperse`. With these laws and those of the adapters, a caller shows that its chain ends.
 ghost use Rattle.std.specs.Iterator.{IsFinite};
 ghost use Rattle.ne_vec.specs.SliceRuns.{CallableAtPairs};
 ghost use Rattle.ne_iter.specs.Intersperse.{intersperse_rest};
