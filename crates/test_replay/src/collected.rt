@@ -78,7 +78,7 @@ fn held(set: Result<HashSet<u32>, AllocError>, call: &Call, out: &mut Transcript
     ))
 }
 
-// A letter for a number.
+// A character for a number.
 fn letter(x: u32) -> char {
     match x % 4 {
         0 => 'a',
@@ -88,7 +88,7 @@ fn letter(x: u32) -> char {
     }
 }
 
-// A short text for a number, of none to two letters.
+// A short text for a number, of none to two characters.
 fn letters(x: u32) -> &'static str {
     match x % 5 {
         0 => "a",

@@ -8,7 +8,7 @@ use nonempty_collections::vector::IntoIter;
 use nonempty_collections::{NEVec, NonEmptyIterator};
 use std::num::Wrapping;
 
-/// Consumers that return an item, or how many there are.
+/// Consumers that return an item, how many there are, or whether they meet a test.
 pub fn written(source: IntoIter<u32>, call: &Call, out: &mut Transcript) -> Written {
     let holds = |x: u32| call.closure.holds(x);
     match call.name {
@@ -25,7 +25,7 @@ pub fn written(source: IntoIter<u32>, call: &Call, out: &mut Transcript) -> Writ
     }
 }
 
-// Consumers that return a total.
+// Consumers that return a total, or a greatest or least number.
 fn totalled(source: IntoIter<u32>, call: &Call, out: &mut Transcript) -> Written {
     match call.name {
         "fold" => folded(source, call, out),
@@ -62,7 +62,7 @@ fn extreme(source: IntoIter<u32>, call: &Call, out: &mut Transcript) -> Written 
     }
 }
 
-// Consumers that return an iterator, which may be empty.
+// Consumers that return an iterator, which may be empty, and two that make vectors.
 fn parted(source: IntoIter<u32>, call: &Call, out: &mut Transcript) -> Written {
     let holds = |x: &u32| call.closure.holds(*x);
     match call.name {

@@ -1,6 +1,6 @@
 //! Calls on maps and sets. What the kinds have in common is written once, as macros, by groups of
 //! calls; the last arm of a group tries the calls of the next function. Those that the Rust crate
-//! lacks are in `added`.
+//! lacks are in `added`, but for `into_keys` and `into_values`.
 ghost use Rattle.std.specs.Iterator.{IsFiniteIterable};
 
 use crate::added::{

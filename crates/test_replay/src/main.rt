@@ -3,9 +3,10 @@
 //!
 //! A line that names a kind of collection makes one of its numbers, on which the following lines
 //! call. A script begins with a vector. The line that is printed has the result, and then the
-//! collection as it is after the call, or its length if it is long; on a vector or a queue also how
-//! often the call's closure was called. A reference implementation does the same with the Rust
-//! crate, and another one makes the calls that the Rust crate lacks: see `compare/replay`.
+//! collection as it is after the call, or its length if it is long; on a vector, a queue or a heap
+//! also how often the call's closure was called, of which sorts and searches do not count. A
+//! reference implementation does the same with the Rust crate, and another one makes calls that the
+//! Rust crate lacks: see `compare/replay`.
 #![tactic(auto)]
 
 mod adapters;

@@ -81,7 +81,8 @@ fn compared<'a>(
 }
 
 // Calls on an array of three items, by value and by reference: the call's first number, its last,
-// and the first again. Then one item, and an iterator over the call's numbers, which may be empty.
+// and the first again; and on one of 32. Then one item, and an iterator over the call's numbers,
+// which may be empty.
 fn other(items: &NEVec<u32>, call: &Call, out: &mut Transcript) -> Written {
     let array = [call.first, call.last, call.first];
     match call.name {

@@ -1,7 +1,7 @@
 //! How results are written.
 //!
-//! A call's arm ends in one of these functions, so no arm continues after it. The check then has
-//! one path for each arm to follow, and no values to drop where the arms join.
+//! An arm that writes a result ends in one of these functions, so it does not continue after it.
+//! The check then has one path for each arm to follow, and no values to drop where the arms join.
 ghost use Rattle.std.specs.Iterator.{IsFiniteIterable};
 
 use nonempty_collections::iter::ItemSource;

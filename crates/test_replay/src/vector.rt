@@ -118,7 +118,7 @@ fn kept(items: &mut NEVec<u32>, call: &Call, out: &mut Transcript) -> Written {
     }
 }
 
-// Calls that the Rust crate lacks, except for sorts.
+// Calls that the Rust crate lacks, except for sorts and `run_vec`.
 fn added(items: &mut NEVec<u32>, call: &Call, out: &mut Transcript) -> Written {
     let (a, b, len) = (call.place, call.last as usize, items.len().get());
     match call.name {

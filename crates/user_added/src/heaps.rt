@@ -29,7 +29,7 @@ pub fn take_next(jobs: &mut NEBinaryHeap<Job>) -> Option<Job>
     jobs.pop()
 }
 
-/// Takes the job that `jobs` showed.
+/// Takes the job that `jobs` showed, unless it is the only one, and returns whether it was that.
 pub fn take_shown(jobs: &mut NEBinaryHeap<Job>) -> bool
     ensures { result ≡ true }
 {

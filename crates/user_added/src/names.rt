@@ -34,14 +34,14 @@ pub fn width(name: &NEString) -> NonZeroUsize
     name.chars().count()
 }
 
-/// Returns the digits of a name.
+/// Returns the ASCII digits of a name.
 pub fn digits(alloc: Global, name: &NEString) -> Result<Vec<char>, AllocError>
     ensures { IfOk result (λ v. v.items ≡ filter is_ascii_digit (chars name.now)) }
 {
     name.chars().filter(|c| c.is_ascii_digit()).collect(alloc)
 }
 
-/// Returns whether a table's name has letters and digits only.
+/// Returns whether a table's name has ASCII letters and digits only.
 pub fn is_table_name(name: &NEString) -> bool
     ensures { result ≡ list_all is_ascii_alphanumeric (chars name.now) }
 {

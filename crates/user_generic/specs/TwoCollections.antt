@@ -3,8 +3,8 @@ use Rattle.std.specs.Prelude.{◌≡◌, ◌≤◌, ◌<◌, ℕ, Bool, ◌||◌
 use Rattle.std.specs.Fn.{Mut}
 use Rattle.nonempty_collections.specs.Calls.{Calls}
 
--- Each collection has at most n items. If it has fewer, one of the two sources has ended.
--- r is made of what f returns for the source's items, and of as many items of the other source.
+-- At most n pairs are taken. If there are fewer, one of the two sources has ended. r is made of
+-- what f returns for the source's items, and of as many items of the other source.
 pub record IsParted {S A B F O D R Q : Type 0} (reads : Bool → S → List A → Type 0)
     (calls : Mut F (A × Unit {0}) B) (others : Bool → O → List D → Type 0)
     (firsts : List B → R → Type 0) (seconds : List D → Q → Type 0)

@@ -1,6 +1,6 @@
 //! Generic code as a user writes it: chains of adapters over any source, a user's own sources and
 //! maps, and lists of calls on any map, on any set and on vectors. All of it is proved only from
-//! the contracts of the public methods.
+//! the contracts of the public methods and functions, among them laws.
 //!
 //! This crate is not part of the library. What is proved here, a user of the library can prove.
 #![tactic(auto)]

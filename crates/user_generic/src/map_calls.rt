@@ -162,7 +162,7 @@ pub fn remove_the_only_key(
     run_map(alloc, m, vec![in alloc; MapCall::Remove(k)]?)
 }
 
-/// Of two keys that are both removed, the second one stays.
+/// Two calls remove the keys of a map of two: the second one removes nothing.
 pub fn remove_both(
     alloc: Global,
     m: &mut PairMap<u32, u32>,
@@ -181,7 +181,8 @@ pub fn remove_both(
     run_map(alloc, m, calls)
 }
 
-/// Returns the value of the key and puts it back: the map reads as before.
+/// Takes the value of the key and puts it back, and returns whether one was taken: the map reads as
+/// before.
 pub fn take_and_put<M: NonEmptyMap<u32, u32>>(m: &mut M, k: u32) -> Result<bool, AllocError>
     ensures same { OnOk result ((q : ℕ) → lookup (nat_eq q) (M.entries m.new)
         ≡ lookup (nat_eq q) (M.entries m.old)) }

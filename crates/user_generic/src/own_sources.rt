@@ -1,7 +1,7 @@
 //! A user's own sources: a plain one, one with a model, a borrowed and a boxed one, and a value
 //! that becomes one.
 //!
-//! Each implements [`NonEmptyIterator`] by its law, and has all the methods.
+//! Each but the last implements [`NonEmptyIterator`] by its law, and has all the methods.
 ghost use Rattle.std.specs.Prelude.{◌≡◌, ◌<◌, List, [], ◌∷◌, length, reverse, IfOk, IfErr};
 ghost use Rattle.std.specs.Iterator.{YieldsFirst, YieldsFirstRef, at_most, item_count};
 ghost use Rattle.std.specs.Int.NonZero.{non_zero_u32_get};

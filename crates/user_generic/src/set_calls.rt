@@ -96,7 +96,7 @@ pub fn replace_there(
     run_set(alloc, s, vec![in alloc; SetCall::Replace(x)]?)
 }
 
-/// Two different items are removed from a set of two: the second one stays.
+/// Two calls remove different items from a set of two: the second one removes nothing.
 pub fn remove_both_items<S: NonEmptySet<u32>>(
     alloc: Global,
     s: &mut S,

@@ -116,7 +116,7 @@ pub fn ordered<T: Ord>(v: &mut NEVec<T>) -> Result<(), AllocError>
     v.sort()
 }
 
-/// Adds one to each item.
+/// Adds one to each item, modulo 2 ^ 32.
 pub fn bump_each(v: &mut NEVec<u32>)
     ensures { length v.new ≡ length v.old }
 {
@@ -201,7 +201,7 @@ pub fn clone_first<T: Clone>(pages: &Pages<T>) -> Result<NEVec<T>, AllocError>
     Ok(copy.first)
 }
 
-/// Adds the items of any iterable at the end of a collection of any kind.
+/// Adds the items of any iterable to a collection of any kind.
 pub fn take_all<T, C: Extend<T>, I: IntoIterator<Item = T>>(
     to: &mut C,
     items: I,
@@ -227,7 +227,7 @@ pub fn lengthened<I: IntoIterator<Item = u32>>(
     take_all(v, items)
 }
 
-/// Drops items that are equal to the previous one, and may differ from it: the first stays.
+/// Drops items that are equal to the last one kept, and may differ from it: the first stays.
 pub fn drop_equal<T: PartialEq + Drop>(v: &mut NEVec<T>)
     ensures { KeepsFirsts T.eq v.old v.new }
 {
@@ -252,7 +252,7 @@ pub fn first_run_of_slice<'a, T, F: Fn(&T, &T) -> bool + Drop>(
     items.runs_by(same).into_iter().next().unwrap()
 }
 
-/// Returns how many items a number divides into more than three times.
+/// Returns how many items go into a number more than three times, if these come first.
 pub fn large_quotients(v: &NEVec<u32>, n: u32) -> usize
     requires { All (λ x. 0 < x) v.now }
     ensures { result ≤ length v.now }
@@ -290,7 +290,7 @@ pub fn place<T, F: FnMut(&T) -> Ordering>(v: &NEVec<T>, f: F) -> Result<usize, u
     v.binary_search_by(f)
 }
 
-/// Counts the first items that meet any test that can be called with every value.
+/// Counts the items that meet any test that can be called with every value, if they come first.
 pub fn first_ones<T, F: FnMut(&T) -> bool>(v: &NEVec<T>, f: F) -> usize
     requires { F.IsAlwaysCallable f }
     ensures { result ≤ length v.now }

@@ -1,9 +1,9 @@
 //! Functions that use chains, as a user writes them: the manual of the library in code.
 //!
-//! Each shows what no example in a comment shows (`user_examples`): chains, references, texts,
-//! sources of any type, and maps and sets in general. They are proved from the public contracts of
-//! what they call. Five have proof files: `pairs_of_any_sources`, which calls a law, and
-//! `how_many_small`, `chunk_vectors`, `totals` and `totals_by_customer`, for their loops.
+//! They show more than the examples in comments do (`user_examples`): chains, references, texts,
+//! sources of any type, and vectors, maps and sets in general. They are proved from the public
+//! contracts of what they call. Five have proof files: `pairs_of_any_sources`, which calls two
+//! laws, and `how_many_small`, `chunk_vectors`, `totals` and `totals_by_customer`, for their loops.
 //! `total_of_few` and two functions of `runs` call a law too. Most ensure the exact result. If less
 //! is proved today, as of `unzip` of texts, the function ensures that.
 #![tactic(auto)]

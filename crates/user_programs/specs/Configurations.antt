@@ -6,7 +6,7 @@ use Rattle.user_programs.specs.declared.configuration.Entry.{Entry}
 use Rattle.user_programs.specs.declared.configuration.Fault.{Fault}
 use Rattle.user_programs.specs.declared.queue.Job.{Job}
 
--- A priority is from 1 to 9.
+-- The number is no priority: it is not from 1 to 9.
 abbrev pub is_out_of_range : ℕ → Bool
 is_out_of_range priority = priority == 0 || ltb 9 priority
 

@@ -59,7 +59,8 @@ fn wrong_text(no_period: bool, bad_priority: bool) -> &'static str
     }
 }
 
-/// Returns the configuration that a text writes, in JSON if it begins with `{`, and else in TOML.
+/// Returns the configuration that a text writes, in JSON if its first character but white space is
+/// `{`, and else in TOML.
 pub fn read(alloc: Global, text: &str) -> Read<Configuration> {
     if text.trim_start().starts_with('{') {
         Ok(serde_json::from_str(alloc, text)?)

@@ -1,5 +1,5 @@
 //! Reads a query as JSON and prints its text: `{"table": "t", "columns": ["a", "b"]}`, perhaps with
-//! a list `"conditions"`.
+//! `"conditions"`, which is a list or `null`.
 //!
 //! Another text is refused, also one with an empty list, name or condition, and the error says why
 //! and where.

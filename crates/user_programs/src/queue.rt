@@ -80,7 +80,7 @@ impl<T: Copy> RoundRobin<T> {
 }
 
 /// Jobs of which the one that is due first comes next. In contracts it is the list of the jobs,
-/// each in a `Reverse`, in an order that no clause fixes.
+/// each in a `Reverse`.
 #[derive(Drop)]
 pub struct DueFirst {
     jobs: NEBinaryHeap<Reverse<Due>>,

@@ -1,4 +1,4 @@
-//! A form whose fields have a name and a number: its fields, or everything that is wrong with them.
+//! A form whose fields have a name and a number: its fields, or a fault for each that is wrong.
 ghost use Rattle.std.specs.Prelude.{◌≡◌, ◌≢◌, [], IfOk, MatchResult, map, Ok, Some, string_bytes};
 ghost use Rattle.nonempty_collections.specs.Collected.{values_or_first_err};
 ghost use Rattle.user_programs.specs.Fields.{name_text, number_text, number_of};
@@ -21,7 +21,7 @@ pub struct Field {
 pub enum Fault {
     /// It has no name.
     NoName(usize),
-    /// It has no number.
+    /// It has a name, but no number below 2^32.
     NoNumber(usize),
 }
 
@@ -43,7 +43,7 @@ impl fmt::Display for Fault {
     }
 }
 
-/// Returns the number that a text writes, or `None` if it writes none.
+/// Returns the number below 2^32 that a text writes in decimal, or `None` if it writes none such.
 pub fn number(text: &str) -> Option<u32>
     ensures { result ≡ number_of text.now }
 {
@@ -61,7 +61,8 @@ pub fn name_in(mut line: String) -> String
     line
 }
 
-/// Returns the number that a line writes after the first `=`, or `None` if it writes none there.
+/// Returns the number below 2^32 that a line writes after the first `=`, or `None` if none is
+/// there.
 pub fn number_in(line: &str) -> Option<u32>
     ensures { result ≡ number_of (number_text line.now) }
 {

@@ -49,7 +49,7 @@ fn heap(alloc: Global) -> Result<NEBinaryHeap<u32>, AllocError> {
 
 // A text with no room after it.
 fn text(alloc: Global) -> Result<NEString, AllocError> {
-    NEString::new(alloc, 'a', "ß")
+    NEString::new(alloc, 'a', "ßbcdef")
 }
 
 #[test]

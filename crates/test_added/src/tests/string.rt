@@ -1,4 +1,4 @@
-//! What no clause says: printed text, large texts, and texts of characters of 1 to 4 bytes.
+//! Printed and large texts, of which no clause speaks, and texts of characters of 1 to 4 bytes.
 
 ghost use Rattle.std.specs.Prelude.{OnOk};
 ghost use Rattle.std.specs.String.Boundary.{IsSplitPoint};
@@ -120,7 +120,7 @@ fn ordered(rt: HostRuntime) -> Result<(), Fail> {
     is(a.max(b).as_str(), "b")
 }
 
-// Each call that allocates, once with a text of a million bytes.
+// Calls that allocate, with a text that comes to have a million bytes and more.
 #[test]
 fn large(rt: HostRuntime) -> Result<(), Fail> {
     let alloc = rt.alloc();

@@ -82,16 +82,22 @@ fn clone(rt: HostRuntime) -> Result<(), Fail> {
     gives(&rt, "NEVec::clone", result, &[7])
 }
 
-// The vector grows, and then clones each item of the slice.
+// The vector, which has room for four items, grows, and then clones each item of the slice.
 #[test]
 fn extend_from_slice(rt: HostRuntime) -> Result<(), Fail> {
     let call = "NEVec::extend_from_slice";
     let Ok(mut items) = NEVec::new(rt.alloc(), fresh(rt.alloc(), 7)) else {
         return report(&rt, "not reached", call);
     };
-    let slice = [fresh(rt.alloc(), 8), fresh(rt.alloc(), 9)];
+    let alloc = rt.alloc();
+    let slice = [
+        fresh(alloc, 8),
+        fresh(alloc, 9),
+        fresh(alloc, 10),
+        fresh(alloc, 11),
+    ];
     let is_made = items.extend_from_slice(&slice).is_ok();
-    let left: &[u32] = if is_made { &[7, 8, 9] } else { &[7] };
+    let left: &[u32] = if is_made { &[7, 8, 9, 10, 11] } else { &[7] };
     holds(call, are(&items, left))?;
     report(&rt, if is_made { "made" } else { "refused" }, call)
 }

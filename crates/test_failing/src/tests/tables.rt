@@ -1,7 +1,7 @@
 //! Maps and sets whose keys and values own a token, which shows whether each is dropped once.
 //!
 //! What is tried is the same for all six types: a row is a call that makes a table of one item, and
-//! one that changes the table when it is full. A refused request of the first call leaves the other
+//! one on the table, mostly when it is full. A refused request of the first call leaves the other
 //! one unreached.
 
 mod kinds;

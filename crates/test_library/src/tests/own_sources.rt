@@ -1,7 +1,6 @@
-//! Sources of a user's own, each once.
+//! Sources of a user's own.
 //!
-//! The items of a chain are written as the digits of one number, the first item first, so that a
-//! test needs no vector.
+//! The items of most chains are written as the digits of one number, the first item first.
 ghost use Rattle.std.specs.Iterator.{IsFiniteIterable};
 
 use super::{is, same};

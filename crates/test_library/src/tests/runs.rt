@@ -66,8 +66,8 @@ fn equal_items(rt: HostRuntime) -> Result<(), Fail> {
     )
 }
 
-// The runs are 4 and 3, and then 2 and 1. Each item but the first of a run is compared once, and
-// one item is drawn after a run to find its end.
+// The runs are 4 and 3, and then 2 and 1. Each item but the very first is compared once, and one
+// item is drawn after a run to find its end.
 #[test]
 fn draws_and_comparisons(rt: HostRuntime) -> Result<(), Fail> {
     let (draws, calls) = (Cell::new(0u32), Cell::new(0u32));

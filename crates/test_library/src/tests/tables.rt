@@ -1,5 +1,5 @@
-//! Maps and sets of each kind, under hashers of the tests' own: what is dropped, and what is found.
-//! Keys and values are owners of a token. Two owners of a token are equal.
+//! Maps and sets of each kind, some under hashers of the tests' own: what is dropped, and what is
+//! found. Keys and values are mostly owners of a token. Two owners of a token are equal.
 
 use super::{is, of};
 use nonempty_collections::{NEBTreeMap, NEBTreeSet, NEIndexMap, NEIndexSet, NEMap, NESet};
