@@ -10,8 +10,8 @@ use nonempty_collections::{
 use std::alloc::{AllocError, Global};
 use std::collections::{VecDeque, vec_deque};
 
-/// The queue of the call's numbers. All but the last are added at the front, so they are in another
-/// part of its memory than the last.
+/// The queue of the call's numbers. All but the last are added at the front, so they are often in
+/// another part of its memory than the last.
 pub fn queue(call: &Call, alloc: Global) -> Result<NEVecDeque<u32>, AllocError> {
     let mut queue = NEVecDeque::new(alloc, call.last)?;
     for number in call.numbers.iter().rev().skip(1) {
