@@ -3,8 +3,8 @@ failing allocations report on them."""
 
 import re
 
-from sources import files, functions, libraries, macros
-from common import read
+from sources import files, functions, macros
+from common import libraries, read
 
 # How the tests name a trait's method for a type, and the method that an iterator comes from.
 KINDS = {

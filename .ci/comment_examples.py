@@ -7,8 +7,8 @@ each item of an iterator, separated by commas and `and`.
 
 import re
 
-from common import read
-from sources import EXAMPLE, files, libraries
+from common import libraries, read
+from sources import EXAMPLE, files
 
 COMMENT = re.compile(r"^ *//[/!] ?", re.M)
 # What a comment is about: the first of these after it.

@@ -48,6 +48,22 @@ def crates():
     return {name: listed.split() for name, listed in rows}
 
 
+def libraries():
+    """Returns the crates that are libraries: those that have no program, and whose names say
+    neither `user` nor `test`."""
+    names = [it for it in crates() if not it.startswith(("user_", "test_"))]
+    return [it for it in names if os.path.exists(f"{ROOT}/crates/{it}/src/lib.rt")]
+
+
+def counted(what, number):
+    """Returns the number of things that a script has met. Stops if .ci/counts, which names each
+    such number, has another one, so that none goes unseen."""
+    wanted = dict(re.findall(r"^(.+): (\d+)$", read(".ci/counts"), re.M)).get(what, "none")
+    if wanted != str(number):
+        stop(f"{what}: here are {number}, and .ci/counts has {wanted}. If it is meant, change that.")
+    return number
+
+
 def below(*names):
     """Returns these crates and those of the repository that they depend on."""
     found, left = set(), [*names]
@@ -64,7 +80,7 @@ def copy_crates(folder, names, also=""):
         shutil.copytree(
             os.path.join(ROOT, "crates", it),
             os.path.join(folder, "crates", it),
-            ignore=shutil.ignore_patterns("out", "must-fail"),
+            ignore=shutil.ignore_patterns("out"),
         )
     lines = [f"{it}: {' '.join(crates()[it])}\n" for it in names]
     write(os.path.join(folder, "crates.txt"), "".join(lines) + also)

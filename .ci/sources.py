@@ -5,7 +5,7 @@ import re
 from itertools import accumulate, pairwise
 from typing import NamedTuple
 
-from common import ROOT, crates, read
+from common import ROOT, libraries, read
 
 BLOCK = re.compile(r"^(?:impl\b|pub trait\b)", re.M)
 EXAMPLE = re.compile(r"^ *//[/!] ```\n((?: *//[/!].*\n)*?) *//[/!] ```\n", re.M)
@@ -39,14 +39,6 @@ class Function(NamedTuple):
     def is_law(self):
         """Returns whether it is a law: a function of a module that does nothing."""
         return not (self.owner or self.returned() or re.search(r": &mut", self.signature))
-
-
-def libraries():
-    """Returns the crates that are libraries: those that have no program, and whose names say
-    neither `user` nor `test`."""
-    others = ("user_", "test_")
-    names = [it for it in crates() if not it.startswith(others)]
-    return [it for it in names if os.path.exists(f"{ROOT}/crates/{it}/src/lib.rt")]
 
 
 def files(crate):

@@ -52,7 +52,7 @@ def a_number(chance, items):
 # What the numbers of a call may be.
 KINDS = keyed_calls.KINDS | calls.KINDS
 KINDS["span"] = Kind(lists(2, 2, range(4)), [(0, 2)], [(2, 9), (7, 3)], a_span)
-# Lists of calls: of each call the number of its kind, and its own numbers. `crates/test_replay`
+# Lists of calls: of each call the number of its kind, and its own numbers. `tests/replay`
 # says which call a kind is.
 KINDS["vector_calls"] = Kind(
     [
@@ -527,94 +527,94 @@ heap 7
 retain
 debug
 """
-# Each call that may report a failed allocation, and some others, over a hundred thousand items or
+# Each call that may report a failed allocation, and some others, over twenty thousand items or
 # keys.
 LARGE_ROWS = """
 vector 7
-run_vec 200000*11
+run_vec 40000*11
 iter
-vector 100000*7919
-extend_from_slice 100000*1
-split_off 100000
+vector 20000*7919
+extend_from_slice 20000*1
+split_off 20000
 sort_unstable
 iter
 tree_map 2
-run_map 300000*1
+run_map 60000*1
 iter
-tree_map 200000*7919
-insert 200001 7
-remove 100000
+tree_map 40000*7919
+insert 40001 7
+remove 20000
 retain tens
 iter
 hashed_map 2
-run_map 300000*1
+run_map 60000*1
 iter
-hashed_map 200000*7919
-insert 200001 7
-remove 100000
+hashed_map 40000*7919
+insert 40001 7
+remove 20000
 retain tens
 iter
 indexed_map 2
-run_map 30000*1
+run_map 6000*1
 iter
-indexed_map 200000*7919
-or_insert 200001 7
-swap_remove 100000
-shift_remove 100002
+indexed_map 40000*7919
+or_insert 40001 7
+swap_remove 20000
+shift_remove 20002
 retain tens
 iter
 tree_set 2
-run_set 200000*7
+run_set 40000*7
 iter
-tree_set 200000*7919
-remove 100000
+tree_set 40000*7919
+remove 20000
 retain half
 iter
 hashed_set 2
-run_set 200000*7
+run_set 40000*7
 iter
-hashed_set 200000*7919
-remove 100000
+hashed_set 40000*7919
+remove 20000
 retain half
 iter
 indexed_set 2
-run_set 20000*7
+run_set 4000*7
 iter
-indexed_set 200000*7919
-swap_remove 100000
-shift_remove 100002
+indexed_set 40000*7919
+swap_remove 20000
+shift_remove 20002
 retain half
 iter
 deque 7
 new 7
 singleton 7
 written_two 7 8
-with_capacity 100000 7
-from_parts 100000*1
-collect 100000*1
+with_capacity 20000 7
+from_parts 20000*1
+collect 20000*1
 clone
-deque 100000*7919
+deque 20000*7919
 push_front 5
 push_back 6
 extend_one 7
-insert 50000 8
-reserve 100000
-extend 100000*1
-append 100000*1
-split_off 150000
+insert 10000 8
+reserve 20000
+extend 20000*1
+append 20000*1
+split_off 30000
 shrink_to_fit
 iter
 heap 7
 new 7
 singleton 7
-with_capacity 100000 7
-collect 100000*7919
+with_capacity 20000 7
+collect 20000*7919
 clone
-push 120831
+push 24166
 extend_one 7
-reserve 100000
-extend 100000*1
-append 100000*3
+reserve 20000
+extend 20000*1
+append 20000*3
 shrink_to_fit
 pop
 replace_greatest 3

@@ -474,27 +474,27 @@ sorted_by_key falling
 try_from_vec 5
 chain
 """
-# Each call that may report a failed allocation, over a hundred thousand items; an array has at most
+# Each call that may report a failed allocation, over twenty thousand items; an array has at most
 # 32.
 LARGE = """
 vector 7
-from_elem 100000 7
-with_capacity 100000 7
-nev_many 100000 7
-from_parts 100000*7919
-try_from_slice 100000*7919
-vector 100000*7919
+from_elem 20000 7
+with_capacity 20000 7
+nev_many 20000 7
+from_parts 20000*7919
+try_from_slice 20000*7919
+vector 20000*7919
 push 5
 extend_one 6
-insert 100002 7
-append 100000*1
-extend 100000*1
+insert 20002 7
+append 20000*1
+extend 20000*1
 iter
 sort
 sort_by falling
 sort_by_key half
 iter
-vector 100000*1
+vector 20000*1
 clone
 slice_clone
 nonempty_iter_clone
@@ -507,7 +507,7 @@ intersperse 5
 cartesian_product 7
 group_by
 group_by zero
-take_runs 100000
+take_runs 20000
 take_runs zero 1
 collect_nevec
 collect_vec
@@ -522,10 +522,10 @@ collect_char_refs
 collect_strs
 collect_strings
 collect_cows
-vector 100000*5
+vector 20000*5
 collect_path
 vector 7
-cartesian_product 100000*1
+cartesian_product 20000*1
 """
 
 
@@ -583,8 +583,8 @@ def text(scripts):
 def arms():
     """Returns the names of calls in the match arms of the program."""
     named = set()
-    for path in glob.glob(os.path.join(HERE, os.pardir, "crates", "test_replay", "src", "*.rt")):
-        if os.path.basename(path) != "closure.rt":
+    for path in glob.glob(os.path.join(HERE, os.pardir, "tests", "replay", "*.rt.txt")):
+        if os.path.basename(path) != "closure.rt.txt":
             with open(path) as it:
                 for arm in re.findall(r'^ *(".*?)=>|call\.name [!=]= ("\w+")', it.read(), re.M):
                     named.update(re.findall(r'"(\w+)"', "".join(arm)))

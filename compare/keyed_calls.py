@@ -407,25 +407,25 @@ keys_clone
 values_clone
 """
 
-# Each call that may report a failed allocation, over a hundred thousand keys.
+# Each call that may report a failed allocation, over twenty thousand keys.
 LARGE_ROOM = """
-with_capacity {numbers} 100000
-capacity 100000
-with_capacity_and_hasher {numbers} 100000
-capacity 100000
+with_capacity {numbers} 20000
+capacity 20000
+with_capacity_and_hasher {numbers} 20000
+capacity 20000
 """
 LARGE_MAP = """
 clone
-insert 400001 7
-extend_one 400003 8
-extend 300000*7919
+insert 80001 7
+extend_one 80003 8
+extend 60000*7919
 """
 LARGE_SET = """
 clone
-insert 400001
-replace 400000
-extend_one 400003
-extend 300000*7919
+insert 80001
+replace 80000
+extend_one 80003
+extend 60000*7919
 """
 
 
@@ -486,12 +486,12 @@ def large():
     script = []
     for subject in SUBJECTS:
         is_map, has_room = subject in MAPS, subject not in ("tree_map", "tree_set")
-        makes = ["collect 200000*7919"]
+        makes = ["collect 40000*7919"]
         makes += [LARGE_ROOM.format(numbers="2 1" if is_map else "2")] * has_room
         others = [LARGE_MAP if is_map else LARGE_SET]
-        others += ["reserve 100000"] * (subject in SETS[1:]) + ["shrink_to_fit"] * has_room
+        others += ["reserve 20000"] * (subject in SETS[1:]) + ["shrink_to_fit"] * has_room
         others += ["nonempty_iter_clone"] * (subject == "indexed_map")
-        for keys, tables in ((2,), makes), (("200000*7919",), others):
+        for keys, tables in ((2,), makes), (("40000*7919",), others):
             script += [(subject, "", keys), *parsed("\n".join(map(str.strip, tables)))]
     return script
 

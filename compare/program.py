@@ -25,8 +25,8 @@ def separate(folder, name, home, listed=()):
     """Writes a repository of the libraries and of the crate of this name, a program, into this
     folder, and returns its root. The program's files are those of the folder `home` here. They have
     the ending `.txt`, since each `.rt` file of this repository belongs to a crate that the gate
-    proves. If no crates are listed that the program stands on, these are all the libraries, and
-    `serde_json`."""
+    proves. If no crates are listed that the program stands on, these are all the libraries,
+    `indexmap` and `serde_json`."""
     root = os.path.join(folder, "port")
     with open(os.path.join(HERE, os.pardir, "crates.txt"), encoding="utf-8") as it:
         lines = re.findall(r"^(?:ne_(?!runs)|nonempty_)\w+: .*$", it.read(), re.M)
@@ -38,10 +38,10 @@ def separate(folder, name, home, listed=()):
             folders[:] = [it for it in folders if it not in left_out]
             to = os.path.join(root, "crates", crate, os.path.relpath(at, source))
             os.makedirs(to, exist_ok=True)
-            for it in files:
+            for it in (it for it in files if it.endswith((".txt", ".rt", ".antt"))):
                 shutil.copy2(os.path.join(at, it), os.path.join(to, it.removesuffix(".txt")))
     with open(os.path.join(root, "crates.txt"), "w", encoding="utf-8") as it:
-        listed = listed or [*names, "serde_json"]
+        listed = listed or [*names, "indexmap", "serde_json"]
         it.write("\n".join([*lines, f"{name}: {' '.join(listed)}", ""]))
     return root
 

@@ -9,10 +9,11 @@ import re
 import subprocess
 from collections import defaultdict
 
-from common import ROOT, below, copy_crates, crates, read, unproved, write
+from common import ROOT, below, copy_crates, crates, libraries, read, unproved, write
+from program_cases import PROGRAMS, cases, outcome
 
 FN = re.compile(r"( *)(?:pub(?:\(\w+\))? |final )*fn \w")
-LARGE = re.compile(r"\b[1-4]0000\d\b")
+LARGE = re.compile(r"\b[1-8]000\d\b")
 CHOSEN = """//! Chooses a wrong body.
 #![tactic(auto)]
 
@@ -74,14 +75,15 @@ def with_bodies(every, has_heads):
 class Program:
     """A program, or the tests of a crate, in which one of the wrong bodies can be chosen."""
 
-    def __init__(self, folder, crate, texts, tests=False, write_crate=None, names=None):
-        """Builds it in this folder, with these texts of files in place of those that are there."""
-        self.path, self.given = os.path.join(folder, "program"), ""
-        names = below(*(names or [crate]))
+    def __init__(self, folder, crate, texts, tests=False, write_crate=None, stdin=""):
+        """Builds it in this folder, with these texts of files in place of those that are there. If
+        it is no crate of crates.txt, `write_crate` writes it and returns its line of that file."""
+        self.path = os.path.join(folder, "program")
+        names = [*libraries(), "user_generic"] if write_crate else below(crate)
         copy_crates(folder, names)
         lines = {it: f"{it}: {' '.join(crates()[it])}" for it in names}
         if write_crate:
-            lines[crate] = write_crate(folder, names)
+            lines[crate] = write_crate(folder)
         rows = [f"{row} chosen\n" for row in lines.values()]
         write(os.path.join(folder, "crates.txt"), "".join(["chosen:\n", *rows]))
         home = os.path.join(folder, "crates", "chosen")
@@ -91,33 +93,38 @@ class Program:
         for file, text in texts.items():
             if os.path.exists(os.path.join(folder, file)):
                 write(os.path.join(folder, file), text)
-        own = [os.path.join(ROOT, "crates", crate, it) for it in ("stdin", "args")]
-        stdin, args = (read(it) if os.path.exists(it) and not tests else "" for it in own)
+        args = os.path.join(ROOT, "crates", crate, "args")
+        words = read(args).split() if os.path.exists(args) and not tests else []
         # the largest collections would take a minute for each body
-        self.stdin, self.given, self.words = stdin, LARGE.sub("300", stdin), args.split()
-        flags = ["--test"] if tests else ["--", *self.words] if self.words else []
-        unproved(os.path.join(folder, "crates", crate), *flags, given=self.given)
-        listed = self.run(0, ["--list"])[1].decode() if tests else ""
-        # what is run in turn: each test, or the program with its words
-        self.runs = [[it] for it in re.findall(r"^(\S+): test$", listed, re.M)] or [self.words]
-        self.right = [self.run(0, it) for it in self.runs]
+        self.stdin, given = stdin, LARGE.sub("300", stdin)
+        flags = ["--test"] if tests else ["--", *words] if words else []
+        unproved(os.path.join(folder, "crates", crate), *flags, given=given)
+        # what is run in turn, words and an input: each test, or the stored run and the cases
+        self.runs = [(words, given.encode())]
+        if tests:
+            listed = self.run(0, ["--list"], b"")[1].decode()
+            self.runs = [([it], b"") for it in re.findall(r"^(\S+): test$", listed, re.M)]
+        elif crate in PROGRAMS:
+            # the longest inputs take seconds
+            every = sorted(cases(crate), key=lambda it: len(it.given))
+            self.runs += [(it.words, it.given) for it in every]
+        self.right = [self.run(0, *it) for it in self.runs]
 
     def larger(self):
         """Returns the same program with larger collections in its input."""
         found = copy.copy(self)
-        found.given = LARGE.sub("4000", self.stdin)
-        found.right = [found.run(0, it) for it in found.runs]
+        found.runs = [(self.runs[0][0], LARGE.sub("4000", self.stdin).encode())]
+        found.right = [found.run(0, *it) for it in found.runs]
         return found
 
-    def run(self, number, words):
+    def run(self, number, words, given):
         """Returns what comes of a run with the wrong body of this number, 0 being none."""
-        how = {"input": self.given.encode(), "capture_output": True, "timeout": 100}
+        how = {"input": given, "capture_output": True, "timeout": 100}
         try:
-            ran = subprocess.run([self.path, *words], **how, env={"MUTANT": str(number)})
-            return ran.returncode, ran.stdout
+            return outcome(subprocess.run([self.path, *words], **how, env={"MUTANT": str(number)}))
         except subprocess.TimeoutExpired:
-            return None, b""
+            return None, b"", b""
 
     def differs(self, number):
         """Returns whether a run with this wrong body is another one than with the right body."""
-        return any(self.run(number, it) != right for it, right in zip(self.runs, self.right))
+        return any(self.run(number, *it) != right for it, right in zip(self.runs, self.right))

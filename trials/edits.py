@@ -25,22 +25,22 @@ def file_of(path):
 
 
 class Mutant:
-    """A wrong body: the functions that it changes, the new lines by file and line number, and the
-    witness against it, if it names one."""
+    """A wrong body: the functions that it changes, the new lines by file and line number, the
+    witness against it, if it names one, and whether the gate tries it."""
 
     def __init__(self, crate, block):
         self.crate, self.name, self.functions, self.lines = crate, f"{crate}/?", [], {}
-        self.of_impl, self.witness = False, ""
+        self.of_impl, self.witness, self.is_of_gate = False, "", False
         texts, file, old, after = {}, None, None, ""
-        block, _, edit = block.partition("edit: ")
-        lines = read(f"crates/{crate}/{edit.strip()}") if edit else ""
-        for line in (block + lines).splitlines():
+        for line in block.splitlines():
             key, _, value = line.partition(": ")
             if key == "mutant":
                 self.name = f"{crate}/{value}"
             elif key in ("function", "impl"):
                 self.functions.append(value)
                 self.of_impl = self.of_impl or key == "impl"
+            elif key == "gate":
+                self.is_of_gate = True
             elif key == "witness":
                 self.witness = value
             elif key == "file":

@@ -5,39 +5,35 @@
 //! them with the first allocation failing, with the second, and so on. For each call a test prints
 //! one line, which the gate reads: `made`, `refused` or `not reached`, with the name of the call.
 //! `not reached` means that an allocation failed in what the test prepares.
+//!
+//! A test is proved before it is run, and each function and each closure takes its time. So most
+//! calls are rows of a table that one test reads, and few tests have closures.
 
 mod calls;
-mod changes;
 mod clones;
 mod collected;
-mod drops;
 mod macros;
-mod makes;
 mod owners;
 mod products;
+mod queues;
 mod runs;
 mod sorts;
 mod sources;
 mod tables;
+mod vectors;
 
 ghost use Rattle.std.specs.Prelude.{◌+◌, ◌^◌};
 ghost use Rattle.std.specs.Iterator.{at_most};
 
 use nonempty_collections::NEVec;
 use std::alloc::{AllocError, Global};
-use std::convert::AsSlice;
+use std::num::NonZeroUsize;
 use std::test::Fail;
 
 // One and two, in a vector that has to grow for a third item.
 fn pair(alloc: Global) -> Result<NEVec<u32>, AllocError> {
-    NEVec::try_from_vec(two(alloc, 1, 2)?).ok_or(AllocError)
-}
-
-// The two items, with no room after them.
-fn two(alloc: Global, a: u32, b: u32) -> Result<Vec<u32>, AllocError> {
-    let mut items = Vec::with_capacity(alloc, 2)?;
-    items.push(a)?;
-    items.push(b)?;
+    let mut items = NEVec::with_capacity(alloc, NonZeroUsize::new(2).unwrap(), 1)?;
+    items.push(2)?;
     Ok(items)
 }
 
@@ -49,20 +45,10 @@ fn report(rt: &impl Print, outcome: &str, call: &str) -> Result<(), Fail> {
     Ok(())
 }
 
-// Fails with both lists if they differ.
-fn same(call: &str, given: &[u32], wanted: &[u32]) -> Result<(), Fail> {
-    if given == wanted {
-        return Ok(());
-    }
-    Err(Fail::new(format_args!("{call}: {given:?}, and not {wanted:?}")))
-}
-
-// Fails with both numbers if they differ.
-fn is(call: &str, given: usize, wanted: usize) -> Result<(), Fail> {
-    if given == wanted {
-        return Ok(());
-    }
-    Err(Fail::new(format_args!("{call}: {given}, and not {wanted}")))
+// Prints whether the call is made. Fails unless what it returns and leaves is right.
+fn tell(rt: &impl Print, call: &str, is_made: bool, is_right: bool) -> Result<(), Fail> {
+    holds(call, is_right)?;
+    report(rt, if is_made { "made" } else { "refused" }, call)
 }
 
 // Fails unless this holds.
@@ -70,41 +56,7 @@ fn holds(call: &str, fact: bool) -> Result<(), Fail> {
     if fact {
         return Ok(());
     }
-    Err(Fail::new(format_args!("{call}: something else is left")))
-}
-
-// For a call that makes a vector: if it succeeds, the vector has these items.
-fn gives(
-    rt: &impl Print,
-    call: &str,
-    returned: Result<NEVec<u32>, AllocError>,
-    items: &[u32],
-) -> Result<(), Fail> {
-    match returned {
-        Ok(made) => {
-            same(call, made.as_slice(), items)?;
-            report(rt, "made", call)
-        }
-        Err(AllocError) => report(rt, "refused", call),
-    }
-}
-
-// For a call that changes a vector: if it succeeds, the items are `after`, and otherwise they are
-// `before`.
-fn leaves(
-    rt: &impl Print,
-    call: &str,
-    returned: Result<(), AllocError>,
-    items: &NEVec<u32>,
-    before: &[u32],
-    after: &[u32],
-) -> Result<(), Fail> {
-    same(
-        call,
-        items.as_slice(),
-        if returned.is_ok() { after } else { before },
-    )?;
-    report(rt, if returned.is_ok() { "made" } else { "refused" }, call)
+    Err(Fail::new(format_args!("{call}: something else is returned or left")))
 }
 
 // Counts down to 0, and hints at more items than any memory holds. To grow, `extend` asks for the

@@ -6,16 +6,9 @@
 #![tactic(auto)]
 
 pub mod array;
-pub mod calls;
 pub mod collected;
 pub mod dedup;
-pub mod hashed_map;
-pub mod hashed_set;
-pub mod index_map;
-pub mod index_set;
 pub mod iter;
-pub mod keys;
-pub mod macros;
 pub mod non_empty;
 pub mod peekable;
 pub mod products;
@@ -27,7 +20,5 @@ pub mod sort;
 pub mod sources;
 pub mod texts;
 pub mod traits;
-pub mod tree_map;
-pub mod tree_set;
 pub mod try_into;
 pub mod vector;

@@ -2,9 +2,9 @@
 use Rattle.std.specs.Prelude.{◌≡◌, ◌≤◌, ℕ, Bool, true, ◌||◌, ◌&&◌, ltb, List, length, zip, IsTrue}
 use Rattle.std.specs.Fn.{Mut}
 use Rattle.std.specs.List.{enumerate_from}
-use Rattle.nonempty_collections.specs.Divisions.{concat}
-use Rattle.nonempty_collections.specs.Calls.{Calls}
-use Rattle.nonempty_collections.specs.Flatten.{ReadsEach}
+use Rattle.ne_vec.specs.Divisions.{concat}
+use Rattle.ne_iter.specs.Calls.{Calls}
+use Rattle.ne_iter.specs.Flatten.{ReadsEach}
 
 module _ {F W B C : Type 0} (inner : Bool → W → List B → Type 0) (complete : C → Bool)
     (collected : List (ℕ × B) → C → Type 0) where

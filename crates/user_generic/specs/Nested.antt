@@ -2,9 +2,9 @@
 use Rattle.std.specs.Prelude.{Bool, List}
 use Rattle.std.specs.Borrow.{MutBor}
 use Rattle.std.specs.Fn.{Mut}
-use Rattle.nonempty_collections.specs.Divisions.{concat}
-use Rattle.nonempty_collections.specs.Calls.{CallsWithState}
-use Rattle.nonempty_collections.specs.Flatten.{ReadsEach}
+use Rattle.ne_vec.specs.Divisions.{concat}
+use Rattle.ne_iter.specs.Calls.{CallsWithState}
+use Rattle.ne_iter.specs.Flatten.{ReadsEach}
 
 -- The first state is init. If c is complete, the source and the lists of its items have ended.
 -- c is made of what f returns for the items of the lists of the source's items, one after another.

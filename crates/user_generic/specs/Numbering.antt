@@ -2,7 +2,7 @@
 use Rattle.std.specs.Prelude.{◌≡◌, ◌≤◌, ℕ, Bool, ◌||◌, ◌&&◌, ltb, List, ◌++◌, length}
 use Rattle.std.specs.Fn.{Mut}
 use Rattle.std.specs.List.{enumerate_from}
-use Rattle.nonempty_collections.specs.Calls.{Calls}
+use Rattle.ne_iter.specs.Calls.{Calls}
 
 -- There are at most n items, each with its index. If there are fewer and c is complete, both
 -- sources have ended.

@@ -2,8 +2,8 @@
 use Rattle.std.specs.Prelude.{Bool, true, List}
 use Rattle.std.specs.Borrow.{Bor}
 use Rattle.std.specs.Fn.{Mut}
-use Rattle.nonempty_collections.specs.Calls.{Calls, CallsEachAt}
-use Rattle.nonempty_collections.specs.Keys.{items_of, DividesByKey}
+use Rattle.ne_iter.specs.Calls.{Calls, CallsEachAt}
+use Rattle.ne_iter.specs.Keys.{items_of, DividesByKey}
 
 -- rs are the runs of what f returns for all items of the source, by the keys that `key` returns.
 pub record AreRunsOfResults {S A T K F G : Type 0} (reads : Bool → S → List A → Type 0)

@@ -1,7 +1,7 @@
 -- What `parted` returns, a chain that ends in two collections.
 use Rattle.std.specs.Prelude.{◌≡◌, ◌≤◌, ◌<◌, ℕ, Bool, ◌||◌, List, length, IsTrue}
 use Rattle.std.specs.Fn.{Mut}
-use Rattle.nonempty_collections.specs.Calls.{Calls}
+use Rattle.ne_iter.specs.Calls.{Calls}
 
 -- At most n pairs are taken. If there are fewer, one of the two sources has ended. r is made of
 -- what f returns for the source's items, and of as many items of the other source.

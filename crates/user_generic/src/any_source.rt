@@ -3,10 +3,11 @@
 ghost use Rattle.std.specs.Prelude.{◌≡◌, ◌/◌, ◌++◌, ◌≤◌, ℕ, List, IfOk, ltb, map, filter, take};
 ghost use Rattle.std.specs.Int.NonZero.{non_zero_usize_get};
 ghost use Rattle.std.specs.List.{All, Contains};
-ghost use Rattle.nonempty_collections.specs.Lists.{referenced};
+ghost use Rattle.ne_vec.specs.Lists.{referenced};
 
-use nonempty_collections::iter::{ItemSource, NonEmptyIterator};
-use nonempty_collections::{IntoNonEmptyIterator, NEVec};
+use ne_iter::IntoNonEmptyIterator;
+use ne_iter::iter::{ItemSource, NonEmptyIterator};
+use ne_vec::NEVec;
 use std::alloc::{AllocError, Global};
 use std::num::NonZeroUsize;
 
@@ -76,16 +77,4 @@ pub fn greatest<'a, S: NonEmptyIterator<Item = &'a u32>>(source: S) -> u32
         → All (λ x. x ≤ result) xs }
 {
     source.copied().max()
-}
-
-/// Returns half of each of the first `n` items of a vector: callers know the lists of vectors,
-/// slices, arrays and chains over them.
-pub fn halves_of_first(
-    alloc: Global,
-    items: NEVec<u32>,
-    n: NonZeroUsize,
-) -> Result<NEVec<u32>, AllocError>
-    ensures { IfOk result (λ v. v ≡ map (λ x. x / 2) (take (non_zero_usize_get n) items)) }
-{
-    halves(alloc, items.into_nonempty_iter().take(n))
 }

@@ -7,12 +7,13 @@ ghost use Rattle.user_generic.specs.OwnSources.{counted_down, start_of};
 ghost use Rattle.user_generic.specs.InnerSources.{IsSpread, IsSpreadOfPairs};
 
 use crate::Countdown;
-use nonempty_collections::iter::{FromNonEmptyIterator, ItemSource, NonEmptyIterator};
-use nonempty_collections::laws::{
+use ne_iter::IntoNonEmptyIterator;
+use ne_iter::iter::{FromNonEmptyIterator, ItemSource, NonEmptyIterator};
+use ne_iter::laws::{
     arrays_give_their_items, calls_of_a_function, first_items_stay_first, lists_follow_one_another,
     sources_give_what_is_left,
 };
-use nonempty_collections::{IntoNonEmptyIterator, NEVec};
+use ne_vec::NEVec;
 use std::alloc::{AllocError, Global};
 use std::num::NonZeroUsize;
 
@@ -57,8 +58,9 @@ where
     S::Item: Drop,
     requires ends { IsFiniteIterable S.into_iter_gives S.IntoIter.can_next S.IntoIter.remaining
         source }
-    requires other_ends { IsFiniteIterable O.into_iter_gives O.IntoIter.can_next
-        O.IntoIter.remaining other }
+    requires other_ends { (others : O.IntoNEIter) → O.into_nonempty_iter_gives other others
+        → IsFiniteIterable O.IntoNEIter.into_iter_gives O.IntoNEIter.IntoIter.can_next
+        O.IntoNEIter.IntoIter.remaining others }
     requires callable { F.IsAlwaysCallable f }
     requires inner_ends { (inner : W) (it : W.IntoIter) → W.into_iter_gives inner it
         → W.IntoIter.can_next it × IsFinite (W.IntoIter.remaining it)

@@ -4,9 +4,10 @@ ghost use Rattle.std.specs.Iterator.{IsFinite, IsFiniteIterable, size};
 ghost use Rattle.std.specs.List.{scan};
 ghost use Rattle.user_generic.specs.Nested.{IsScanOfAll};
 
-use nonempty_collections::iter::{Flatten, FromNonEmptyIterator, ItemSource, NonEmptyIterator};
-use nonempty_collections::laws::always_callable_is_callable_in_scan;
-use nonempty_collections::{IntoNonEmptyIterator, NEVec};
+use ne_iter::IntoNonEmptyIterator;
+use ne_iter::iter::{Flatten, FromNonEmptyIterator, ItemSource, NonEmptyIterator};
+use ne_iter::laws::always_callable_is_callable_in_scan;
+use ne_vec::NEVec;
 use std::alloc::{AllocError, Global};
 
 /// Collects what `f` returns for the items of the items of `source`; `f` takes a mutable reference

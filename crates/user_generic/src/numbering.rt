@@ -5,12 +5,13 @@ ghost use Rattle.std.specs.Int.NonZero.{non_zero_usize_get};
 ghost use Rattle.std.specs.List.{enumerate_from};
 ghost use Rattle.user_generic.specs.Numbering.{IsNumbered};
 
-use nonempty_collections::iter::{FromNonEmptyIterator, ItemSource, NonEmptyIterator};
-use nonempty_collections::laws::{
+use ne_iter::IntoNonEmptyIterator;
+use ne_iter::iter::{FromNonEmptyIterator, ItemSource, NonEmptyIterator};
+use ne_iter::laws::{
     calls_of_a_function, first_items_stay_first, std_vectors_give_their_items,
     vectors_give_their_items,
 };
-use nonempty_collections::{IntoNonEmptyIterator, NEVec};
+use ne_vec::NEVec;
 use std::alloc::{AllocError, Global};
 use std::num::NonZeroUsize;
 

@@ -4,7 +4,8 @@ ghost use Rattle.std.specs.Prelude.{◌≡◌, map, IfOk, ltb};
 ghost use Rattle.std.specs.List.{list_all};
 
 use super::Stack;
-use nonempty_collections::{NEVec, NonEmptyIterator};
+use ne_iter::NonEmptyIterator;
+use ne_vec::NEVec;
 use std::alloc::{AllocError, Global};
 
 /// Returns whether the second part of every pair is below 10.

@@ -5,12 +5,12 @@
 ghost use Rattle.std.specs.Prelude.{◌≡◌, ◌<◌, List, [], ◌∷◌, length, reverse, IfOk, IfErr};
 ghost use Rattle.std.specs.Iterator.{YieldsFirst, YieldsFirstRef, at_most, item_count};
 ghost use Rattle.std.specs.Int.NonZero.{non_zero_u32_get};
-ghost use Rattle.nonempty_collections.specs.Lists.{Listed};
+ghost use Rattle.ne_vec.specs.Lists.{Listed};
 ghost use Rattle.user_generic.specs.OwnSources.{counted_down, start_of, left_of, seconds_of};
 ghost use Rattle.user_generic.specs.OwnSources.{in_box};
 ghost use Rattle.user_generic.specs.OwnSources.{IteratesStack};
 
-use nonempty_collections::{IntoNonEmptyIterator, NonEmptyIterator};
+use ne_iter::{IntoNonEmptyIterator, NonEmptyIterator};
 use std::alloc::{AllocError, Global};
 use std::marker::Model;
 use std::num::NonZeroU32;
@@ -261,7 +261,7 @@ impl<'a, T> IntoIterator for &'a Stack<T> {
 
 impl<'a, T> NonEmptyIterator for &'a Stack<T> {
     ghost use Rattle.user_generic.specs.OwnSourceLaws.{some_left};
-    ghost use Rattle.nonempty_collections.specs.Lists.{referenced};
+    ghost use Rattle.ne_vec.specs.Lists.{referenced};
 
     ghost item_view = { referenced };
 

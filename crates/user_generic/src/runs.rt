@@ -2,17 +2,17 @@
 ghost use Rattle.std.specs.Prelude.{◌≡◌, ◌≤◌, Bool, List, ltb, length, map, IfOk};
 ghost use Rattle.std.specs.Iterator.{IsFiniteIterable, CallableOnAll};
 ghost use Rattle.std.specs.Int.NonZero.{non_zero_usize_get};
-ghost use Rattle.nonempty_collections.specs.Divisions.{IsDivision, by_previous};
-ghost use Rattle.nonempty_collections.specs.SliceRuns.{ActsAsAtPair, CallableAtPairs};
-ghost use Rattle.nonempty_collections.specs.GroupBy.{HasRuns};
+ghost use Rattle.ne_vec.specs.Divisions.{IsDivision, by_previous};
+ghost use Rattle.ne_vec.specs.SliceRuns.{ActsAsAtPair, CallableAtPairs};
+ghost use Rattle.ne_iter.specs.GroupBy.{HasRuns};
 ghost use Rattle.user_generic.specs.RunsOfResults.{AreRunsOfResults};
 
-use nonempty_collections::iter::{ItemSource, Map, NEGroupBy, NonEmptyIterator, Take};
-use nonempty_collections::laws::{
+use ne_iter::iter::{ItemSource, Map, NEGroupBy, NonEmptyIterator, Take};
+use ne_iter::laws::{
     always_callable_is_callable_on_all_items, calls_of_a_function, first_items_stay_first,
     results_are_read_whole, slice_runs_are_the_division,
 };
-use nonempty_collections::{NESlice, NEVec};
+use ne_vec::{NESlice, NEVec};
 use std::alloc::{AllocError, Global};
 use std::iter;
 use std::num::NonZeroUsize;

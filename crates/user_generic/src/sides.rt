@@ -1,13 +1,14 @@
 //! A chain over a source that is one of two, whose closure may have state.
 ghost use Rattle.std.specs.Prelude.{true, IfOk, List};
 ghost use Rattle.std.specs.Iterator.{CallableOnAll};
-ghost use Rattle.nonempty_collections.specs.Calls.{Calls};
-ghost use Rattle.nonempty_collections.specs.Sides.{MatchSide};
+ghost use Rattle.ne_iter.specs.Calls.{Calls};
+ghost use Rattle.ne_products.specs.Sides.{MatchSide};
 
-use nonempty_collections::either::NEEither;
-use nonempty_collections::iter::ItemSource;
-use nonempty_collections::laws::either_gives_its_side;
-use nonempty_collections::{NEVec, NonEmptyIterator};
+use ne_iter::NonEmptyIterator;
+use ne_iter::iter::ItemSource;
+use ne_products::NEEither;
+use ne_products::laws::either_gives_its_side;
+use ne_vec::NEVec;
 use std::alloc::{AllocError, Global};
 
 /// Collects what `f` returns for the items of the side that is there.

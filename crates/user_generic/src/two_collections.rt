@@ -4,8 +4,8 @@ ghost use Rattle.std.specs.Iterator.{IsFiniteIterable, CallableOnAll};
 ghost use Rattle.std.specs.Int.NonZero.{non_zero_usize_get};
 ghost use Rattle.user_generic.specs.TwoCollections.{IsParted};
 
-use nonempty_collections::iter::{ItemSource, NonEmptyIterator};
-use nonempty_collections::{IntoNonEmptyIterator, Singleton};
+use ne_iter::iter::{ItemSource, NonEmptyIterator};
+use ne_iter::{IntoNonEmptyIterator, Singleton};
 use std::alloc::{AllocError, Global};
 use std::num::NonZeroUsize;
 
@@ -22,8 +22,9 @@ pub fn parted<
 >(alloc: Global, source: S, f: F, other: O, n: NonZeroUsize) -> Result<(R, Q), AllocError>
     requires ends { IsFiniteIterable S.into_iter_gives S.IntoIter.can_next S.IntoIter.remaining
         source }
-    requires other_ends { IsFiniteIterable O.into_iter_gives O.IntoIter.can_next
-        O.IntoIter.remaining other }
+    requires other_ends { (others : O.IntoNEIter) → O.into_nonempty_iter_gives other others
+        → IsFiniteIterable O.IntoNEIter.into_iter_gives O.IntoNEIter.IntoIter.can_next
+        O.IntoNEIter.IntoIter.remaining others }
     requires callable { (it : S.IntoIter) → S.into_iter_gives source it
         → CallableOnAll S.IntoIter.next_gives F.FnMut it f }
     ensures { IfOk result (IsParted (⟦<S as ItemSource>⟧.reads) F.FnMut

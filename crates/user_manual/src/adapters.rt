@@ -2,7 +2,8 @@
 ghost use Rattle.std.specs.Prelude.{◌≡◌, ◌+◌, ◌*◌, ◌/◌, ◌%◌, ◌^◌, ◌<◌, ◌∷◌, [], map, IfOk};
 ghost use Rattle.std.specs.List.{All, flat_map, scan};
 
-use nonempty_collections::{IntoNonEmptyIterator, NEVec, NonEmptyIterator, iter};
+use ne_iter::{IntoNonEmptyIterator, NonEmptyIterator, iter};
+use ne_vec::NEVec;
 use std::alloc::{AllocError, Global};
 
 /// Returns an item, followed by others.

@@ -1,10 +1,11 @@
 //! Chains of several adapters, one after another.
-ghost use Rattle.std.specs.Prelude.{◌≡◌, ◌/◌, ◌%◌, ◌+◌, ◌<◌, ◌≤◌, ◌^◌, ◌++◌, ◌∷◌, map, filter};
-ghost use Rattle.std.specs.Prelude.{take, IfOk, OnOk, eqb, ltb, []};
-ghost use Rattle.std.specs.List.{All, enumerate_from, scan, zip};
+ghost use Rattle.std.specs.Prelude.{◌≡◌, ◌/◌, ◌%◌, ◌+◌, ◌<◌, ◌^◌, ◌++◌, map, filter};
+ghost use Rattle.std.specs.Prelude.{take, IfOk, OnOk, eqb, ltb};
+ghost use Rattle.std.specs.List.{enumerate_from, scan, zip};
 ghost use Rattle.std.specs.Int.NonZero.{non_zero_usize_get};
 
-use nonempty_collections::{IntoNonEmptyIterator, NEVec, NonEmptyIterator};
+use ne_iter::{IntoNonEmptyIterator, NonEmptyIterator};
+use ne_vec::NEVec;
 use std::alloc::{AllocError, Global};
 use std::num::NonZeroUsize;
 
@@ -91,18 +92,6 @@ pub fn at_even_indices(alloc: Global, items: NEVec<u32>) -> Result<Vec<u32>, All
         .collect(alloc)
 }
 
-/// Returns the second parts of the pairs whose first is even, with `filter` and `map`.
-pub fn beside_even(alloc: Global, pairs: NEVec<(u32, u32)>) -> Result<Vec<u32>, AllocError>
-    ensures { IfOk result (λ v.
-        v.items ≡ map (λ p. p.1) (filter (λ p. eqb (p.0 % 2) 0) pairs)) }
-{
-    pairs
-        .into_nonempty_iter()
-        .filter(|p| p.0 % 2 == 0)
-        .map(|p| p.1)
-        .collect(alloc)
-}
-
 /// Returns pairs of an item and a half, with `zip` of a vector and a `map`.
 pub fn items_and_halves(
     alloc: Global,
@@ -115,33 +104,6 @@ pub fn items_and_halves(
         .into_nonempty_iter()
         .zip(others.into_nonempty_iter().map(|x| x / 2))
         .collect(alloc)
-}
-
-/// Returns the first `n` pairs of a half and another item with their indices, with `map`, `zip`,
-/// `enumerate` and `take`.
-pub fn first_numbered_pairs(
-    alloc: Global,
-    items: NEVec<u32>,
-    others: NEVec<u32>,
-    n: NonZeroUsize,
-) -> Result<NEVec<(usize, (u32, u32))>, AllocError>
-    ensures { IfOk result (λ v. v ≡ take (non_zero_usize_get n)
-        (enumerate_from 0 (zip (map (λ x. x / 2) items) others))) }
-{
-    items
-        .into_nonempty_iter()
-        .map(|x| x / 2)
-        .zip(others)
-        .enumerate()
-        .take(n)
-        .collect(alloc)
-}
-
-/// Returns the items of a vector, followed by those of a literal array.
-pub fn with_two_more(alloc: Global, items: NEVec<u32>) -> Result<NEVec<u32>, AllocError>
-    ensures { IfOk result (λ v. v ≡ items ++ 7 ∷ 8 ∷ []) }
-{
-    items.into_nonempty_iter().chain([7, 8]).collect(alloc)
 }
 
 /// Returns the first `n` running sums, with `scan` and `take`.
@@ -161,20 +123,6 @@ pub fn first_running_sums(
         })
         .take(n)
         .collect(alloc)
-}
-
-/// Returns the greatest of what is before each item, which is 0 at first, with `scan` and `max`.
-pub fn greatest_before(items: NEVec<u32>) -> u32
-    ensures { All (λ y. y ≤ result) (scan (λ before x. x) (λ before x. before) 0 items) }
-{
-    items
-        .into_nonempty_iter()
-        .scan(0u32, |state, x| {
-            let before = *state;
-            *state = x;
-            before
-        })
-        .max()
 }
 
 /// Appends the halves of the items, followed by other items, to a list.

@@ -1,6 +1,6 @@
 //! Consumers, and a search in a sorted vector.
 ghost use Rattle.std.specs.Prelude.{◌≡◌, ◌/◌, ◌%◌, ◌+◌, ◌++◌, ◌<◌, ◌≤◌, ◌^◌, map, sum, length, ℕ};
-ghost use Rattle.std.specs.Prelude.{Ok, Err, IfOk, IsPermutation, IsSorted, Some};
+ghost use Rattle.std.specs.Prelude.{Ok, Err, IfOk, IsPermutation, Some};
 ghost use Rattle.std.specs.Prelude.{from_bits, slice_get, take, MatchResult, nat_eq, ltb, cond};
 ghost use Rattle.std.specs.Prelude.{[], ◌∷◌, MatchOption};
 ghost use Rattle.std.specs.List.{All, Contains, filter_map, fold, list_all};
@@ -9,12 +9,13 @@ ghost use lib.Ieee as Ieee;
 ghost use lib.Ieee.{binary64};
 ghost use Rattle.std.specs.Int.NonZero.{non_zero_usize_get};
 ghost use Rattle.std.specs.Ordering.{nat_cmp};
-ghost use Rattle.nonempty_collections.specs.Collected.{IsAllOrErrors, IsSetOf};
-ghost use Rattle.nonempty_collections.specs.Collected.{values_or_first_err};
-ghost use Rattle.nonempty_collections.specs.KeyOrder.{KeepsTies, KeysAscend};
+ghost use Rattle.ne_iter.specs.Collected.{IsAllOrErrors, IsSetOf};
+ghost use Rattle.ne_iter.specs.Collected.{values_or_first_err};
+ghost use Rattle.ne_vec.specs.KeyOrder.{KeepsTies, KeysAscend};
 ghost use Rattle.user_manual.specs.declared.consumers.Fault.TheVariants.{TooGreat, TooLong};
 
-use nonempty_collections::{IntoIteratorExt, IntoNonEmptyIterator, NEVec, NonEmptyIterator};
+use ne_iter::{IntoIteratorExt, IntoNonEmptyIterator, NonEmptyIterator};
+use ne_vec::NEVec;
 use std::alloc::{AllocError, Global};
 use std::collections::HashSet;
 use std::num::NonZeroUsize;
@@ -72,18 +73,6 @@ pub fn how_many_of_both(items: NEVec<u32>, others: NEVec<u32>) -> NonZeroUsize
     ensures { non_zero_usize_get result ≡ length items + length others }
 {
     items.into_nonempty_iter().chain(others).count()
-}
-
-/// Returns the greatest item of two borrowed vectors.
-pub fn greatest_of_two(items: &NEVec<u32>, others: &NEVec<u32>) -> u32
-    ensures among { Contains (items.now ++ others.now) result }
-    ensures bound { All (λ x. x ≤ result) (items.now ++ others.now) }
-{
-    items
-        .nonempty_iter()
-        .chain(others.nonempty_iter())
-        .copied()
-        .max()
 }
 
 /// Returns the items, or the first one that is 10 or more.
@@ -207,12 +196,4 @@ pub fn product_of_floats(numbers: NEVec<f64>) -> f64
         (from_bits binary64 0x3ff0_0000_0000_0000) numbers }
 {
     numbers.into_nonempty_iter().product()
-}
-
-/// Returns the index of an item in a sorted vector, if it is there.
-pub fn place_of(items: &NEVec<u32>, x: u32) -> Result<usize, usize>
-    requires { IsSorted nat_cmp items.now }
-    ensures { IfOk result (λ i. slice_get items.now i ≡ Some x) }
-{
-    items.binary_search(&x)
 }

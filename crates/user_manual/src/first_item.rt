@@ -1,10 +1,11 @@
 //! The first item of a source: whether there is one, and what comes after it.
-ghost use Rattle.std.specs.Prelude.{◌≡◌, ◌+◌, ◌/◌, ◌%◌, ◌^◌, ◌<◌, ◌≤◌, ◌∷◌, [], drop, filter, map};
+ghost use Rattle.std.specs.Prelude.{◌≡◌, ◌+◌, ◌/◌, ◌%◌, ◌^◌, ◌<◌, ◌≤◌, ◌∷◌, [], filter, map};
 ghost use Rattle.std.specs.Prelude.{slice_get, take, true, IfOk, MatchOption, Some, eqb, ltb};
 ghost use Rattle.std.specs.List.{All, Contains, fold, list_all};
 ghost use Rattle.std.specs.Int.NonZero.{non_zero_usize_get};
 
-use nonempty_collections::{IntoIteratorExt, IntoNonEmptyIterator, NEVec, NonEmptyIterator};
+use ne_iter::{IntoIteratorExt, IntoNonEmptyIterator, NonEmptyIterator};
+use ne_vec::NEVec;
 use std::alloc::{AllocError, Global};
 use std::num::NonZeroUsize;
 
@@ -97,17 +98,6 @@ pub fn all_small(items: Vec<u32>) -> bool
     }
 }
 
-/// Returns the greatest half of an item of a vector that may be empty, or `None` if it is.
-pub fn greatest_half_if_any(items: Vec<u32>) -> Option<u32>
-    ensures among { MatchOption result (items.items ≡ [])
-        (λ m. Contains (map (λ x. x / 2) items.items) m) }
-    ensures bound { MatchOption result (items.items ≡ [])
-        (λ m. All (λ x. x ≤ m) (map (λ x. x / 2) items.items)) }
-{
-    let items = NEVec::try_from_vec(items)?;
-    Some(items.into_nonempty_iter().map(|x| x / 2).max())
-}
-
 /// Returns the first `n` items of a vector that may be empty, or `None` if it is.
 pub fn first_items_if_any(
     alloc: Global,
@@ -129,16 +119,4 @@ pub fn first_half_and_rest(alloc: Global, items: NEVec<u32>) -> Result<(u32, Vec
 {
     let (first, rest) = items.into_nonempty_iter().map(|x| x / 2).next();
     Ok((first, rest.collect(alloc)?))
-}
-
-/// Returns half of each item but the first.
-pub fn other_halves(alloc: Global, items: NEVec<u32>) -> Result<Vec<u32>, AllocError>
-    ensures { IfOk result (λ v. v.items ≡ map (λ x. x / 2) (drop 1 items)) }
-{
-    items
-        .into_nonempty_iter()
-        .next()
-        .1
-        .map(|x| x / 2)
-        .collect(alloc)
 }

@@ -1,12 +1,13 @@
 //! Functions over sources of any type, and callers that pass vectors and chains.
-ghost use Rattle.std.specs.Prelude.{◌≡◌, ◌<◌, ◌/◌, ◌^◌, ℕ, List, IfOk, length, map, string_bytes};
+ghost use Rattle.std.specs.Prelude.{◌≡◌, ◌<◌, ◌/◌, ◌^◌, ℕ, List, IfOk, length, map};
 ghost use Rattle.std.specs.Borrow.{Bor};
 ghost use Rattle.std.specs.Iterator.{size};
 ghost use Rattle.std.specs.Prelude.{◌+◌, ◌%◌};
-ghost use Rattle.std.specs.List.{enumerate_from, flat_map, fold};
+ghost use Rattle.std.specs.List.{enumerate_from, fold};
 
-use nonempty_collections::iter::ItemSource;
-use nonempty_collections::{IntoNonEmptyIterator, NEVec, NonEmptyIterator};
+use ne_iter::iter::ItemSource;
+use ne_iter::{IntoNonEmptyIterator, NonEmptyIterator};
+use ne_vec::NEVec;
 use std::alloc::{AllocError, Global};
 
 /// Returns the items with their indices, which must fit in a `usize`.
@@ -44,14 +45,6 @@ pub fn number_of<S: NonEmptyIterator<Item = u32>>(source: S) -> usize
     source.count().get()
 }
 
-/// Returns the number of items of a vector.
-pub fn number_of_items(items: NEVec<u32>) -> usize
-    requires { length items < 2 ^ 64 }
-    ensures { result ≡ length items }
-{
-    number_of(items.into_nonempty_iter())
-}
-
 /// Returns the lengths of texts.
 pub fn lengths_of<'a, S: NonEmptyIterator<Item = &'a str>>(
     alloc: Global,
@@ -62,32 +55,6 @@ pub fn lengths_of<'a, S: NonEmptyIterator<Item = &'a str>>(
         → v ≡ map (λ t. length t.now) ts) }
 {
     texts.map(|t| t.len()).collect(alloc)
-}
-
-/// Returns the lengths of the texts of a vector.
-pub fn lengths_of_texts(alloc: Global, texts: NEVec<&str>) -> Result<NEVec<usize>, AllocError>
-    ensures { IfOk result (λ v. v ≡ map (λ t. length t.now) texts.entry) }
-{
-    lengths_of(alloc, texts.into_nonempty_iter())
-}
-
-/// Returns the texts as one.
-pub fn as_one_text<'a, S: NonEmptyIterator<Item = &'a str>>(
-    alloc: Global,
-    texts: S,
-) -> Result<String, AllocError>
-    requires { ⟦<S as ItemSource>⟧.ends texts }
-    ensures { IfOk result (λ text. (ts : List (Bor (List ℕ))) → ⟦<S as ItemSource>⟧.listed texts ts
-        → string_bytes text ≡ flat_map (λ t. t.now) ts) }
-{
-    texts.collect(alloc)
-}
-
-/// Returns the texts of a vector as one.
-pub fn all_as_one_text(alloc: Global, texts: &NEVec<&str>) -> Result<String, AllocError>
-    ensures { IfOk result (λ text. string_bytes text ≡ flat_map (λ t. t.now) texts.entry.now) }
-{
-    as_one_text(alloc, texts.nonempty_iter().copied())
 }
 
 /// Returns half of each item of a value that becomes a source.
@@ -104,13 +71,6 @@ pub fn halves_of<V: IntoNonEmptyIterator<Item = u32>>(
     items.into_nonempty_iter().map(|x| x / 2).collect(alloc)
 }
 
-/// Returns half of each item of a vector.
-pub fn halves_of_vector(alloc: Global, items: NEVec<u32>) -> Result<NEVec<u32>, AllocError>
-    ensures { IfOk result (λ v. v ≡ map (λ x. x / 2) items) }
-{
-    halves_of(alloc, items)
-}
-
 /// Returns the sum of a value's items, modulo 2 ^ 32, by a fold.
 pub fn wrapping_sum_of<V: IntoNonEmptyIterator<Item = u32>>(items: V) -> u32
     requires { (s : V.IntoNEIter) → V.into_nonempty_iter_gives items s
@@ -122,11 +82,4 @@ pub fn wrapping_sum_of<V: IntoNonEmptyIterator<Item = u32>>(items: V) -> u32
     items
         .into_nonempty_iter()
         .fold(0, |sum: u32, x| sum.wrapping_add(x))
-}
-
-/// Returns the sum of a vector's items, modulo 2 ^ 32.
-pub fn wrapping_sum_of_vector(items: NEVec<u32>) -> u32
-    ensures { result ≡ fold (λ sum x. (sum + x) % 2 ^ 32) 0 items }
-{
-    wrapping_sum_of(items)
 }

@@ -1,11 +1,11 @@
 //! What is proved in place of chains that are not proved automatically.
-ghost use Rattle.std.specs.Prelude.{◌≡◌, ◌/◌, ◌%◌, ◌∷◌, ◌≤◌, [], cond, filter, ltb, map, IfOk};
+ghost use Rattle.std.specs.Prelude.{◌≡◌, ◌/◌, ◌%◌, ◌∷◌, ◌≤◌, [], filter, ltb, map, IfOk};
 ghost use Rattle.std.specs.Prelude.{MatchOption, None, Some};
-ghost use Rattle.std.specs.List.{All, Contains, enumerate_from, filter_map, flat_map, zip};
-ghost use Rattle.nonempty_collections.specs.Consumers.{IsFirstGreatest};
+ghost use Rattle.std.specs.List.{All, Contains, enumerate_from, flat_map};
+ghost use Rattle.ne_iter.specs.Consumers.{IsFirstGreatest};
 
-use crate::references::Sale;
-use nonempty_collections::{IntoNonEmptyIterator, NEVec, NonEmptyIterator, iter};
+use ne_iter::{IntoNonEmptyIterator, NonEmptyIterator, iter};
+use ne_vec::NEVec;
 use std::alloc::{AllocError, Global};
 
 /// Returns the first of the greatest items, with its index: `max_by` for `max_by_key` above an
@@ -35,28 +35,6 @@ pub fn greatest_of_all(x: u32, items: NEVec<u32>) -> u32
     ensures bound { All (λ y. y ≤ result) (x ∷ items) }
 {
     iter::once(x).chain(items.into_nonempty_iter()).max()
-}
-
-/// Returns the buyers of what costs less than what is sold beside it: `filter_map` for `filter` and
-/// `map`.
-pub fn buyers_of_cheaper(
-    alloc: Global,
-    sales: &NEVec<Sale>,
-    others: &NEVec<Sale>,
-) -> Result<Vec<u32>, AllocError>
-    ensures { IfOk result (λ v. v.items
-        ≡ filter_map (λ p. cond (ltb p.0.price p.1.price) (Some p.0.buyer) None)
-        (zip sales.now others.now)) }
-{
-    sales
-        .nonempty_iter()
-        .zip(others.nonempty_iter())
-        .filter_map(|p| if p.0.price < p.1.price {
-            Some(p.0.buyer)
-        } else {
-            None
-        })
-        .collect(alloc)
 }
 
 /// Returns half of each item below 10, or `None` if there is none: `NEVec::try_from_vec` of what is

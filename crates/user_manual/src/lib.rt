@@ -1,11 +1,13 @@
-//! Functions that use chains, as a user writes them: the manual of the library in code.
+//! Functions over vectors and chains, as a user writes them: the manual of the library in code.
+//! Chains over references and texts, and runs, are in `user_references`, maps in `user_maps`,
+//! queues in `user_queues`.
 //!
-//! They show more than the examples in comments do (`user_examples`): chains, references, texts,
-//! sources of any type, and vectors, maps and sets in general. They are proved from the public
-//! contracts of what they call. Five have proof files: `pairs_of_any_sources`, which calls two
-//! laws, and `how_many_small`, `chunk_vectors`, `totals` and `totals_by_customer`, for their loops.
-//! `total_of_few` and two functions of `runs` call a law too. Most ensure the exact result. If less
-//! is proved today, as of `unzip` of texts, the function ensures that.
+//! They show more than the examples in comments do (`user_examples`), and are proved from the
+//! public contracts of what they call. Two have proof files: `pairs_of_any_sources`, which calls
+//! two laws, and `how_many_small`, for its loop. Most ensure the exact result.
+//!
+//! The manual imports from the crates below the facade, so that a change of a map does not prove it
+//! again; code over the facade imports the same from `nonempty_collections`.
 #![tactic(auto)]
 
 pub mod adapters;
@@ -14,16 +16,7 @@ pub mod consumers;
 pub mod first_item;
 pub mod generic;
 pub mod instead;
-pub mod joins;
-pub mod keyed;
 pub mod loops;
-pub mod mixed;
-pub mod nested;
-pub mod parts;
-pub mod recipes;
-pub mod references;
-pub mod runs;
 pub mod sources;
 pub mod start;
-pub mod texts;
 pub mod vectors;

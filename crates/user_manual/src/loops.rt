@@ -1,7 +1,7 @@
 //! A loop that counts.
 ghost use Rattle.std.specs.Prelude.{◌≡◌, filter, length, ltb};
 
-use nonempty_collections::NEVec;
+use ne_vec::NEVec;
 use std::convert::AsSlice;
 
 /// Returns how many items are less than 10.

@@ -1,15 +1,17 @@
 //! Kinds of source, collected. Only `pairs_of_any_sources`, which is generic in its sources, calls
 //! laws and has a stored proof.
 ghost use Rattle.std.specs.Prelude.{◌≡◌, ◌/◌, ℕ, List, IfOk, Ok, map};
-ghost use Rattle.nonempty_collections.specs.Sources.{ReadsList};
-ghost use Rattle.nonempty_collections.specs.Pairs.{cartesian_product};
-ghost use Rattle.nonempty_collections.specs.Restarts.{ClonesAgain, NeverRefuses};
-ghost use Rattle.nonempty_collections.specs.Sides.{by_side};
+ghost use Rattle.ne_iter.specs.Sources.{ReadsList};
+ghost use Rattle.ne_products.specs.Pairs.{cartesian_product};
+ghost use Rattle.ne_products.specs.Restarts.{ClonesAgain, NeverRefuses};
+ghost use Rattle.ne_products.specs.Sides.{by_side};
 
-use nonempty_collections::iter::ItemSource;
-use nonempty_collections::{
-    IntoNonEmptyIterator, NEEither, NESlice, NEVec, NonEmptyIterator, NonEmptyItertools, iter, laws,
-};
+use ne_iter::iter::ItemSource;
+use ne_iter::laws::lists_are_read_whole;
+use ne_iter::{IntoNonEmptyIterator, NonEmptyIterator};
+use ne_products::laws::list_of_cartesian_product;
+use ne_products::{NEEither, NonEmptyItertools};
+use ne_vec::{NESlice, NEVec};
 use std::alloc::{AllocError, Global};
 
 /// Returns the items of an array, by reference.
@@ -17,14 +19,6 @@ pub fn of_an_array_reference(alloc: Global, items: &[u32; 3]) -> Result<NEVec<u3
     ensures { IfOk result (λ v. v ≡ items.now) }
 {
     items.into_nonempty_iter().copied().collect(alloc)
-}
-
-/// Returns the first item, followed by the others.
-pub fn of_first_and_rest(alloc: Global, items: NEVec<u32>) -> Result<NEVec<u32>, AllocError>
-    ensures { IfOk result (λ v. v ≡ items) }
-{
-    let (first, rest) = items.into_nonempty_iter().next();
-    iter::once(first).chain(rest).collect(alloc)
 }
 
 /// Returns the items of a slice that is passed by value.
@@ -67,8 +61,8 @@ where
         → ReadsList (⟦<U as ItemSource>⟧.reads) columns ys
         → v ≡ map Ok (cartesian_product xs ys)) }
 {
-    laws::list_of_cartesian_product(&rows, &columns);
+    list_of_cartesian_product(&rows, &columns);
     let product = rows.cartesian_product(columns);
-    laws::lists_are_read_whole(&product);
+    lists_are_read_whole(&product);
     product.collect(alloc)
 }

@@ -1,7 +1,8 @@
 //! The README's example: a queue and a chain.
 ghost use Rattle.std.specs.Prelude.{◌≡◌, ◌/◌, map, IfOk};
 
-use nonempty_collections::{IntoNonEmptyIterator, NEVec, NonEmptyIterator};
+use ne_iter::{IntoNonEmptyIterator, NonEmptyIterator};
+use ne_vec::NEVec;
 use std::alloc::{AllocError, Global};
 
 /// Returns the job that was added last.

@@ -3,10 +3,10 @@ ghost use Rattle.std.specs.Prelude.{◌≡◌, ◌≢◌, ◌/◌, [], All, Cont
 ghost use Rattle.std.specs.Prelude.{MatchResult, Some, filter, ltb, map, nat_eq, slice_get};
 ghost use Rattle.std.specs.Prelude.{◌<◌, ℕ, length};
 ghost use Rattle.std.specs.Ordering.{nat_cmp};
-ghost use Rattle.nonempty_collections.specs.Divisions.{by_first, heads, runs_of};
-ghost use Rattle.nonempty_collections.specs.KeyOrder.{KeysAscend};
+ghost use Rattle.ne_vec.specs.Divisions.{by_first, heads, runs_of};
+ghost use Rattle.ne_vec.specs.KeyOrder.{KeysAscend};
 
-use nonempty_collections::NEVec;
+use ne_vec::NEVec;
 use std::alloc::AllocError;
 
 /// A part of an order.

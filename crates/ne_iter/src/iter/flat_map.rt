@@ -20,8 +20,7 @@ pub struct FlatMap<I, U, F> {
     pub(super) of: PhantomData<U>,
 }
 
-impl<U: IntoNonEmptyIterator, I: IntoIterator, F: FnMut(I::Item) -> U> IntoIterator
-    for FlatMap<I, U, F> {
+impl<U: IntoIterator, I: IntoIterator, F: FnMut(I::Item) -> U> IntoIterator for FlatMap<I, U, F> {
     ghost use Rattle.std.specs.Prelude.{◌≡◌, None, false};
     ghost use Rattle.std.specs.Iterator.Adapters.{map_source as std_map_source};
     ghost use Rattle.std.specs.Iterator.Adapters.{map_callee as std_map_callee};
@@ -66,7 +65,7 @@ impl<U: IntoNonEmptyIterator, I: NonEmptyIterator, F: FnMut(I::Item) -> U> NonEm
 
 /// `flat_map` ends if its source does, its closure can be called with each item that comes, and the
 /// sources that it returns for them end.
-pub fn flat_map_ends<S: IntoIterator, U: IntoNonEmptyIterator, F: FnMut(S::Item) -> U>()
+pub fn flat_map_ends<S: IntoIterator, U: IntoIterator, F: FnMut(S::Item) -> U>()
     ensures { (spread : _) → ⟦<S as ItemSource>⟧.ends (flat_map_source spread)
         → ((it : S.IntoIter) → S.into_iter_gives (flat_map_source spread) it
         → CallableOnAll S.IntoIter.next_gives F.FnMut it (flat_map_callee spread))

@@ -12,7 +12,7 @@ pub struct Flatten<I> {
     pub(super) iter: I,
 }
 
-impl<U: IntoNonEmptyIterator, I: IntoIterator<Item = U>> IntoIterator for Flatten<I> {
+impl<U: IntoIterator, I: IntoIterator<Item = U>> IntoIterator for Flatten<I> {
     ghost use Rattle.std.specs.Prelude.{◌≡◌, None, false};
     ghost use Rattle.std.specs.Iterator.Adapters.{flatten_source as std_flatten_source};
     ghost use Rattle.std.specs.Iterator.Adapters.{flatten_front, flatten_back, flatten_done};
@@ -45,7 +45,7 @@ impl<U: IntoNonEmptyIterator, I: NonEmptyIterator<Item = U>> NonEmptyIterator fo
 }
 
 /// `flatten` ends if its source does and so do the inner sources that come.
-pub fn flatten_ends<U: IntoNonEmptyIterator, S: IntoIterator<Item = U>>()
+pub fn flatten_ends<U: IntoIterator, S: IntoIterator<Item = U>>()
     ensures { (flat : _) → ⟦<S as ItemSource>⟧.ends (flatten_source flat)
         → ((it : S.IntoIter) → S.into_iter_gives (flatten_source flat) it
         → InnersAreFinite S.IntoIter.next_gives U.into_iter_gives U.IntoIter.can_next

@@ -1145,21 +1145,25 @@ pub trait NonEmptyIterator: IntoIterator {
     /// let items = items.nonempty_iter().copied();
     /// let pairs = items.zip(others.nonempty_iter().copied()); // (7, 1) and (8, 2)
     /// ```
-    final fn zip<U: IntoNonEmptyIterator>(self, other: U) -> Zip<Self, U>
+    final fn zip<U: IntoNonEmptyIterator>(self, other: U) -> Zip<Self, U::IntoNEIter>
     where
         Self: Sized,
         Self::Item: Drop,
-        ensures holds { (zip_first result ≡ self) × (zip_second result ≡ other) }
-        ensures gives { EachReading (⟦<Zip<Self, U> as ItemSource>⟧.reads) result
+        ensures holds { (zip_first result ≡ self)
+            × U.into_nonempty_iter_gives other (zip_second result) }
+        ensures gives { EachReading (⟦<Zip<Self, U::IntoNEIter> as ItemSource>⟧.reads) result
             (IsZipped (⟦<Self as ItemSource>⟧.reads) (⟦<U as ItemSource>⟧.reads) self other) }
         ensures lists { ZipsLists item_view U.IntoNEIter.item_view
             (⟦<Self as ItemSource>⟧.lists) (⟦<U as ItemSource>⟧.lists)
             (BecomesList U.into_nonempty_iter_gives U.IntoNEIter.into_iter_gives
             U.IntoNEIter.IntoIter.next_gives)
-            (⟦<Zip<Self, U> as ItemSource>⟧.yields_items)
-            (⟦<Zip<Self, U> as ItemSource>⟧.yields_through) self other result }
+            (⟦<Zip<Self, U::IntoNEIter> as ItemSource>⟧.yields_items)
+            (⟦<Zip<Self, U::IntoNEIter> as ItemSource>⟧.yields_through) self other result }
     {
-        Zip { a: self, b: other }
+        Zip {
+            a: self,
+            b: other.into_nonempty_iter(),
+        }
     }
 
     /// Returns two collections: one of the first parts of the items, one of the second parts. Each

@@ -1,7 +1,7 @@
 //! The adapter that pairs the items of two sources.
 ghost use Rattle.ne_iter.specs.Zip.{zip_first, zip_second};
 
-use super::{IntoNonEmptyIterator, ItemSource, NonEmptyIterator};
+use super::{ItemSource, NonEmptyIterator};
 use std::iter;
 
 /// A source of pairs of an item of one source and an item of another: see
@@ -12,7 +12,7 @@ pub struct Zip<A, B> {
     pub(super) b: B,
 }
 
-impl<A: IntoIterator, B: IntoNonEmptyIterator> IntoIterator for Zip<A, B>
+impl<A: IntoIterator, B: IntoIterator> IntoIterator for Zip<A, B>
 where
     A::Item: Drop,
 {
@@ -32,7 +32,7 @@ where
     }
 }
 
-impl<A: NonEmptyIterator, B: IntoNonEmptyIterator> NonEmptyIterator for Zip<A, B>
+impl<A: NonEmptyIterator, B: NonEmptyIterator> NonEmptyIterator for Zip<A, B>
 where
     A::Item: Drop,
 {
@@ -40,19 +40,16 @@ where
     ghost use Rattle.std.specs.Iterator.Adapters.{zip_second as std_zip_second};
     ghost use Rattle.ne_vec.specs.Lists.{in_pairs};
     ghost use Rattle.ne_iter.specs.Zip.{zip_first, zip_second, HasFirst-zip};
-    ghost use Rattle.ne_iter.specs.SourceLaws.{IsNonEmpty-into};
 
-    ghost item_view = { in_pairs A.item_view B.IntoNEIter.item_view };
+    ghost item_view = { in_pairs A.item_view B.item_view };
 
     ghost not_empty = { λ s it made. HasFirst-zip A.IntoIter.next_gives B.IntoIter.next_gives it
         (A.not_empty (zip_first s) (std_zip_first it) made.0)
-        (IsNonEmpty-into B.into_iter_gives B.IntoIter.next_gives B.into_nonempty_iter_gives
-        B.IntoNEIter.into_iter_gives B.IntoNEIter.IntoIter.next_gives B.same_lists
-        B.IntoNEIter.not_empty (zip_second s) (std_zip_second it) made.1) };
+        (B.not_empty (zip_second s) (std_zip_second it) made.1) };
 }
 
 /// `zip` ends if both its sources do.
-pub fn zip_ends<S: IntoIterator, U: IntoNonEmptyIterator>()
+pub fn zip_ends<S: IntoIterator, U: IntoIterator>()
 where
     S::Item: Drop,
     ensures { (zipped : _) → ⟦<S as ItemSource>⟧.ends (zip_first zipped)

@@ -1,5 +1,5 @@
 //! Readers and writers in memory that move a few bytes per call, and fail when they are told to.
-ghost use Rattle.std.specs.Prelude.{◌≡◌, None, Some, false};
+ghost use Rattle.std.specs.Prelude.{◌≡◌, Some, false};
 
 use crate::device::{Sink, Source};
 use std::alloc::Global;
@@ -44,29 +44,6 @@ impl Source for Script<'_> {
         buffer[..count].copy_from_slice(prefix);
         self.rest = rest;
         Ok(count)
-    }
-}
-
-/// Gives `1` forever, one byte per turn.
-#[derive(Drop)]
-pub struct Endless {
-    pub turns: usize,
-}
-
-impl Source for Endless {
-    ghost left = { λ _. None };
-
-    ghost has_failed = { λ _. false };
-
-    fn read(&mut self, buffer: &mut [u8]) -> Result<usize, ()> {
-        self.turns = self.turns.saturating_add(1);
-        match buffer {
-            [] => Ok(0),
-            [first, ..] => {
-                *first = b'1';
-                Ok(1)
-            }
-        }
     }
 }
 
@@ -126,46 +103,13 @@ impl Sink for Tape {
     }
 }
 
-/// A writer of std that takes nothing.
-#[derive(Drop)]
-pub struct Closed;
-
-impl io::Write for Closed {
-    fn write(&mut self, _text: &[u8]) -> io::Result<usize> {
-        Ok(0)
-    }
-
-    fn flush(&mut self) -> io::Result<()> {
-        Ok(())
-    }
-}
-
-/// A writer of std that takes everything, or fails if it is told to. It counts its flushes, which
-/// fail.
-#[derive(Drop)]
-pub struct Clogged {
-    pub write_fails: bool,
-    pub flushes: usize,
-}
-
-impl io::Write for Clogged {
-    fn write(&mut self, text: &[u8]) -> io::Result<usize> {
-        if self.write_fails {
-            return Err(io::Error::from(io::ErrorKind::Other));
-        }
-        Ok(text.len())
-    }
-
-    fn flush(&mut self) -> io::Result<()> {
-        self.flushes = self.flushes.saturating_add(1);
-        Err(io::Error::from(io::ErrorKind::Other))
-    }
-}
-
-/// A reader of std that gives a line, and then fails.
+/// A reader and a writer of std. It gives a line, and then its reads fail. It takes everything, or
+/// fails if it is told to, and it counts its flushes, which fail.
 #[derive(Drop)]
 pub struct Broken {
     pub line: &'static [u8],
+    pub write_fails: bool,
+    pub flushes: usize,
 }
 
 impl io::Read for Broken {
@@ -178,5 +122,19 @@ impl io::Read for Broken {
         buffer[..count].copy_from_slice(prefix);
         self.line = rest;
         Ok(count)
+    }
+}
+
+impl io::Write for Broken {
+    fn write(&mut self, text: &[u8]) -> io::Result<usize> {
+        if self.write_fails {
+            return Err(io::Error::from(io::ErrorKind::Other));
+        }
+        Ok(text.len())
+    }
+
+    fn flush(&mut self) -> io::Result<()> {
+        self.flushes = self.flushes.saturating_add(1);
+        Err(io::Error::from(io::ErrorKind::Other))
     }
 }

@@ -1,27 +1,26 @@
 //! Products and distinct items: what was taken is dropped once if an allocation fails.
 
-use super::owners::{Owner, one_more, owned, token};
-use super::tables::{Items, item};
-use super::{holds, is, report};
+use super::owners::{Items, Owner, item, one_more, owned, token};
+use super::{holds, report, tell};
 use nonempty_collections::iter::once;
 use nonempty_collections::{IntoNonEmptyIterator, NonEmptyIterator, NonEmptyItertools};
 use std::cell::Cell;
 use std::test::Fail;
 
-// Ten items, and one of them again: the set of the items seen so far is made for the first, and
-// grows for the tenth.
+// Item 10, nine others, and item 10 again: the set of the items seen so far is made for the first,
+// and grows for the tenth.
 #[test]
 fn all_unique(rt: HostRuntime) -> Result<(), Fail> {
     let call = "NonEmptyItertools::all_unique";
     let Ok(token) = token(rt.alloc()) else {
         return report(&rt, "not reached", call);
     };
-    let source = once(item(rt.alloc(), &token, 1)?).chain(Items::new(rt.alloc(), &token, 2, 9));
-    let source = source.chain([item(rt.alloc(), &token, 1)?]);
+    let mut rest = Items::new(rt.alloc(), &token, 1, 10);
+    rest.hint = 0;
+    let source = once(item(rt.alloc(), &token, 10)?).chain(rest);
     let result = source.all_unique(rt.alloc());
     owned(call, &token, 0)?;
-    holds(call, !result.unwrap_or(false))?;
-    report(&rt, if result.is_ok() { "made" } else { "refused" }, call)
+    tell(&rt, call, result.is_ok(), !result.unwrap_or(false))
 }
 
 // How many pairs come, at most four, whether an `Err` comes after them, and whether `None` does.
@@ -60,10 +59,9 @@ fn cartesian_product(rt: HostRuntime) -> Result<(), Fail> {
     let mut pairs = rows.cartesian_product(&[5u32, 6]).into_iter();
     let (count, is_refused, is_over) = drawn!(pairs);
     drop(pairs);
-    is(call, draws.get() as usize, if count < 2 { 1 } else { 2 })?;
-    holds(call, is_over && is_refused == (count < 4))?;
     owned(call, &token, 0)?;
-    report(&rt, if is_refused { "refused" } else { "made" }, call)
+    holds(call, draws.get() == if count < 2 { 1 } else { 2 })?;
+    tell(&rt, call, !is_refused, is_over && is_refused == (count < 4))
 }
 
 // Three rows of one pair. The iterator of the right side is cloned when the product becomes an
@@ -83,11 +81,8 @@ fn right_side(rt: HostRuntime) -> Result<(), Fail> {
     let mut pairs = rows.cartesian_product(right).into_iter();
     let (count, is_refused, is_over) = drawn!(pairs);
     drop(pairs);
-    let wanted = [0, 2, 3, 3].get(count as usize).copied();
-    holds(
-        call,
-        wanted == Some(draws.get()) && is_over && is_refused == (count < 3),
-    )?;
     owned(call, &token, 0)?;
-    report(&rt, if is_refused { "refused" } else { "made" }, call)
+    let wanted = [0, 2, 3, 3].get(count as usize).copied();
+    holds(call, wanted == Some(draws.get()))?;
+    tell(&rt, call, !is_refused, is_over && is_refused == (count < 3))
 }

@@ -1,8 +1,8 @@
 //! The calls that sort, which allocate for more than twenty items.
 
-use super::{leaves, report};
+use super::{report, tell};
 use nonempty_collections::NEVec;
-use std::alloc::Global;
+use std::convert::AsSlice;
 use std::test::Fail;
 
 // Twenty-one items, in falling order.
@@ -19,40 +19,33 @@ const BY_HALVES: [u32; 21] = [
     1, 0, 3, 2, 5, 4, 7, 6, 9, 8, 11, 10, 13, 12, 15, 14, 17, 16, 19, 18, 20,
 ];
 
-fn of(alloc: Global, items: &[u32]) -> Option<NEVec<u32>> {
-    NEVec::try_from_slice(alloc, items).ok().flatten()
+#[derive(Clone, Copy)]
+enum Sort {
+    Rising,
+    Falling,
+    ByHalves,
 }
 
 #[test]
-fn sort(rt: HostRuntime) -> Result<(), Fail> {
-    let Some(mut items) = of(rt.alloc(), &BY_HALVES) else {
-        return report(&rt, "not reached", "NEVec::sort");
-    };
-    let result = items.sort();
-    leaves(&rt, "NEVec::sort", result, &items, &BY_HALVES, &RISING)
-}
-
-#[test]
-fn sort_by(rt: HostRuntime) -> Result<(), Fail> {
-    let Some(mut items) = of(rt.alloc(), &BY_HALVES) else {
-        return report(&rt, "not reached", "NEVec::sort_by");
-    };
-    let result = items.sort_by(|a, b| b.cmp(a));
-    leaves(&rt, "NEVec::sort_by", result, &items, &BY_HALVES, &FALLING)
-}
-
-#[test]
-fn sort_by_key(rt: HostRuntime) -> Result<(), Fail> {
-    let Some(mut items) = of(rt.alloc(), &FALLING) else {
-        return report(&rt, "not reached", "NEVec::sort_by_key");
-    };
-    let result = items.sort_by_key(|x| *x / 2);
-    leaves(
-        &rt,
-        "NEVec::sort_by_key",
-        result,
-        &items,
-        &FALLING,
-        &BY_HALVES,
-    )
+fn sorts(rt: HostRuntime) -> Result<(), Fail> {
+    let rows: [(&str, Sort, &[u32], &[u32]); 3] = [
+        ("NEVec::sort", Sort::Rising, &BY_HALVES, &RISING),
+        ("NEVec::sort_by", Sort::Falling, &BY_HALVES, &FALLING),
+        ("NEVec::sort_by_key", Sort::ByHalves, &FALLING, &BY_HALVES),
+    ];
+    for (call, sort, before, after) in rows {
+        let Ok(Some(mut items)) = NEVec::try_from_slice(rt.alloc(), before) else {
+            report(&rt, "not reached", call)?;
+            continue;
+        };
+        let result = match sort {
+            Sort::Rising => items.sort(),
+            Sort::Falling => items.sort_by(|a, b| b.cmp(a)),
+            Sort::ByHalves => items.sort_by_key(|x| *x / 2),
+        };
+        let is_made = result.is_ok();
+        let wanted = if is_made { after } else { before };
+        tell(&rt, call, is_made, items.as_slice() == wanted)?;
+    }
+    Ok(())
 }

@@ -1,22 +1,15 @@
-//! The methods of sources that allocate.
+//! The methods of sources that allocate. Their items own a token, which shows whether each is
+//! dropped once.
 
-use super::owners::{Key, Owner, owned, token};
-use super::tables::{Item, Items, item};
-use super::{Countdown, gives, holds, report};
+use super::owners::{Checked, Item, Items, Key, Owner, are, item, owned, token};
+use super::{holds, report, tell};
 use nonempty_collections::iter::{Chain, ItemSource, Once, once};
-use nonempty_collections::{NEVec, NonEmptyArrayExt, NonEmptyIterator};
+use nonempty_collections::{NEVec, NonEmptyIterator};
 use std::alloc::{AllocError, Global};
+use std::convert::AsSlice;
+use std::num::NonZeroUsize;
 use std::rc::Rc;
 use std::test::Fail;
-
-// The vector grows twice, for the first item and for the fifth.
-#[test]
-fn collect(rt: HostRuntime) -> Result<(), Fail> {
-    let source = once(5).chain(Countdown(5));
-    let result: Result<NEVec<u32>, AllocError> = source.collect(rt.alloc());
-    let call = "NonEmptyIterator::collect";
-    gives(&rt, call, result, &[5, 4, 3, 2, 1, 0])
-}
 
 // The items from this number on, `more` of them after the first. Each growth of a vector of them is
 // one request.
@@ -26,9 +19,26 @@ fn items<'a>(
     first: u32,
     more: u32,
 ) -> Result<Chain<Once<Item>, Items<'a>>, AllocError> {
-    let mut rest = Items::new(alloc, token, first.wrapping_add(1), more);
-    rest.hint = usize::MAX;
+    let rest = Items::new(alloc, token, first.wrapping_add(1), more);
     Ok(once(item(alloc, token, first)?).chain(rest))
+}
+
+// The vector grows twice, for the first item and for the fifth.
+#[test]
+fn collect(rt: HostRuntime) -> Result<(), Fail> {
+    let call = "NonEmptyIterator::collect";
+    let Ok(token) = token(rt.alloc()) else {
+        return report(&rt, "not reached", call);
+    };
+    let result: Result<NEVec<Item>, AllocError> = items(rt.alloc(), &token, 1, 5)?.collect(
+        rt.alloc(),
+    );
+    let Ok(made) = result else {
+        owned(call, &token, 0)?;
+        return report(&rt, "refused", call);
+    };
+    owned(call, &token, 12)?;
+    tell(&rt, call, true, are(made.as_slice(), &[1, 2, 3, 4, 5, 6]))
 }
 
 // Twenty-one items: the vector grows four times, and the sort allocates too. Of two items with the
@@ -49,7 +59,12 @@ fn sorted_by_key(rt: HostRuntime) -> Result<(), Fail> {
         19, 20, 17, 18, 15, 16, 13, 14, 11, 12, 9, 10, 7, 8, 5, 6, 3, 4, 1, 2, 0,
     ];
     owned(call, &token, 42)?;
-    holds(call, sorted.into_iter().map(|it| it.0.0).eq(by_halves))?;
+    let mut count = 0usize;
+    for it in sorted {
+        holds(call, by_halves.get(count) == Some(&it.0.0))?;
+        count = count.wrapping_add(1);
+    }
+    holds(call, count == 21)?;
     owned(call, &token, 0)?;
     report(&rt, "made", call)
 }
@@ -65,45 +80,39 @@ fn appended<S: NonEmptyIterator<Item = Item>>(
 ) -> Result<(), Fail>
     requires { ⟦<S as ItemSource>⟧.ends source }
 {
+    let numbers = [
+        0, 1, 2, 3, 4, 5, 6, 7, 8, 9, 10, 11, 12, 13, 14, 15, 16, 17, 18, 19, 20,
+    ];
     let mut all = Vec::new(alloc);
-    let made = source.append_to(alloc, &mut all).is_ok();
+    let is_made = source.append_to(alloc, &mut all).is_ok();
     let len = all.len();
     owned(call, token, len.wrapping_mul(2))?;
-    holds(call, all.iter().zip(0u32..21).all(|(it, i)| it.0.0 == i))?;
-    holds(call, made == (len == 21))?;
+    holds(call, is_made == (len == 21))?;
+    holds(call, are(all.as_slice(), numbers.get(..len).unwrap_or(&[])))?;
     drop(all);
     owned(call, token, 0)?;
-    report(rt, if made { "made" } else { "refused" }, call)
+    report(rt, if is_made { "made" } else { "refused" }, call)
 }
 
 #[test]
 fn append_to(rt: HostRuntime) -> Result<(), Fail> {
-    let call = "NonEmptyIterator::append_to";
-    let Ok(token) = token(rt.alloc()) else {
-        return report(&rt, "not reached", call);
+    let alloc = rt.alloc();
+    let calls = [
+        "NonEmptyIterator::append_to",
+        "Chain::append_to",
+        "Peekable::append_to",
+    ];
+    let Ok(token) = token(alloc) else {
+        for call in calls {
+            report(&rt, "not reached", call)?;
+        }
+        return Ok(());
     };
-    let source = items(rt.alloc(), &token, 0, 20)?.map(|it| it);
-    appended(&rt, rt.alloc(), call, &token, source)
-}
-
-#[test]
-fn chain_append_to(rt: HostRuntime) -> Result<(), Fail> {
-    let call = "Chain::append_to";
-    let Ok(token) = token(rt.alloc()) else {
-        return report(&rt, "not reached", call);
-    };
-    let source = items(rt.alloc(), &token, 0, 20)?;
-    appended(&rt, rt.alloc(), call, &token, source)
-}
-
-#[test]
-fn peekable_append_to(rt: HostRuntime) -> Result<(), Fail> {
-    let call = "Peekable::append_to";
-    let Ok(token) = token(rt.alloc()) else {
-        return report(&rt, "not reached", call);
-    };
-    let source = items(rt.alloc(), &token, 0, 20)?.peekable();
-    appended(&rt, rt.alloc(), call, &token, source)
+    let source = items(alloc, &token, 0, 20)?.take(NonZeroUsize::MAX);
+    appended(&rt, alloc, calls[0], &token, source)?;
+    appended(&rt, alloc, calls[1], &token, items(alloc, &token, 0, 20)?)?;
+    let source = items(alloc, &token, 0, 20)?.peekable();
+    appended(&rt, alloc, calls[2], &token, source)
 }
 
 // Each of the two vectors is made of the first item, and grows for the fifth.
@@ -135,8 +144,14 @@ fn all_or_errors(rt: HostRuntime) -> Result<(), Fail> {
     let Ok(token) = token(rt.alloc()) else {
         return report(&rt, "not reached", call);
     };
-    let source = items(rt.alloc(), &token, 1, 6)?;
-    let checked = source.map(|it| if it.0.0 < 3 { Ok(it) } else { Err(it) });
+    let rest = Checked {
+        alloc: rt.alloc(),
+        token: &token,
+        next: 2,
+        left: 6,
+        last: 2,
+    };
+    let checked = once(Ok(item(rt.alloc(), &token, 1)?)).chain(rest);
     let Ok(valid) = checked.all_or_errors(rt.alloc()) else {
         owned(call, &token, 0)?;
         return report(&rt, "refused", call);
@@ -145,19 +160,8 @@ fn all_or_errors(rt: HostRuntime) -> Result<(), Fail> {
         return holds(call, false);
     };
     owned(call, &token, 10)?;
-    holds(call, errors.iter().map(|it| it.0.0).eq(3..8))?;
+    holds(call, are(errors.as_slice(), &[3, 4, 5, 6, 7]))?;
     drop(errors);
     owned(call, &token, 0)?;
     report(&rt, "made", call)
-}
-
-#[test]
-fn into_nonempty_vec(rt: HostRuntime) -> Result<(), Fail> {
-    let result = [1, 2, 3].into_nonempty_vec(rt.alloc());
-    gives(
-        &rt,
-        "NonEmptyArrayExt::into_nonempty_vec",
-        result,
-        &[1, 2, 3],
-    )
 }

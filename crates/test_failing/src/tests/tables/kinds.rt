@@ -1,6 +1,7 @@
 //! The six types, and the rows of calls that are tried on each.
 
-use super::{Change, Item, Items, Key, Make, Needs, Owner, Row, Table, every_call};
+use super::{Change, Item, Items, Make, Needs, Row, Table, every_call};
+use crate::tests::owners::{Key, Owner};
 use ne_laws::maps::NonEmptyMap;
 use ne_laws::sets::NonEmptySet;
 use nonempty_collections::{
@@ -10,6 +11,22 @@ use std::alloc::{AllocError, Global};
 use std::hash::BuildHasherDefault;
 use std::num::NonZeroUsize;
 use std::test::Fail;
+
+// A node of a tree holds fifteen keys. For one more it becomes two nodes, below a third.
+const TREE: Needs = Needs {
+    room: 15,
+    hint: 0,
+    none_again: true,
+};
+
+const HASHED: Needs = Needs {
+    room: 9,
+    hint: usize::MAX,
+    none_again: false,
+};
+
+// What makes the table of a row for the call on it alone.
+const NEW: (Make, &str) = (Make::New, "");
 
 // The calls that make a table with room of an item, which is passed as its parts and whole.
 macro_rules! made {
@@ -29,39 +46,57 @@ macro_rules! made {
     }};
 }
 
-// The calls on a map with room.
+// The calls on a map with room; `or_insert` is that of an index map.
 macro_rules! changed_map {
-    ($map:expr, $call:expr, $item:expr) => {{
-        let (key, value) = $item;
+    ($map:expr, $call:expr, $items:ident, $or_insert:ident) => {{
+        if $call == Change::Extend {
+            return Extend::extend($map, $items).is_ok();
+        }
+        let Some((key, value)) = $items.next() else {
+            return false;
+        };
         match $call {
-            Change::Put => $map.put(key, value).map(|_| ()),
-            Change::Insert | Change::Replace => $map.insert(key, value).map(|_| ()),
-            Change::ExtendOne => $map.extend_one((key, value)),
-            _ => $map.shrink_to_fit(),
+            Change::Put => $map.put(key, value).is_ok(),
+            Change::OrInsert => $map.$or_insert(key, value).is_ok(),
+            Change::ExtendOne => $map.extend_one((key, value)).is_ok(),
+            Change::ShrinkToFit => $map.shrink_to_fit().is_ok(),
+            _ => $map.insert(key, value).is_ok(),
         }
     }};
 }
 
 // The calls on a set with room.
 macro_rules! changed_set {
-    ($set:expr, $call:expr, $item:expr) => {
-        match $call {
-            Change::Insert => $set.insert($item).map(|_| ()),
-            Change::Add => $set.add($item).map(|_| ()),
-            Change::Put => $set.put($item).map(|_| ()),
-            Change::Replace => $set.replace($item).map(|_| ()),
-            Change::ExtendOne => $set.extend_one($item),
-            _ => $set.shrink_to_fit(),
+    ($set:expr, $call:expr, $items:ident) => {{
+        if $call == Change::Extend {
+            return Extend::extend($set, $items).is_ok();
         }
-    };
+        let Some(item) = $items.next() else {
+            return false;
+        };
+        match $call {
+            Change::Add => $set.add(item).is_ok(),
+            Change::Put => $set.put(item).is_ok(),
+            Change::Replace => $set.replace(item).is_ok(),
+            Change::ExtendOne => $set.extend_one(item).is_ok(),
+            Change::ShrinkToFit => $set.shrink_to_fit().is_ok(),
+            Change::Reserve => $set.reserve(100).is_ok(),
+            _ => $set.insert(item).is_ok(),
+        }
+    }};
 }
 
 // How many numbers there are, or 0 if they are not those from 1 on, in order.
 macro_rules! counted {
     ($table:expr, $item:pat => $number:expr) => {{
-        let mut next = 1u32..;
-        let rises = $table.iter().all(|$item| next.next() == Some($number));
-        if rises { $table.len().get() } else { 0 }
+        let mut next = 1u32;
+        for $item in $table.iter() {
+            if $number != next {
+                return 0;
+            }
+            next = next.wrapping_add(1);
+        }
+        $table.len().get()
     }};
 }
 
@@ -69,23 +104,16 @@ macro_rules! counted {
 macro_rules! counted_in_any_order {
     ($table:expr, $item:pat => $number:expr) => {{
         let len = $table.len().get();
-        let all = $table.iter().all(|$item| 0 < $number && $number as usize <= len);
-        if all { len } else { 0 }
+        for $item in $table.iter() {
+            if $number == 0 || len < $number as usize {
+                return 0;
+            }
+        }
+        len
     }};
 }
 
-// A node of a tree holds fifteen keys. For one more it becomes two nodes, below a third.
-const TREE: Needs = Needs {
-    room: 15,
-    hint: 0,
-    none_again: true,
-};
-
 impl Table for NEBTreeMap<Key, Owner> {
-    fn needs() -> Needs {
-        TREE
-    }
-
     fn make(alloc: Global, call: Make, item: Item) -> Result<Self, AllocError> {
         let (key, value) = item;
         match call {
@@ -94,17 +122,18 @@ impl Table for NEBTreeMap<Key, Owner> {
         }
     }
 
-    fn change(&mut self, call: Change, item: Item) -> Result<(), AllocError> {
-        let (key, value) = item;
-        match call {
-            Change::Put => self.put(key, value).map(|_| ()),
-            Change::Insert => self.insert(key, value).map(|_| ()),
-            _ => self.extend_one((key, value)),
+    fn change(&mut self, call: Change, mut items: Items<'_>) -> bool {
+        if call == Change::Extend {
+            return Extend::extend(self, items).is_ok();
         }
-    }
-
-    fn extend_by(&mut self, items: Items<'_>) -> Result<(), AllocError> {
-        Extend::extend(self, items)
+        let Some((key, value)) = items.next() else {
+            return false;
+        };
+        match call {
+            Change::Put => self.put(key, value).is_ok(),
+            Change::ExtendOne => self.extend_one((key, value)).is_ok(),
+            _ => self.insert(key, value).is_ok(),
+        }
     }
 
     fn count(&self) -> usize {
@@ -113,10 +142,6 @@ impl Table for NEBTreeMap<Key, Owner> {
 }
 
 impl Table for NEBTreeSet<Item> {
-    fn needs() -> Needs {
-        TREE
-    }
-
     fn make(alloc: Global, call: Make, item: Item) -> Result<Self, AllocError> {
         match call {
             Make::New => NEBTreeSet::new(alloc, item),
@@ -124,18 +149,20 @@ impl Table for NEBTreeSet<Item> {
         }
     }
 
-    fn change(&mut self, call: Change, item: Item) -> Result<(), AllocError> {
-        match call {
-            Change::Insert => self.insert(item).map(|_| ()),
-            Change::Add => self.add(item).map(|_| ()),
-            Change::Put => self.put(item).map(|_| ()),
-            Change::Replace => self.replace(item).map(|_| ()),
-            _ => self.extend_one(item),
+    fn change(&mut self, call: Change, mut items: Items<'_>) -> bool {
+        if call == Change::Extend {
+            return Extend::extend(self, items).is_ok();
         }
-    }
-
-    fn extend_by(&mut self, items: Items<'_>) -> Result<(), AllocError> {
-        Extend::extend(self, items)
+        let Some(item) = items.next() else {
+            return false;
+        };
+        match call {
+            Change::Add => self.add(item).is_ok(),
+            Change::Put => self.put(item).is_ok(),
+            Change::Replace => self.replace(item).is_ok(),
+            Change::ExtendOne => self.extend_one(item).is_ok(),
+            _ => self.insert(item).is_ok(),
+        }
     }
 
     fn count(&self) -> usize {
@@ -149,12 +176,8 @@ impl Table for NEMap<Key, Owner> {
         made!(NEMap, call, alloc, key, value; (key, value), nem![alloc; key => value])
     }
 
-    fn change(&mut self, call: Change, item: Item) -> Result<(), AllocError> {
-        changed_map!(self, call, item)
-    }
-
-    fn extend_by(&mut self, items: Items<'_>) -> Result<(), AllocError> {
-        Extend::extend(self, items)
+    fn change(&mut self, call: Change, mut items: Items<'_>) -> bool {
+        changed_map!(self, call, items, insert)
     }
 
     fn count(&self) -> usize {
@@ -167,12 +190,8 @@ impl Table for NESet<Item> {
         made!(NESet, call, alloc, item; item, nes![alloc; item])
     }
 
-    fn change(&mut self, call: Change, item: Item) -> Result<(), AllocError> {
-        changed_set!(self, call, item)
-    }
-
-    fn extend_by(&mut self, items: Items<'_>) -> Result<(), AllocError> {
-        Extend::extend(self, items)
+    fn change(&mut self, call: Change, mut items: Items<'_>) -> bool {
+        changed_set!(self, call, items)
     }
 
     fn count(&self) -> usize {
@@ -186,16 +205,8 @@ impl Table for NEIndexMap<Key, Owner> {
         made!(NEIndexMap, call, alloc, key, value; (key, value), neim![alloc; key => value])
     }
 
-    fn change(&mut self, call: Change, item: Item) -> Result<(), AllocError> {
-        if call == Change::OrInsert {
-            let (key, value) = item;
-            return self.or_insert(key, value).map(|_| ());
-        }
-        changed_map!(self, call, item)
-    }
-
-    fn extend_by(&mut self, items: Items<'_>) -> Result<(), AllocError> {
-        Extend::extend(self, items)
+    fn change(&mut self, call: Change, mut items: Items<'_>) -> bool {
+        changed_map!(self, call, items, or_insert)
     }
 
     fn count(&self) -> usize {
@@ -208,12 +219,8 @@ impl Table for NEIndexSet<Item> {
         made!(NEIndexSet, call, alloc, item; item, neis![alloc; item])
     }
 
-    fn change(&mut self, call: Change, item: Item) -> Result<(), AllocError> {
-        changed_set!(self, call, item)
-    }
-
-    fn extend_by(&mut self, items: Items<'_>) -> Result<(), AllocError> {
-        Extend::extend(self, items)
+    fn change(&mut self, call: Change, mut items: Items<'_>) -> bool {
+        changed_set!(self, call, items)
     }
 
     fn count(&self) -> usize {
@@ -232,14 +239,11 @@ fn tree_map(rt: HostRuntime) -> Result<(), Fail> {
             (Make::Singleton, "Singleton::singleton of a tree map"),
             (Change::ExtendOne, "Singleton::extend_one of a tree map"),
         ),
-        ((Make::New, ""), (Change::Extend, "NEBTreeMap::extend")),
-        ((Make::New, ""), (Change::Clone, "NEBTreeMap::clone")),
-        (
-            (Make::New, ""),
-            (Change::Put, "NonEmptyMap::put of a tree map"),
-        ),
+        (NEW, (Change::Extend, "NEBTreeMap::extend")),
+        (NEW, (Change::Clone, "NEBTreeMap::clone")),
+        (NEW, (Change::Put, "NonEmptyMap::put of a tree map")),
     ];
-    every_call::<NEBTreeMap<Key, Owner>>(&rt, rt.alloc(), &rows, "collect into NEBTreeMap")
+    every_call::<NEBTreeMap<Key, Owner>>(&rt, rt.alloc(), &TREE, &rows, "collect into NEBTreeMap")
 }
 
 #[test]
@@ -253,19 +257,13 @@ fn tree_set(rt: HostRuntime) -> Result<(), Fail> {
             (Make::Singleton, "Singleton::singleton of a tree set"),
             (Change::ExtendOne, "Singleton::extend_one of a tree set"),
         ),
-        ((Make::New, ""), (Change::Extend, "NEBTreeSet::extend")),
-        ((Make::New, ""), (Change::Clone, "NEBTreeSet::clone")),
-        ((Make::New, ""), (Change::Replace, "NEBTreeSet::replace")),
-        (
-            (Make::New, ""),
-            (Change::Add, "NonEmptySet::add of a tree set"),
-        ),
-        (
-            (Make::New, ""),
-            (Change::Put, "NonEmptySet::put of a tree set"),
-        ),
+        (NEW, (Change::Extend, "NEBTreeSet::extend")),
+        (NEW, (Change::Clone, "NEBTreeSet::clone")),
+        (NEW, (Change::Replace, "NEBTreeSet::replace")),
+        (NEW, (Change::Add, "NonEmptySet::add of a tree set")),
+        (NEW, (Change::Put, "NonEmptySet::put of a tree set")),
     ];
-    every_call::<NEBTreeSet<Item>>(&rt, rt.alloc(), &rows, "collect into NEBTreeSet")
+    every_call::<NEBTreeSet<Item>>(&rt, rt.alloc(), &TREE, &rows, "collect into NEBTreeSet")
 }
 
 #[test]
@@ -291,17 +289,14 @@ fn hashed_map(rt: HostRuntime) -> Result<(), Fail> {
             (Make::WithHasher, "NEMap::with_hasher"),
             (Change::Clone, "NEMap::clone"),
         ),
-        (
-            (Make::New, ""),
-            (Change::Put, "NonEmptyMap::put of a hashed map"),
-        ),
+        (NEW, (Change::Put, "NonEmptyMap::put of a hashed map")),
     ];
-    every_call::<NEMap<Key, Owner>>(&rt, rt.alloc(), &rows, "collect into NEMap")
+    every_call::<NEMap<Key, Owner>>(&rt, rt.alloc(), &HASHED, &rows, "collect into NEMap")
 }
 
 #[test]
 fn hashed_set(rt: HostRuntime) -> Result<(), Fail> {
-    let rows: [Row; 8] = [
+    let rows: [Row; 9] = [
         ((Make::New, "NESet::new"), (Change::Insert, "NESet::insert")),
         (
             (Make::Singleton, "Singleton::singleton of a hashed set"),
@@ -326,16 +321,11 @@ fn hashed_set(rt: HostRuntime) -> Result<(), Fail> {
             (Make::Written, "nes of one item"),
             (Change::Replace, "NESet::replace"),
         ),
-        (
-            (Make::New, ""),
-            (Change::Add, "NonEmptySet::add of a hashed set"),
-        ),
-        (
-            (Make::New, ""),
-            (Change::Put, "NonEmptySet::put of a hashed set"),
-        ),
+        (NEW, (Change::Add, "NonEmptySet::add of a hashed set")),
+        (NEW, (Change::Put, "NonEmptySet::put of a hashed set")),
+        (NEW, (Change::Reserve, "NESet::reserve")),
     ];
-    every_call::<NESet<Item>>(&rt, rt.alloc(), &rows, "collect into NESet")
+    every_call::<NESet<Item>>(&rt, rt.alloc(), &HASHED, &rows, "collect into NESet")
 }
 
 #[test]
@@ -364,18 +354,15 @@ fn index_map(rt: HostRuntime) -> Result<(), Fail> {
             (Make::WithHasher, "NEIndexMap::with_hasher"),
             (Change::Clone, "NEIndexMap::clone"),
         ),
-        (
-            (Make::New, ""),
-            (Change::Put, "NonEmptyMap::put of an index map"),
-        ),
-        ((Make::New, ""), (Change::OrInsert, "NEIndexMap::or_insert")),
+        (NEW, (Change::Put, "NonEmptyMap::put of an index map")),
+        (NEW, (Change::OrInsert, "NEIndexMap::or_insert")),
     ];
-    every_call::<NEIndexMap<Key, Owner>>(&rt, rt.alloc(), &rows, "collect into NEIndexMap")
+    every_call::<NEIndexMap<Key, Owner>>(&rt, rt.alloc(), &HASHED, &rows, "collect into NEIndexMap")
 }
 
 #[test]
 fn index_set(rt: HostRuntime) -> Result<(), Fail> {
-    let rows: [Row; 8] = [
+    let rows: [Row; 9] = [
         (
             (Make::New, "NEIndexSet::new"),
             (Change::Insert, "NEIndexSet::insert"),
@@ -403,14 +390,9 @@ fn index_set(rt: HostRuntime) -> Result<(), Fail> {
             (Make::Written, "neis of one item"),
             (Change::Replace, "NEIndexSet::replace"),
         ),
-        (
-            (Make::New, ""),
-            (Change::Add, "NonEmptySet::add of an index set"),
-        ),
-        (
-            (Make::New, ""),
-            (Change::Put, "NonEmptySet::put of an index set"),
-        ),
+        (NEW, (Change::Add, "NonEmptySet::add of an index set")),
+        (NEW, (Change::Put, "NonEmptySet::put of an index set")),
+        (NEW, (Change::Reserve, "NEIndexSet::reserve")),
     ];
-    every_call::<NEIndexSet<Item>>(&rt, rt.alloc(), &rows, "collect into NEIndexSet")
+    every_call::<NEIndexSet<Item>>(&rt, rt.alloc(), &HASHED, &rows, "collect into NEIndexSet")
 }

@@ -3,7 +3,7 @@ use Rattle.std.proofs.Common.{subst, ap, ◌∙◌, length, ltb, ◌&&◌, ◌�
 use Rattle.std.specs.Int.NonZero.{non_zero_usize_get}
 use Rattle.std.specs.List.{enumerate_from}
 use Rattle.std.proofs.lemmas.Result.{IfOk-weaker}
-use Rattle.nonempty_collections.specs.Peekable.{peekable_first}
+use Rattle.ne_iter.specs.Peekable.{peekable_first}
 
 -- What was collected, back through the adapters to the source.
 pub returns : goal.returns

@@ -6,8 +6,8 @@ use Rattle.std.specs.List.{enumerate_from}
 use Rattle.std.proofs.lemmas.List.Folds.{flat_map-map}
 use Rattle.std.proofs.lemmas.List.FromFn.{length-enumerate_from}
 use Rattle.std.proofs.lemmas.Result.{IfOk-weaker}
-use Rattle.nonempty_collections.specs.Divisions.{concat}
-use Rattle.nonempty_collections.specs.Lists.{IsPrefix}
+use Rattle.ne_vec.specs.Divisions.{concat}
+use Rattle.ne_vec.specs.Lists.{IsPrefix}
 use Rattle.user_generic.specs.OwnSources.{counted_down, start_of, left_of}
 
 pub returns : goal.returns

@@ -1,7 +1,7 @@
 use Rattle.user_generic.proofs.inner_sources.spread_pairs.Goals as goal
 use Rattle.std.proofs.Common.{subst}
 use Rattle.std.proofs.lemmas.Result.{IfOk-weaker}
-use Rattle.nonempty_collections.specs.Calls.{Calls}
+use Rattle.ne_iter.specs.Calls.{Calls}
 
 -- The pairs are those of the two sources.
 pub returns : goal.returns

@@ -1,7 +1,7 @@
 use Rattle.user_generic.proofs.nested.scan_of_all.Goals as goal
 use Rattle.std.proofs.Common.{subst}
 use Rattle.std.proofs.lemmas.Result.{IfOk-weaker}
-use Rattle.nonempty_collections.specs.Calls.{CallsWithState}
+use Rattle.ne_iter.specs.Calls.{CallsWithState}
 
 -- From what was collected back to the items of the inner sources.
 pub returns : goal.returns

@@ -4,7 +4,7 @@ use Rattle.std.specs.List.{enumerate_from}
 use Rattle.std.specs.Int.NonZero.{non_zero_usize_get}
 use Rattle.std.proofs.lemmas.List.FromFn.{length-enumerate_from}
 use Rattle.std.proofs.lemmas.Result.{IfOk-weaker}
-use Rattle.nonempty_collections.specs.Lists.{IsPrefix}
+use Rattle.ne_vec.specs.Lists.{IsPrefix}
 
 -- From the vectors' items forward through the adapters: the items so far are a prefix of each list.
 pub returns : goal.returns

@@ -3,8 +3,8 @@ use Rattle.std.proofs.Common.{true, ltb, map, Ok, ◌≤◌, subst}
 use Rattle.std.proofs.lemmas.Result.{IfOk-weaker}
 use Rattle.std.proofs.lemmas.List.{length-map}
 use Rattle.std.specs.Int.NonZero.{non_zero_usize_get}
-use Rattle.nonempty_collections.specs.GroupBy.{HasRuns}
-use Rattle.nonempty_collections.specs.Sources.{Reads}
+use Rattle.ne_iter.specs.GroupBy.{HasRuns}
+use Rattle.ne_iter.specs.Sources.{Reads}
 
 pub returns-clause-runs : goal.returns-clause-runs
 returns-clause-runs g c = IfOk-weaker c.in_ok-collect.field-0 _ _ (λ v h.

@@ -1,8 +1,8 @@
 use Rattle.user_generic.proofs.runs.run_lengths.Goals as goal
 use Rattle.std.proofs.Common.{rules, sym, subst, true, ◌∙◌, length}
 use Rattle.std.proofs.lemmas.Result.{IfOk-weaker}
-use Rattle.nonempty_collections.specs.Divisions.{IsDivision, by_previous}
-use Rattle.nonempty_collections.specs.SliceRuns.{ActsAsAtPair}
+use Rattle.ne_vec.specs.Divisions.{IsDivision, by_previous}
+use Rattle.ne_vec.specs.SliceRuns.{ActsAsAtPair}
 
 -- From the lengths back to the runs that were yielded, which are all runs.
 pub returns : goal.returns

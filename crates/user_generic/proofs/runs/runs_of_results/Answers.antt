@@ -1,9 +1,9 @@
 use Rattle.user_generic.proofs.runs.runs_of_results.Goals as goal
 use Rattle.std.proofs.Common.{rules, true, refl, subst}
 use Rattle.std.proofs.lemmas.Result.{IfOk-weaker}
-use Rattle.nonempty_collections.specs.GroupBy.{and_held}
-use Rattle.nonempty_collections.specs.Sources.{Reads}
-use Rattle.nonempty_collections.specs.Keys.{items_of, DividesByKey}
+use Rattle.ne_iter.specs.GroupBy.{and_held}
+use Rattle.ne_iter.specs.Sources.{Reads}
+use Rattle.ne_iter.specs.Keys.{items_of, DividesByKey}
 
 -- From the runs collected back to what `map` returned, and to the source's items.
 pub returns : goal.returns

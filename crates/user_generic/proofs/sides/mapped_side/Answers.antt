@@ -1,7 +1,7 @@
 use Rattle.user_generic.proofs.sides.mapped_side.Goals as goal
 use Rattle.std.proofs.Common.{subst, sym, true}
 use Rattle.std.proofs.lemmas.Result.{IfOk-weaker}
-use Rattle.nonempty_collections.specs.Calls.{Calls}
+use Rattle.ne_iter.specs.Calls.{Calls}
 
 pub returns : goal.returns
 returns g c = IfOk-weaker c.collect.result _ _ (λ ys h.

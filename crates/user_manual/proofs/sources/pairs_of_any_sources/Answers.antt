@@ -2,8 +2,8 @@ use Rattle.user_manual.proofs.sources.pairs_of_any_sources.Goals as goal
 use Rattle.std.proofs.Common.{◌∙◌, map, subst, sym}
 use Rattle.std.proofs.lemmas.Result.{IfOk-weaker}
 use Rattle.std.specs.Prelude.{Ok}
-use Rattle.nonempty_collections.specs.Pairs.{cartesian_product}
-use Rattle.nonempty_collections.specs.Restarts.{ClonesAgain, NeverRefuses}
+use Rattle.ne_products.specs.Pairs.{cartesian_product}
+use Rattle.ne_products.specs.Restarts.{ClonesAgain, NeverRefuses}
 
 pub returns : goal.returns
 returns g c = IfOk-weaker c.collect.result _ _ (λ v h xs ys first second.

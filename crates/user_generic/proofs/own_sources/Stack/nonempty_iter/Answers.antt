@@ -2,8 +2,8 @@ use Rattle.user_generic.proofs.own_sources.Stack.nonempty_iter.Goals as goal
 use Rattle.std.proofs.Common.{subst}
 use Rattle.std.specs.Prelude.{map}
 use Rattle.std.specs.Iterator.{YieldsFirstRef}
-use Rattle.nonempty_collections.specs.Lists.{IsPrefix, Lists}
-use Rattle.nonempty_collections.specs.ListLaws.{triggered, viewed_prefix}
+use Rattle.ne_vec.specs.Lists.{IsPrefix, Lists}
+use Rattle.ne_vec.specs.ListLaws.{triggered, viewed_prefix}
 
 pub returns : goal.returns
 unfolding Lists

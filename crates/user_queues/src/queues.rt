@@ -1,0 +1,129 @@
+//! Functions that a user writes first over a queue.
+ghost use Rattle.std.specs.Prelude.{◌≡◌, ◌-◌, ◌/◌, ◌≤◌, ◌==◌, List, [], ◌∷◌, ◌++◌, All};
+ghost use Rattle.std.specs.Prelude.{Contains, IfOk, MatchBool, MatchOption, OnOk, Some, drop};
+ghost use Rattle.std.specs.Prelude.{◌↔◌, IsPermutation, IsSorted, IsTrue, length, map, reverse};
+ghost use Rattle.std.specs.Prelude.{slice_get};
+ghost use Rattle.std.specs.List.{enumerate_from};
+ghost use Rattle.std.specs.NonZero.{non_zero_usize_get};
+ghost use Rattle.std.specs.Ordering.{nat_cmp};
+
+use ne_deque::NEVecDeque;
+use ne_iter::{IntoNonEmptyIterator, NonEmptyIterator};
+use ne_vec::NEVec;
+use std::alloc::{AllocError, Global};
+use std::num::NonZeroUsize;
+
+/// One turn of a round robin: the first job goes to the back, and is returned to be run.
+pub fn next_job(jobs: &mut NEVecDeque<u32>) -> u32
+    ensures first { slice_get jobs.old 0 ≡ Some result }
+    ensures turned { jobs.new ≡ drop 1 jobs.old ++ result ∷ [] }
+{
+    let job = *jobs.front();
+    jobs.rotate_left(1);
+    job
+}
+
+/// The same of jobs of any type, by two moves: the job that is taken is put at the back. The queue
+/// is unchanged if there is one job only.
+pub fn turn<T: Drop>(jobs: &mut NEVecDeque<T>) -> Result<(), AllocError>
+    ensures { OnOk result ((x : T) (rest : List T) → jobs.old ≡ x ∷ rest
+        → jobs.new ≡ rest ++ x ∷ []) }
+{
+    if let Some(job) = jobs.pop_front() {
+        jobs.push_back(job)?;
+    }
+    Ok(())
+}
+
+/// Takes the first job if its time has come, and leaves the last one.
+pub fn due(jobs: &mut NEVecDeque<u32>, now: u32) -> Option<u32>
+    ensures { MatchOption result (jobs.new ≡ jobs.old)
+        (λ job. (jobs.old ≡ job ∷ jobs.new) × (job ≤ now)) }
+{
+    if *jobs.front() <= now {
+        jobs.pop_front()
+    } else {
+        None
+    }
+}
+
+/// The last `n` numbers that were seen: the oldest goes when there are too many.
+pub fn remember(seen: &mut NEVecDeque<u32>, x: u32, n: NonZeroUsize) -> Result<(), AllocError>
+    requires { length seen.old ≤ non_zero_usize_get n }
+    ensures { OnOk result (MatchBool (length seen.old == non_zero_usize_get n)
+        (seen.new ≡ drop 1 seen.old ++ x ∷ []) (seen.new ≡ seen.old ++ x ∷ [])) }
+{
+    seen.push_back(x)?;
+    if seen.len() > n {
+        drop(seen.pop_front());
+    }
+    Ok(())
+}
+
+/// The greatest half.
+pub fn greatest_half(items: &NEVecDeque<u32>) -> u32
+    ensures among { Contains (map (λ x. x / 2) items.now) result }
+    ensures bound { All (λ x. x ≤ result) (map (λ x. x / 2) items.now) }
+{
+    items.nonempty_iter().map(|x| *x / 2).max()
+}
+
+/// The halves, in a vector.
+pub fn halves(alloc: Global, items: &NEVecDeque<u32>) -> Result<NEVec<u32>, AllocError>
+    ensures { IfOk result (λ v. v ≡ map (λ x. x / 2) items.now) }
+{
+    items.nonempty_iter().map(|x| *x / 2).collect(alloc)
+}
+
+/// The halves, in a queue, by value.
+pub fn halved(alloc: Global, items: NEVecDeque<u32>) -> Result<NEVecDeque<u32>, AllocError>
+    ensures { IfOk result (λ q. q ≡ map (λ x. x / 2) items) }
+{
+    items.into_nonempty_iter().map(|x| x / 2).collect(alloc)
+}
+
+/// The items from back to front.
+pub fn reversed(alloc: Global, items: &NEVecDeque<u32>) -> Result<Vec<u32>, AllocError>
+    ensures { IfOk result (λ v. v.items ≡ reverse items.now) }
+{
+    items.iter().rev().copied().collect(alloc)
+}
+
+/// The items with their places.
+pub fn numbered(alloc: Global, items: &NEVecDeque<u32>) -> Result<NEVec<(usize, u32)>, AllocError>
+    ensures { IfOk result (λ v. v ≡ enumerate_from 0 items.now) }
+{
+    items.nonempty_iter().copied().enumerate().collect(alloc)
+}
+
+/// The jobs of both queues, those of the first before those of the second.
+pub fn joined(
+    alloc: Global,
+    first: &NEVecDeque<u32>,
+    second: &NEVecDeque<u32>,
+) -> Result<NEVecDeque<u32>, AllocError>
+    ensures { IfOk result (λ q. q ≡ first.now ++ second.now) }
+{
+    first
+        .nonempty_iter()
+        .chain(second.nonempty_iter())
+        .copied()
+        .collect(alloc)
+}
+
+/// The jobs in ascending order.
+pub fn sorted(jobs: NEVecDeque<u32>) -> NEVecDeque<u32>
+    ensures same { IsPermutation jobs result }
+    ensures ascending { IsSorted nat_cmp result }
+{
+    let mut jobs = jobs;
+    jobs.make_contiguous().sort_unstable();
+    jobs
+}
+
+/// Whether two queues have the same jobs.
+pub fn same(a: &NEVecDeque<u32>, b: &NEVecDeque<u32>) -> bool
+    ensures { IsTrue result ↔ (a.now ≡ b.now) }
+{
+    a == b
+}
