@@ -1,5 +1,5 @@
 """What the scripts share: reading the repository's files, a scratch copy of crates that runs
-unproved, and runs of what `rt ci` built in which an allocation fails."""
+unproved, and runs in which each request for memory is refused in turn."""
 
 import functools
 import os
@@ -7,7 +7,6 @@ import re
 import shutil
 import subprocess
 import sys
-import tempfile
 from concurrent.futures import ThreadPoolExecutor
 
 sys.dont_write_bytecode = True
@@ -60,7 +59,7 @@ def counted(what, number):
     such number, has another one, so that none goes unseen."""
     wanted = dict(re.findall(r"^(.+): (\d+)$", read(".ci/counts"), re.M)).get(what, "none")
     if wanted != str(number):
-        stop(f"{what}: here are {number}, and .ci/counts has {wanted}. If it is meant, change that.")
+        stop(f"{what}: here are {number}, .ci/counts has {wanted}. If it is meant, change that.")
     return number
 
 
@@ -103,8 +102,11 @@ def unproved(folder, *words, given=""):
     """Runs `rt try` with these words in the folder of a crate, on this input, and returns what its
     program prints. `rt` also begins a check, which only gives a hint on names and takes as long as
     the run; here it is replaced by `true`. The interpreter would run the program first, and slowly:
-    it is stopped at once."""
-    program = "import rtlib, sys; rtlib.RATTLE = 'true'; sys.exit(rtlib.main(*sys.argv[1:]))"
+    it is stopped at once. C code may define `malloc`, which `rt` refuses of what is proved."""
+    program = (
+        "import rtlib, sys; rtlib.RATTLE = 'true'; rtlib.stop_on_taken_names = print; "
+        "sys.exit(rtlib.main(*sys.argv[1:]))"
+    )
     how = {"input": given, "capture_output": True, "text": True, "cwd": folder}
     how["env"] = {**os.environ, "PYTHONPATH": os.path.join(kit(), "bin"), "RT_ALLOW_C": "1"}
     words = ["try", "--steps", "1", "--seconds", "600", *words]
@@ -116,27 +118,11 @@ def unproved(folder, *words, given=""):
     return ran.stdout
 
 
-class Failing:
-    """A program that `rt ci` has built here, and that is run with one failing allocation."""
-
-    def __init__(self, program):
-        self.program = os.path.join(ROOT, "crates", program)
-        if not os.path.exists(self.program):
-            stop(f"crates/{program} is not there: rt ci builds it")
-        self.room = tempfile.TemporaryDirectory()
-        self.library = os.path.join(self.room.name, "fail.so")
-        source = os.path.join(ROOT, ".ci", "fail_nth_allocation.c")
-        words = ["-O1", "-shared", "-fPIC", "-nostdlib", "-o", self.library, source]
-        subprocess.run([os.path.join(kit(), "toolchain", "bin", "clang"), *words], check=True)
-
-    def ran(self, place, words, given=b""):
-        """Returns the run with these words and this input in which the request with this number,
-        counted from 1, is refused, and whether there were so many requests; 0 refuses none."""
-        with tempfile.TemporaryDirectory() as room:
-            told = os.path.join(room, "refused")
-            how = {"input": given, "capture_output": True, "cwd": self.room.name, "timeout": 60}
-            how["env"] = {"LD_PRELOAD": self.library, "REFUSE": str(place), "REFUSED": told}
-            return subprocess.run([self.program, *words], **how), os.path.exists(told)
+def passes(said):
+    """Returns what each of the runs of a program with refuse_in_turn.c has printed, and the status
+    of each but the last one, in which no request is refused."""
+    parts = re.split(r"^ *-- request \d+ is refused: status (\d+)\n", said, flags=re.M)
+    return parts[::2], [*map(int, parts[1::2])]
 
 
 def in_threads(call, items):

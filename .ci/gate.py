@@ -23,14 +23,14 @@ from common import ROOT, libraries, stop, write
 
 # The stages: those that take no time, those that run beside each other, and those that run what
 # `rt ci` made.
-BEFORE = (".ci/public-names", ".ci/failing-allocations --named", "trials/run --fit")
+BEFORE = (".ci/public-names", "trials/run --fit")
 BESIDE = (".ci/does-not-compile", ".ci/examples", ".ci/tests")
 AFTER = ("trials/run --gate", ".ci/cases", ".ci/failing-allocations")
 PAGE = os.path.join(ROOT, "docs", "TIMES.md")
 TICK = os.sysconf("SC_CLK_TCK")
 HEAD = (
-    "Written by `.ci/run --write` on a machine with {processors} processors, {when}: processor time "
-    "in seconds, and the most memory that a check takes. The crates are those of the stage `rt ci`; "
+    "Written by `.ci/run --write` on a machine with {processors} processors, {when}: processor "
+    "time in seconds, and the most memory that a check takes. The crates are those of `rt ci`; "
     "the check of a crate's tests is one of its own. {kept}"
 )
 

@@ -76,14 +76,14 @@ class Program:
     """A program, or the tests of a crate, in which one of the wrong bodies can be chosen."""
 
     def __init__(self, folder, crate, texts, tests=False, write_crate=None, stdin=""):
-        """Builds it in this folder, with these texts of files in place of those that are there. If
-        it is no crate of crates.txt, `write_crate` writes it and returns its line of that file."""
+        """Builds it in this folder, with these texts of files in place of those that are there.
+        `write_crate` writes what is not in `crates/`, and returns its line of crates.txt."""
         self.path = os.path.join(folder, "program")
-        names = [*libraries(), "user_generic"] if write_crate else below(crate)
+        names = below(crate) if crate in crates() else [*libraries(), "user_generic"]
         copy_crates(folder, names)
         lines = {it: f"{it}: {' '.join(crates()[it])}" for it in names}
         if write_crate:
-            lines[crate] = write_crate(folder)
+            lines.setdefault(crate, write_crate(folder))
         rows = [f"{row} chosen\n" for row in lines.values()]
         write(os.path.join(folder, "crates.txt"), "".join(["chosen:\n", *rows]))
         home = os.path.join(folder, "crates", "chosen")

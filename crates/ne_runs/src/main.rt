@@ -10,8 +10,6 @@ mod device;
 mod fault;
 mod lines;
 mod mode;
-#[cfg(test)]
-mod tests;
 mod texts;
 mod whole_run;
 

@@ -36,14 +36,6 @@ pub fn nemap(alloc: Global) -> Result<(Option<u32>, Option<u32>, usize), AllocEr
     Ok((one.copied(), three.copied(), len))
 }
 
-/// The example of `new`.
-pub fn new(alloc: Global) -> Result<NEMap<u32, u32>, AllocError>
-    ensures { IfOk result (λ m. m.entries ≡ (4, 20) ∷ []) }
-{
-    let map = NEMap::new(alloc, 4, 20)?;
-    Ok(map)
-}
-
 /// Creates a map of one key that has room for more.
 pub fn with_capacity(alloc: Global) -> Result<NEMap<u32, u32>, AllocError>
     ensures entries { IfOk result (λ m. m.entries ≡ (2, 1) ∷ []) }
@@ -93,17 +85,6 @@ pub fn iter(alloc: Global) -> Result<Vec<(u32, u32)>, AllocError>
     pairs.map(|(k, v)| (*k, *v)).collect(alloc)
 }
 
-/// The values that the loop writes are only run.
-pub fn iter_mut(alloc: Global) -> Result<NEMap<u32, u32>, AllocError>
-    ensures { IfOk result (λ m. hash_map_len m ≡ 2) }
-{
-    let mut map = nem![alloc; 2 => 0u32, 4 => 1]?;
-    for (_key, value) in map.iter_mut() {
-        *value = value.wrapping_mul(31).wrapping_add(1);
-    }
-    Ok(map)
-}
-
 /// The example of `nonempty_iter`.
 pub fn nonempty_iter(alloc: Global) -> Result<NEVec<(u32, u32)>, AllocError>
     ensures zero { IfOk result (λ v. lookup (nat_eq 0) v ≡ Some 3) }
@@ -115,17 +96,6 @@ pub fn nonempty_iter(alloc: Global) -> Result<NEVec<(u32, u32)>, AllocError>
     pairs.map(|(k, v)| (*k, *v)).collect(alloc)
 }
 
-/// The values that the loop writes are only run.
-pub fn nonempty_iter_mut(alloc: Global) -> Result<NEMap<u32, u32>, AllocError>
-    ensures { IfOk result (λ m. hash_map_len m ≡ 2) }
-{
-    let mut map = nem![alloc; 2 => 1u32, 4 => 32]?;
-    for (_key, value) in map.nonempty_iter_mut() {
-        *value = value.wrapping_mul(31).wrapping_add(2);
-    }
-    Ok(map)
-}
-
 /// Iterates over the keys.
 pub fn keys(alloc: Global) -> Result<NEVec<u32>, AllocError>
     ensures zero { IfOk result (λ v. is_member nat_eq v 0 ≡ true) }
@@ -135,14 +105,6 @@ pub fn keys(alloc: Global) -> Result<NEVec<u32>, AllocError>
     let map = nem![alloc; 0 => 3, 2 => 1]?;
     let keys = map.keys();
     Ok(keys.copied().collect(alloc)?)
-}
-
-/// The example of `len`.
-pub fn len(alloc: Global) -> Result<usize, AllocError>
-    ensures { IfOk result (λ len. len ≡ 2) }
-{
-    let len = nem![alloc; 1 => 10, 2 => 20, 1 => 30]?.len().get();
-    Ok(len)
 }
 
 /// Iterates over the values.
@@ -160,24 +122,6 @@ pub fn values(alloc: Global) -> Result<NEVec<u32>, AllocError>
         let _len = map.len();
         values.copied().collect(alloc)?
     })
-}
-
-/// The example of `contains_key`.
-pub fn contains_key(alloc: Global) -> Result<(bool, bool), AllocError>
-    ensures { IfOk result (λ r. (r.0 ≡ true) × (r.1 ≡ false)) }
-{
-    let map = nem![alloc; 2 => 24, 4 => 26]?;
-    let (there, absent) = (map.contains_key(&2), map.contains_key(&8));
-    Ok((there, absent))
-}
-
-/// The example of `get_key_value`.
-pub fn get_key_value(alloc: Global) -> Result<Option<(u32, u32)>, AllocError>
-    ensures { IfOk result (λ pair. pair ≡ Some (4, 20)) }
-{
-    let map = NEMap::new(alloc, 4, 20)?;
-    let pair = map.get_key_value(&4);
-    Ok(pair.map(|(k, v)| (*k, *v)))
 }
 
 /// The example of `get_mut`.
@@ -240,34 +184,6 @@ pub fn clone(alloc: Global) -> Result<bool, AllocError>
     Ok(same)
 }
 
-/// The example of `remove`.
-pub fn remove(alloc: Global) -> Result<(Option<u32>, Option<u32>, Option<u32>), AllocError>
-    ensures removed { IfOk result (λ r. r.0 ≡ Some 24) }
-    ensures none { IfOk result (λ r. r.1 ≡ None) }
-    ensures stays { IfOk result (λ r. r.2 ≡ Some 26) }
-{
-    let mut map = nem![alloc; 2 => 24, 4 => 26]?;
-    let removed = map.remove(&2);
-    let none = map.remove(&4);
-    let stays = map.get(&4);
-    Ok((removed, none, stays.copied()))
-}
-
-/// The example of `remove_entry`.
-pub fn remove_entry(
-    alloc: Global,
-) -> Result<(Option<(u32, u32)>, Option<(u32, u32)>, bool), AllocError>
-    ensures removed { IfOk result (λ r. r.0 ≡ Some (4, 26)) }
-    ensures none { IfOk result (λ r. r.1 ≡ None) }
-    ensures stays { IfOk result (λ r. r.2 ≡ true) }
-{
-    let mut map = nem![alloc; 2 => 24, 4 => 26]?;
-    let removed = map.remove_entry(&4);
-    let none = map.remove_entry(&2);
-    let stays = map.contains_key(&2);
-    Ok((removed, none, stays))
-}
-
 /// The example of `retain`.
 pub fn retain(
     alloc: Global,
@@ -283,17 +199,6 @@ pub fn retain(
     let even = NEMap::new(alloc, 2, 24)?.retain(|k, _v| *k % 2 == 0);
     let none = NEMap::new(alloc, 3, 9)?.retain(|k, _v| *k % 2 == 0);
     Ok((even, none))
-}
-
-/// The values that the loop writes are only run.
-pub fn values_mut(alloc: Global) -> Result<NEMap<u32, u32>, AllocError>
-    ensures { IfOk result (λ m. hash_map_len m ≡ 2) }
-{
-    let mut map = nem![alloc; 2 => 1u32, 4 => 32]?;
-    for value in map.values_mut() {
-        *value = value.wrapping_mul(31).wrapping_add(2);
-    }
-    Ok(map)
 }
 
 /// Iterates over the keys by value.
@@ -314,24 +219,6 @@ pub fn into_values(alloc: Global) -> Result<NEVec<u32>, AllocError>
 {
     let values = nem![alloc; 0 => 3, 2 => 1]?.into_values();
     values.collect(alloc)
-}
-
-/// The example of `contains_key_by_text`.
-pub fn contains_key_by_text(alloc: Global) -> Result<(bool, bool), AllocError>
-    ensures { IfOk result (λ r. (r.0 ≡ true) × (r.1 ≡ false)) }
-{
-    let map = NEMap::new(alloc, String::from_str(alloc, "a")?, 24)?;
-    let (there, absent) = (map.contains_key_by_text("a"), map.contains_key_by_text("b"));
-    Ok((there, absent))
-}
-
-/// The example of `get_by_text`.
-pub fn get_by_text(alloc: Global) -> Result<(Option<u32>, Option<u32>), AllocError>
-    ensures { IfOk result (λ r. (r.0 ≡ Some 24) × (r.1 ≡ None)) }
-{
-    let map = NEMap::new(alloc, String::from_str(alloc, "a")?, 24)?;
-    let (some, none) = (map.get_by_text("a"), map.get_by_text("b"));
-    Ok((some.copied(), none.copied()))
 }
 
 /// The example of `remove_by_text`.

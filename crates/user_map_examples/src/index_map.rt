@@ -1,7 +1,6 @@
 //! The examples of index maps.
 ghost use Rattle.std.specs.Prelude.{◌≡◌, ◌+◌, ◌≤◌, [], ◌∷◌, true, false, IfOk};
 ghost use Rattle.std.specs.Prelude.{None, Some, IsErr, IsOkAnd};
-ghost use Rattle.std.specs.Option.{IsSomeAnd};
 ghost use Rattle.indexmap.specs.IndexMap.{index_map_len, keys, spare, values};
 
 use indexmap::IndexMap;
@@ -22,26 +21,6 @@ pub fn neindexmap(alloc: Global) -> Result<(Option<u32>, Option<u32>, usize), Al
     Ok((one.copied(), three.copied(), len))
 }
 
-/// The example of `iter`.
-pub fn iter(alloc: Global) -> Result<Vec<(u32, u32)>, AllocError>
-    ensures { IfOk result (λ v. v.items ≡ (0, 3) ∷ (2, 1) ∷ []) }
-{
-    let map = neim![alloc; 0 => 3, 2 => 1]?;
-    let pairs = map.iter();
-    pairs.map(|(k, v)| (*k, *v)).collect(alloc)
-}
-
-/// The values that the loop writes are only run.
-pub fn iter_mut(alloc: Global) -> Result<NEIndexMap<u32, u32>, AllocError>
-    ensures { IfOk result (λ m. keys m ≡ 4 ∷ 2 ∷ []) }
-{
-    let mut map = neim![alloc; 4 => 0u32, 2 => 1]?;
-    for (_key, value) in map.iter_mut() {
-        *value = value.wrapping_mul(31).wrapping_add(1);
-    }
-    Ok(map)
-}
-
 /// The example of `nonempty_iter`.
 pub fn nonempty_iter(alloc: Global) -> Result<NEVec<(u32, u32)>, AllocError>
     ensures { IfOk result (λ v. v ≡ (0, 3) ∷ (2, 1) ∷ []) }
@@ -49,17 +28,6 @@ pub fn nonempty_iter(alloc: Global) -> Result<NEVec<(u32, u32)>, AllocError>
     let map = neim![alloc; 0 => 3, 2 => 1]?;
     let pairs = map.nonempty_iter();
     pairs.map(|(k, v)| (*k, *v)).collect(alloc)
-}
-
-/// The values that the loop writes are only run.
-pub fn nonempty_iter_mut(alloc: Global) -> Result<NEIndexMap<u32, u32>, AllocError>
-    ensures { IfOk result (λ m. keys m ≡ 4 ∷ 2 ∷ []) }
-{
-    let mut map = neim![alloc; 4 => 1u32, 2 => 32]?;
-    for (_key, value) in map.nonempty_iter_mut() {
-        *value = value.wrapping_mul(31).wrapping_add(2);
-    }
-    Ok(map)
 }
 
 /// The example of `keys`.
@@ -71,14 +39,6 @@ pub fn keys(alloc: Global) -> Result<NEVec<u32>, AllocError>
     keys.copied().collect(alloc)
 }
 
-/// The example of `len`.
-pub fn len(alloc: Global) -> Result<usize, AllocError>
-    ensures { IfOk result (λ len. len ≡ 2) }
-{
-    let len = neim![alloc; 1 => 10, 2 => 20, 1 => 30]?.len().get();
-    Ok(len)
-}
-
 /// The example of `values`.
 pub fn values(alloc: Global) -> Result<NEVec<u32>, AllocError>
     ensures { IfOk result (λ v. v ≡ 3 ∷ 1 ∷ []) }
@@ -86,17 +46,6 @@ pub fn values(alloc: Global) -> Result<NEVec<u32>, AllocError>
     let map = neim![alloc; 0 => 3, 2 => 1]?;
     let values = map.values();
     values.copied().collect(alloc)
-}
-
-/// The values that the loop writes are only run.
-pub fn values_mut(alloc: Global) -> Result<NEIndexMap<u32, u32>, AllocError>
-    ensures { IfOk result (λ m. keys m ≡ 4 ∷ 2 ∷ []) }
-{
-    let mut map = neim![alloc; 4 => 1u32, 2 => 32]?;
-    for value in map.values_mut() {
-        *value = value.wrapping_mul(31).wrapping_add(2);
-    }
-    Ok(map)
 }
 
 /// The example of `first`.
@@ -117,14 +66,6 @@ pub fn last(alloc: Global) -> Result<(u32, u32), AllocError>
     Ok((*last.0, *last.1))
 }
 
-/// The example of `new`.
-pub fn new(alloc: Global) -> Result<NEIndexMap<u32, u32>, AllocError>
-    ensures { IfOk result (λ m. m.entries ≡ (4, 20) ∷ []) }
-{
-    let map = NEIndexMap::new(alloc, 4, 20)?;
-    Ok(map)
-}
-
 /// Creates a map of one key that has room for more.
 pub fn with_capacity(alloc: Global) -> Result<NEIndexMap<u32, u32>, AllocError>
     ensures entries { IfOk result (λ m. m.entries ≡ (2, 1) ∷ []) }
@@ -135,55 +76,12 @@ pub fn with_capacity(alloc: Global) -> Result<NEIndexMap<u32, u32>, AllocError>
     Ok(map)
 }
 
-/// The example of `try_from_map`.
-pub fn try_from_map(
-    alloc: Global,
-) -> Result<(Option<NEIndexMap<u32, u32>>, Option<NEIndexMap<u32, u32>>), AllocError>
-    ensures { IfOk result (λ r.
-        (IsSomeAnd r.0 (λ m. m.entries ≡ (4, 1) ∷ (2, 2) ∷ [])) × (r.1 ≡ None)) }
-{
-    let inner: IndexMap<u32, u32> = [(4, 1), (2, 2)].into_iter().collect(alloc)?;
-    let some = NEIndexMap::try_from_map(inner);
-    let inner: IndexMap<u32, u32> = Vec::new(alloc).into_iter().collect(alloc)?;
-    let none = NEIndexMap::try_from_map(inner);
-    Ok((some, none))
-}
-
 /// The example of `into_map`.
 pub fn into_map(alloc: Global) -> Result<IndexMap<u32, u32>, AllocError>
     ensures { IfOk result (λ m. m.entries ≡ (4, 26) ∷ (2, 24) ∷ []) }
 {
     let inner = neim![alloc; 4 => 26, 2 => 24]?.into_map();
     Ok(inner)
-}
-
-/// The example of `contains_key`.
-pub fn contains_key(alloc: Global) -> Result<(bool, bool), AllocError>
-    ensures { IfOk result (λ r. (r.0 ≡ true) × (r.1 ≡ false)) }
-{
-    let map = neim![alloc; 4 => 26, 2 => 24]?;
-    let (there, absent) = (map.contains_key(&2), map.contains_key(&8));
-    Ok((there, absent))
-}
-
-/// The example of `get_key_value`.
-pub fn get_key_value(alloc: Global) -> Result<Option<(u32, u32)>, AllocError>
-    ensures { IfOk result (λ pair. pair ≡ Some (2, 1)) }
-{
-    let map = neim![alloc; 0 => 3, 2 => 1]?;
-    let pair = map.get_key_value(&2);
-    Ok(pair.map(|(k, v)| (*k, *v)))
-}
-
-/// The example of `get_mut`.
-pub fn get_mut(alloc: Global) -> Result<NEIndexMap<u32, u32>, AllocError>
-    ensures { IfOk result (λ m. m.entries ≡ (4, 27) ∷ (2, 24) ∷ []) }
-{
-    let mut map = neim![alloc; 4 => 26, 2 => 24]?;
-    if let Some(value) = map.get_mut(&4) {
-        *value = 27;
-    }
-    Ok(map)
 }
 
 /// The example of `get_index_of`.
@@ -377,24 +275,6 @@ pub fn index(alloc: Global) -> Result<u32, AllocError>
     let map = neim![alloc; 4 => 26, 2 => 24]?;
     let value = map[1];
     Ok(value)
-}
-
-/// The example of `contains_key_by_text`.
-pub fn contains_key_by_text(alloc: Global) -> Result<(bool, bool), AllocError>
-    ensures { IfOk result (λ r. (r.0 ≡ true) × (r.1 ≡ false)) }
-{
-    let map = NEIndexMap::new(alloc, String::from_str(alloc, "a")?, 24)?;
-    let (there, absent) = (map.contains_key_by_text("a"), map.contains_key_by_text("b"));
-    Ok((there, absent))
-}
-
-/// The example of `get_by_text`.
-pub fn get_by_text(alloc: Global) -> Result<(Option<u32>, Option<u32>), AllocError>
-    ensures { IfOk result (λ r. (r.0 ≡ Some 24) × (r.1 ≡ None)) }
-{
-    let map = NEIndexMap::new(alloc, String::from_str(alloc, "a")?, 24)?;
-    let (some, none) = (map.get_by_text("a"), map.get_by_text("b"));
-    Ok((some.copied(), none.copied()))
 }
 
 /// The example of `swap_remove_by_text`.

@@ -1,11 +1,10 @@
 //! The examples of hashed sets.
 ghost use Rattle.std.specs.Prelude.{◌≡◌, ◌+◌, ◌≤◌, [], ◌∷◌, true, false, length, nat_eq};
-ghost use Rattle.std.specs.Prelude.{◌%◌, ◌==◌, ℕ, List, IfOk, MatchResult, None, Some};
+ghost use Rattle.std.specs.Prelude.{◌%◌, ◌==◌, ℕ, List, IfOk, MatchResult, None};
 ghost use Rattle.std.specs.HashSet.{contains, hash_set_len, spare};
 ghost use Rattle.std.specs.List.{filter};
 ghost use Rattle.std.specs.Option.{IsSomeAnd};
 ghost use Rattle.std.specs.Set.{is_member};
-ghost use Rattle.nonempty_collections.specs.Collected.{IsSetOf};
 
 use nonempty_collections::{NESet, NEVec, NonEmptyIterator, nes};
 use std::alloc::{AllocError, Global};
@@ -56,22 +55,6 @@ pub fn nonempty_iter(alloc: Global) -> Result<NEVec<u32>, AllocError>
     items.copied().collect(alloc)
 }
 
-/// The example of `len`.
-pub fn len(alloc: Global) -> Result<usize, AllocError>
-    ensures { IfOk result (λ len. len ≡ 2) }
-{
-    let len = nes![alloc; 2, 1, 2]?.len().get();
-    Ok(len)
-}
-
-/// The example of `new`.
-pub fn new(alloc: Global) -> Result<NESet<u32>, AllocError>
-    ensures { IfOk result (λ s. s.keys ≡ 2 ∷ []) }
-{
-    let set = NESet::new(alloc, 2)?;
-    Ok(set)
-}
-
 /// Creates a set of one item that has room for more.
 pub fn with_capacity(alloc: Global) -> Result<NESet<u32>, AllocError>
     ensures items { IfOk result (λ s. s.keys ≡ 2 ∷ []) }
@@ -108,33 +91,6 @@ pub fn into_set(alloc: Global) -> Result<HashSet<u32>, AllocError>
     Ok(inner)
 }
 
-/// The example of `contains`.
-pub fn contains(alloc: Global) -> Result<(bool, bool), AllocError>
-    ensures { IfOk result (λ r. (r.0 ≡ true) × (r.1 ≡ false)) }
-{
-    let set = nes![alloc; 2, 4]?;
-    let (there, absent) = (set.contains(&4), set.contains(&8));
-    Ok((there, absent))
-}
-
-/// The example of `difference`.
-pub fn difference(alloc: Global) -> Result<Vec<u32>, AllocError>
-    ensures { IfOk result (λ left. IsSetOf nat_eq (2 ∷ []) left.items) }
-{
-    let (a, b) = (nes![alloc; 2, 4]?, nes![alloc; 4, 6]?);
-    let left: Vec<u32> = a.difference(&b).copied().collect(alloc)?;
-    Ok(left)
-}
-
-/// The example of `get`.
-pub fn get(alloc: Global) -> Result<(Option<u32>, Option<u32>), AllocError>
-    ensures { IfOk result (λ r. (r.0 ≡ Some 8) × (r.1 ≡ None)) }
-{
-    let set = NESet::new(alloc, 8)?;
-    let (eight, none) = (set.get(&8), set.get(&6));
-    Ok((eight.copied(), none.copied()))
-}
-
 /// The example of `insert`.
 pub fn insert(alloc: Global) -> Result<(bool, bool, NESet<u32>), AllocError>
     ensures added { IfOk result (λ r. r.0 ≡ true) }
@@ -148,52 +104,6 @@ pub fn insert(alloc: Global) -> Result<(bool, bool, NESet<u32>), AllocError>
     let added = set.insert(8)?;
     let again = set.insert(8)?;
     Ok((added, again, set))
-}
-
-/// The example of `intersection`.
-pub fn intersection(alloc: Global) -> Result<Vec<u32>, AllocError>
-    ensures { IfOk result (λ v. IsSetOf nat_eq (3 ∷ []) v.items) }
-{
-    let (a, b) = (nes![alloc; 0, 3]?, nes![alloc; 3, 1]?);
-    let shared = a.intersection(&b);
-    shared.copied().collect(alloc)
-}
-
-/// The example of `is_disjoint`.
-pub fn is_disjoint(alloc: Global) -> Result<bool, AllocError>
-    ensures { IfOk result (λ disjoint. disjoint ≡ false) }
-{
-    let (a, b) = (nes![alloc; 2, 4]?, nes![alloc; 4, 6]?);
-    let disjoint = a.is_disjoint(&b);
-    Ok(disjoint)
-}
-
-/// The example of `is_subset`.
-pub fn is_subset(alloc: Global) -> Result<bool, AllocError>
-    ensures { IfOk result (λ subset. subset ≡ true) }
-{
-    let (a, b) = (nes![alloc; 4]?, nes![alloc; 2, 4]?);
-    let subset = a.is_subset(&b);
-    Ok(subset)
-}
-
-/// The example of `is_superset`.
-pub fn is_superset(alloc: Global) -> Result<bool, AllocError>
-    ensures { IfOk result (λ superset. superset ≡ true) }
-{
-    let (a, b) = (nes![alloc; 2, 4]?, nes![alloc; 4]?);
-    let superset = a.is_superset(&b);
-    Ok(superset)
-}
-
-/// The example of `replace`.
-pub fn replace(alloc: Global) -> Result<(Option<u32>, Option<u32>), AllocError>
-    ensures { IfOk result (λ r. (r.0 ≡ Some 8) × (r.1 ≡ None)) }
-{
-    let mut set = NESet::new(alloc, 8)?;
-    let old = set.replace(8)?;
-    let none = set.replace(6)?;
-    Ok((old, none))
 }
 
 /// Makes room for 20 more items, and returns the capacity.
@@ -238,32 +148,6 @@ pub fn clone(alloc: Global) -> Result<bool, AllocError>
     Ok(same)
 }
 
-/// The example of `remove`.
-pub fn remove(alloc: Global) -> Result<(bool, bool, bool), AllocError>
-    ensures removed { IfOk result (λ r. r.0 ≡ true) }
-    ensures only { IfOk result (λ r. r.1 ≡ false) }
-    ensures stays { IfOk result (λ r. r.2 ≡ true) }
-{
-    let mut set = nes![alloc; 2, 4]?;
-    let removed = set.remove(&2);
-    let only = set.remove(&4);
-    let stays = set.contains(&4);
-    Ok((removed, only, stays))
-}
-
-/// The example of `take`.
-pub fn take(alloc: Global) -> Result<(Option<u32>, Option<u32>, bool), AllocError>
-    ensures taken { IfOk result (λ r. r.0 ≡ Some 4) }
-    ensures none { IfOk result (λ r. r.1 ≡ None) }
-    ensures stays { IfOk result (λ r. r.2 ≡ true) }
-{
-    let mut set = nes![alloc; 2, 4]?;
-    let taken = set.take(&4);
-    let none = set.take(&2);
-    let stays = set.contains(&2);
-    Ok((taken, none, stays))
-}
-
 /// An even item stays, and an odd one does not.
 pub fn retain(
     alloc: Global,
@@ -285,15 +169,6 @@ pub fn retain(
     let even = NESet::new(alloc, 4)?.retain(|x| *x % 2 == 0);
     let none = NESet::new(alloc, 3)?.retain(|x| *x % 2 == 0);
     Ok((even, none))
-}
-
-/// The example of `contains_by_text`.
-pub fn contains_by_text(alloc: Global) -> Result<(bool, bool), AllocError>
-    ensures { IfOk result (λ r. (r.0 ≡ true) × (r.1 ≡ false)) }
-{
-    let set = NESet::new(alloc, String::from_str(alloc, "a")?)?;
-    let (there, absent) = (set.contains_by_text("a"), set.contains_by_text("b"));
-    Ok((there, absent))
 }
 
 /// The example of `remove_by_text`.

@@ -1,7 +1,6 @@
 //! The examples of index sets.
 ghost use Rattle.std.specs.Prelude.{◌≡◌, ◌+◌, ◌≤◌, ◌%◌, ◌==◌, [], ◌∷◌, List, ℕ, true, false};
 ghost use Rattle.std.specs.Prelude.{filter, IfOk, MatchResult, None, Some};
-ghost use Rattle.std.specs.Option.{IsSomeAnd};
 ghost use Rattle.indexmap.specs.IndexSet.{index_set_len, spare};
 
 use indexmap::IndexSet;
@@ -22,15 +21,6 @@ pub fn neindexset(alloc: Global) -> Result<(bool, bool, usize), AllocError>
     Ok((two, three, len))
 }
 
-/// The example of `iter`.
-pub fn iter(alloc: Global) -> Result<Vec<u32>, AllocError>
-    ensures { IfOk result (λ v. v.items ≡ 10 ∷ 2 ∷ []) }
-{
-    let set = neis![alloc; 10, 2]?;
-    let items = set.iter();
-    items.copied().collect(alloc)
-}
-
 /// The example of `nonempty_iter`.
 pub fn nonempty_iter(alloc: Global) -> Result<NEVec<u32>, AllocError>
     ensures { IfOk result (λ v. v ≡ 10 ∷ 2 ∷ []) }
@@ -38,22 +28,6 @@ pub fn nonempty_iter(alloc: Global) -> Result<NEVec<u32>, AllocError>
     let set = neis![alloc; 10, 2]?;
     let items = set.nonempty_iter();
     items.copied().collect(alloc)
-}
-
-/// The example of `len`.
-pub fn len(alloc: Global) -> Result<usize, AllocError>
-    ensures { IfOk result (λ len. len ≡ 2) }
-{
-    let len = neis![alloc; 2, 1, 2]?.len().get();
-    Ok(len)
-}
-
-/// The example of `new`.
-pub fn new(alloc: Global) -> Result<NEIndexSet<u32>, AllocError>
-    ensures { IfOk result (λ s. s.keys ≡ 2 ∷ []) }
-{
-    let set = NEIndexSet::new(alloc, 2)?;
-    Ok(set)
 }
 
 /// Creates a set of one item that has room for more.
@@ -66,52 +40,12 @@ pub fn with_capacity(alloc: Global) -> Result<NEIndexSet<u32>, AllocError>
     Ok(set)
 }
 
-/// The example of `try_from_set`.
-pub fn try_from_set(
-    alloc: Global,
-) -> Result<(Option<NEIndexSet<u32>>, Option<NEIndexSet<u32>>), AllocError>
-    ensures { IfOk result (λ r. (IsSomeAnd r.0 (λ s. s.keys ≡ 2 ∷ 4 ∷ [])) × (r.1 ≡ None)) }
-{
-    let inner: IndexSet<u32> = [2, 4].into_iter().collect(alloc)?;
-    let some = NEIndexSet::try_from_set(inner);
-    let inner: IndexSet<u32> = Vec::new(alloc).into_iter().collect(alloc)?;
-    let none = NEIndexSet::try_from_set(inner);
-    Ok((some, none))
-}
-
 /// The example of `into_set`.
 pub fn into_set(alloc: Global) -> Result<IndexSet<u32>, AllocError>
     ensures { IfOk result (λ s. s.keys ≡ 4 ∷ 2 ∷ []) }
 {
     let inner = neis![alloc; 4, 2]?.into_set();
     Ok(inner)
-}
-
-/// The example of `contains`.
-pub fn contains(alloc: Global) -> Result<(bool, bool), AllocError>
-    ensures { IfOk result (λ r. (r.0 ≡ true) × (r.1 ≡ false)) }
-{
-    let set = neis![alloc; 2, 4]?;
-    let (there, absent) = (set.contains(&4), set.contains(&8));
-    Ok((there, absent))
-}
-
-/// Iterates over the items that are only in the first set.
-pub fn difference(alloc: Global) -> Result<Vec<u32>, AllocError>
-    ensures { IfOk result (λ v. v.items ≡ 2 ∷ 4 ∷ []) }
-{
-    let (a, b) = (neis![alloc; 2, 4, 6]?, neis![alloc; 6]?);
-    let left = a.difference(&b);
-    Ok(left.copied().collect(alloc)?)
-}
-
-/// The example of `get`.
-pub fn get(alloc: Global) -> Result<(Option<u32>, Option<u32>), AllocError>
-    ensures { IfOk result (λ r. (r.0 ≡ Some 8) × (r.1 ≡ None)) }
-{
-    let set = NEIndexSet::new(alloc, 8)?;
-    let (eight, none) = (set.get(&8), set.get(&6));
-    Ok((eight.copied(), none.copied()))
 }
 
 /// The example of `insert`.
@@ -124,46 +58,6 @@ pub fn insert(alloc: Global) -> Result<(bool, bool, NEIndexSet<u32>), AllocError
     let added = set.insert(8)?;
     let again = set.insert(8)?;
     Ok((added, again, set))
-}
-
-/// Iterates over the items that are in both sets.
-pub fn intersection(alloc: Global) -> Result<Vec<u32>, AllocError>
-    ensures { IfOk result (λ v. v.items ≡ 3 ∷ []) }
-{
-    let (a, b) = (neis![alloc; 0, 3]?, neis![alloc; 3, 1]?);
-    let shared = a.intersection(&b);
-    Ok(shared.copied().collect(alloc)?)
-}
-
-/// The example of `is_disjoint`.
-pub fn is_disjoint(alloc: Global) -> Result<bool, AllocError>
-    ensures { IfOk result (λ disjoint. disjoint ≡ false) }
-{
-    let (a, b) = (neis![alloc; 2, 4]?, neis![alloc; 4, 6]?);
-    let disjoint = a.is_disjoint(&b);
-    Ok(disjoint)
-}
-
-/// The example of `is_subset`.
-pub fn is_subset(alloc: Global) -> Result<bool, AllocError>
-    ensures { IfOk result (λ subset. subset ≡ true) }
-{
-    let a = NEIndexSet::new(alloc, 4)?;
-    let mut b = NEIndexSet::new(alloc, 2)?;
-    b.insert(4)?;
-    let subset = a.is_subset(&b);
-    Ok(subset)
-}
-
-/// The example of `is_superset`.
-pub fn is_superset(alloc: Global) -> Result<bool, AllocError>
-    ensures { IfOk result (λ superset. superset ≡ true) }
-{
-    let mut a = NEIndexSet::new(alloc, 2)?;
-    a.insert(4)?;
-    let b = NEIndexSet::new(alloc, 4)?;
-    let superset = a.is_superset(&b);
-    Ok(superset)
 }
 
 /// The example of `replace`.
@@ -182,15 +76,6 @@ pub fn reserve(alloc: Global) -> Result<usize, AllocError>
     let mut set = NEIndexSet::new(alloc, 2)?;
     set.reserve(20)?;
     Ok(set.capacity().get())
-}
-
-/// The example of `union`.
-pub fn union(alloc: Global) -> Result<usize, AllocError>
-    ensures { IfOk result (λ count. count ≡ 2) }
-{
-    let (one, two) = (neis![alloc; 1]?, neis![alloc; 2]?);
-    let count = one.union(&two).count().get();
-    Ok(count)
 }
 
 /// The example of `with_capacity_and_hasher`.
@@ -307,15 +192,6 @@ pub fn retain(
     let even = neis![alloc; 6, 5]?.retain(|x| *x % 2 == 0);
     let none = neis![alloc; 1, 3]?.retain(|x| *x % 2 == 0);
     Ok((even, none))
-}
-
-/// The example of `contains_by_text`.
-pub fn contains_by_text(alloc: Global) -> Result<(bool, bool), AllocError>
-    ensures { IfOk result (λ r. (r.0 ≡ true) × (r.1 ≡ false)) }
-{
-    let set = NEIndexSet::new(alloc, String::from_str(alloc, "a")?)?;
-    let (there, absent) = (set.contains_by_text("a"), set.contains_by_text("b"));
-    Ok((there, absent))
 }
 
 /// The example of `swap_remove_by_text`.
