@@ -1,5 +1,5 @@
 -- What was read when a sequence or a map that is not empty began. `gives` and `stays` are the
--- format's: it read an event, or it looked at what comes next.
+-- format's: it read an event, or it peeked at what comes next.
 use Rattle.std.specs.Prelude.{List, ℕ, None}
 use Rattle.serde.specs.Event.{Event, seq_begins, map_begins, key_begins}
 use Rattle.serde.specs.Steps.{Gives, Stays}
