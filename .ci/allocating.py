@@ -1,5 +1,5 @@
-"""The public functions that may report a failed allocation, and the names by which the tests with
-failing allocations report on them."""
+"""The public functions that may report a failed allocation, also as the error of a format that is
+read, and the names by which the tests with failing allocations report on them."""
 
 import re
 
@@ -26,13 +26,15 @@ ITEMS = {
 }
 # Types that keep the memory of the vector that they are collected from.
 DRAINED = ("NEVec", "Vec", "NEVecDeque", "NEBinaryHeap")
-# Calls that never allocate, although their type allows an `AllocError`; and methods of traits that
-# have a body only in an implementation, each of which is tested.
+# Calls that never allocate, although their type allows an `AllocError`; methods of traits that have
+# a body only in an implementation, each of which is tested; and what reads a collection, which the
+# tests of each collection call.
 EXCUSED = {
     *("NESlice::clone", "Iter::clone", "NonEmptyIter::clone", "collect into ()"),
     *(f"FromNonEmptyIterator::from_drained of {it}" for it in DRAINED),
     *("FromNonEmptyIterator::from_nonempty_iter", "NonEmptyMap::put"),
     *("NonEmptySet::add", "NonEmptySet::put"),
+    *("read_map", "read_map_owned", "read_seq", "read_seq_owned"),
 }
 
 
@@ -54,7 +56,7 @@ def call_of(it):
 
 def may_fail():
     """Returns the functions that may report a failed allocation, except for the excused calls."""
-    named = re.compile(r"Alloc(?:Error|Failed)\b")
+    named = re.compile(r"Alloc(?:Error|Failed)\b|\bF::Error\b")
     every = [it for it in functions() if named.search(it.returned())]
     return [it for it in every if call_of(it) not in EXCUSED]
 

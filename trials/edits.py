@@ -24,6 +24,11 @@ def file_of(path):
     return os.path.join("crates", crate, "src", *modules) + ".rt"
 
 
+def code(line):
+    """Returns a line of code without its comment and the space around it."""
+    return line.partition("//")[0].strip()
+
+
 class Mutant:
     """A wrong body: the functions that it changes, the new lines by file and line number, the
     witness against it, if it names one, and whether the gate tries it."""
@@ -55,8 +60,9 @@ class Mutant:
             else:
                 stop(f"{self.name}: this line has no meaning here: {line}")
         for file, text in texts.items():
-            pairs = enumerate(zip(read(file).split("\n"), text.split("\n")))
-            self.lines.update({(file, at): new for at, (was, new) in pairs if was != new})
+            for at, (was, new) in enumerate(zip(read(file).split("\n"), text.split("\n"))):
+                if code(was) != code(new):
+                    self.lines[file, at] = new
         if not self.functions or not self.lines:
             stop(f"{self.name}: it names no function, or changes nothing")
         if not self.of_impl:

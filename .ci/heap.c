@@ -1,18 +1,22 @@
-/* Runs a program once for each request for memory that it makes, with that one refused, and then
-   once with none refused.
+/* The heap of a program that the gate runs. At its end the program must have freed each block that
+   it took: if not, it says so on standard error, and ends with status 97.
 
-   A run is a child of the process, begun before `main`, which reads standard input from its start.
-   A line `-- request NUMBER is refused: status STATUS` on both outputs ends each run in which the
-   request has come. The last run has no such line, and its status is that of the process. With a
-   first word that begins with `--`, as `--list` of tests, the program runs once as it is.
+   With IN_TURN it runs once for each request for memory that it makes, with that one refused, and
+   then once with none refused. A run is a child of the process, begun before `main`, which reads
+   standard input from its start. A line `-- request NUMBER is refused: status STATUS` on both
+   outputs ends each run in which the request has come. The last run has no such line, and its
+   status is that of the process. With a first word that begins with `--`, as `--list` of tests, the
+   program runs once as it is.
 
    It is loaded by LD_PRELOAD, or linked into a program with a sanitizer, and uses its heap. */
 
 typedef unsigned long size_t;
 extern void *__libc_malloc(size_t size);
 extern void *__libc_realloc(void *block, size_t size);
+extern void __libc_free(void *block);
 extern void *__interceptor_malloc(size_t size) __attribute__((weak));
 extern void *__interceptor_realloc(void *block, size_t size) __attribute__((weak));
+extern void __interceptor_free(void *block) __attribute__((weak));
 extern void *mmap(void *address, size_t length, int protection, int flags, int file, long offset);
 extern int fork(void);
 extern int waitpid(int child, int *status, int options);
@@ -20,6 +24,8 @@ extern long lseek(int file, long offset, int whence);
 extern int dprintf(int file, const char *format, ...);
 extern void _exit(int status);
 
+/* How many blocks the program has. */
+static long blocks;
 /* How many requests are left up to the one that is refused; 0 if none is. */
 static int left;
 /* Whether it has come: in memory that the process shares with its children. */
@@ -37,17 +43,32 @@ void *malloc(size_t size) {
   if (is_refused()) {
     return 0;
   }
-  return __interceptor_malloc ? __interceptor_malloc(size) : __libc_malloc(size);
+  void *made = __interceptor_malloc ? __interceptor_malloc(size) : __libc_malloc(size);
+  blocks += made != 0;
+  return made;
 }
 
 void *realloc(void *block, size_t size) {
   if (is_refused()) {
     return 0;
   }
-  return __interceptor_realloc ? __interceptor_realloc(block, size) : __libc_realloc(block, size);
+  void *made =
+      __interceptor_realloc ? __interceptor_realloc(block, size) : __libc_realloc(block, size);
+  blocks += block == 0 && made != 0;
+  return made;
 }
 
-__attribute__((constructor)) static void run_in_turn(int count, char **words) {
+void free(void *block) {
+  blocks -= block != 0;
+  if (__interceptor_free) {
+    __interceptor_free(block);
+  } else {
+    __libc_free(block);
+  }
+}
+
+#ifdef IN_TURN
+static void run_in_turn(int count, char **words) {
   if (count > 1 && words[1][0] == '-' && words[1][1] == '-') {
     return;
   }
@@ -71,5 +92,20 @@ __attribute__((constructor)) static void run_in_turn(int count, char **words) {
       dprintf(file, "-- request %d is refused: status %d\n", place, status);
     }
     lseek(0, 0, 0);
+  }
+}
+#endif
+
+__attribute__((constructor)) static void begin(int count, char **words) {
+#ifdef IN_TURN
+  run_in_turn(count, words);
+#endif
+  blocks = 0;
+}
+
+__attribute__((destructor)) static void end(void) {
+  if (blocks != 0) {
+    dprintf(2, "%ld blocks of memory are not freed\n", blocks);
+    _exit(97);
   }
 }
