@@ -75,6 +75,9 @@ class Checks:
         rows = self.rows(number)
         with open(f"/proc/{number}/status", encoding="utf-8") as it:
             most = re.search(r"VmHWM:\s+(\d+)", it.read())
+        if not most:
+            # it has ended, and is not waited for yet
+            return
         # without those that it has waited for, which are read themselves
         seconds = sum(map(int, rows[11:13])) / TICK
         self.found[number, rows[19]] = name, seconds, int(most[1]) / 2**20
