@@ -65,6 +65,8 @@ class Mutant:
                     self.lines[file, at] = new
         if not self.functions or not self.lines:
             stop(f"{self.name}: it names no function, or changes nothing")
+        if any(code(new).startswith("unreachable!") for new in self.lines.values()):
+            stop(f"{self.name}: it is refused for what it stops at, and not by a clause")
         if not self.of_impl:
             texts = "".join(map(read, texts))
             for path in self.functions:
