@@ -44,6 +44,8 @@ def statements(it):
     """Returns the statements. A source of any type may not be dropped: it is used up."""
     if it.trait == "Iterator" and it.owner in ITEMS:
         return ITEMS[it.owner]
+    if "F::Error" in it.returned():
+        return "return Err(from.no_memory());"
     if COLLECTED in it.signature:
         return f"let _made = B::from_nonempty_iter(alloc, self)?; {FAILED}"
     source = ""
