@@ -2,8 +2,8 @@
 of what it calls, so one check judges many functions: mutants that change no function and no line in
 common are tried together, each check in a copy of the repository that later ones reuse.
 
-The libraries below a crate are those that `rt ci` built in this checkout, if it has and they are
-not older than their sources; else a check proves them in the copy."""
+The libraries below a crate are those that `rt ci` built in this checkout, of the texts that are
+there."""
 
 import os
 import re
@@ -17,32 +17,19 @@ from queue import SimpleQueue
 from common import QUIET, ROOT, below, copy_crates, errors_of, kit, stop, write
 
 
-def made(crate):
-    return os.path.join(ROOT, "crates", crate, "out", "rlib", f"{crate}.rlib", "format")
-
-
 def is_there(crate):
     """Returns whether `rt ci` has built the library."""
-    return os.path.exists(made(crate))
+    return os.path.exists(f"{ROOT}/crates/{crate}/out/rlib/{crate}.rlib/format")
 
 
-def is_built(crate):
-    """Returns whether `rt ci` has built the library from the texts that are there. Those that it
-    took from an earlier run have the time of that run."""
-    home = os.path.join(ROOT, "crates", crate)
-    parts = [os.walk(os.path.join(home, it)) for it in ("src", "specs", "proofs")]
-    texts = [os.path.join(at, it) for part in parts for at, _, names in part for it in names]
-    return is_there(crate) and max(map(os.path.getmtime, texts)) < os.path.getmtime(made(crate))
-
-
-def take_libraries(folder, is_right):
-    """Copies the libraries that are right into a copy of the repository, with the stamp by which
-    `rt` knows their texts."""
+def take_libraries(folder):
+    """Copies the libraries into a copy of the repository, with the stamp by which `rt` knows their
+    texts."""
     sys.path.insert(0, os.path.join(kit(), "bin"))
     import rtlib
 
     for it in rtlib.crates_below(folder):
-        if not it.is_program and all(map(is_right, below(it.name))):
+        if not it.is_program and all(map(is_there, below(it.name))):
             taken = os.path.join(it.folder, "out", "rlib")
             shutil.copytree(os.path.join(ROOT, "crates", it.name, "out", "rlib"), taken)
             write(os.path.join(taken, "stamp"), it.stamp())
@@ -101,9 +88,8 @@ def judged(folder, mutants):
     return found
 
 
-def refused(mutants, is_right=is_built):
-    """Returns, for each mutant, whether the prover refuses each function that it changes. The
-    libraries for which `is_right` are taken from this checkout."""
+def refused(mutants):
+    """Returns, for each mutant, whether the prover refuses each function that it changes."""
     copies, lanes = SimpleQueue(), len(os.sched_getaffinity(0))
 
     def in_a_copy(these):
@@ -122,7 +108,7 @@ def refused(mutants, is_right=is_built):
         for copy in range(lanes):
             copies.put(os.path.join(room, str(copy)))
             copy_crates(os.path.join(room, str(copy)), below(*{it.crate for it in mutants}))
-            take_libraries(os.path.join(room, str(copy)), is_right)
+            take_libraries(os.path.join(room, str(copy)))
         found = {}
         for these in threads.map(in_a_copy, rounds_of(mutants)):
             found |= these
