@@ -48,9 +48,8 @@ def crates():
 
 
 def libraries():
-    """Returns the crates that are libraries: those that have no program, and whose names say
-    neither `user` nor `test`."""
-    names = [it for it in crates() if not it.startswith(("user_", "test_"))]
+    """Returns the crates that are libraries: those that have no program and are not of a user."""
+    names = [it for it in crates() if not it.startswith("user_")]
     return [it for it in names if os.path.exists(f"{ROOT}/crates/{it}/src/lib.rt")]
 
 

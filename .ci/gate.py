@@ -30,8 +30,8 @@ PAGE = os.path.join(ROOT, "docs", "TIMES.md")
 TICK = os.sysconf("SC_CLK_TCK")
 HEAD = (
     "Written by `.ci/run --write` on a machine with {processors} processors, {when}: processor "
-    "time in seconds, and the most memory that a check takes. The crates are those of `rt ci`; "
-    "the check of a crate's tests is one of its own. {kept}"
+    "time in seconds, and the most memory that a check takes. The crates are those of `rt ci`. "
+    "{kept}"
 )
 
 
@@ -71,7 +71,7 @@ class Checks:
             return
         if not self.is_below(number):
             return
-        name = words[words.index("--crate-name") + 1] + " (tests)" * ("--test" in words)
+        name = words[words.index("--crate-name") + 1]
         rows = self.rows(number)
         with open(f"/proc/{number}/status", encoding="utf-8") as it:
             most = re.search(r"VmHWM:\s+(\d+)", it.read())
