@@ -3,18 +3,15 @@ read, and the names by which the tests with failing allocations report on them."
 
 import re
 
-from sources import files, functions, macros
 from common import libraries, read
+from kinds import KINDS
+from sources import files, functions, macros
 
 # How the tests name a trait's method for a type, and the method that an iterator comes from.
-KINDS = {
-    "NEVec": "",
-    "NEBTreeMap": " of a tree map",
-    "NEBTreeSet": " of a tree set",
-    "NEMap": " of a hashed map",
-    "NESet": " of a hashed set",
-    "NEIndexMap": " of an index map",
-    "NEIndexSet": " of an index set",
+TYPES = {"NEVec": ""} | {
+    f"NE{it.type}{kind}": f" of {it.said} {kind.lower()}"
+    for it in KINDS.values()
+    for kind in ("Map", "Set")
 }
 ITEMS = {
     "ClonedIter": "NonEmptyIterator::cloned",
@@ -44,7 +41,7 @@ def call_of(it):
     if trait == "Iterator":
         return ITEMS.get(it.owner, it.path())
     if trait in ("Singleton", "NonEmptyMap", "NonEmptySet"):
-        return f"{trait}::{it.name}{KINDS.get(it.owner, f' of {it.owner}')}"
+        return f"{trait}::{it.name}{TYPES.get(it.owner, f' of {it.owner}')}"
     if trait == "FromNonEmptyIterator" and it.name == "from_drained":
         return f"{trait}::{it.name} of {it.owner}"
     if trait == "FromNonEmptyIterator":

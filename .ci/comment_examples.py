@@ -2,21 +2,33 @@
 
 An example is a block of code between two lines of three backticks. In it a comment after a
 statement says the value of the name that the statement binds or changes: of each name of a pair, or
-each item of an iterator, separated by commas and `and`.
+each item of an iterator, separated by commas and `and`. The value becomes conditions of Rust.
 """
 
 import re
 
 from common import libraries, read
+from conditions import UNREACHABLE, conditions, in_any_order_of, in_order, split
 from sources import EXAMPLE, files
 
 COMMENT = re.compile(r"^ *//[/!] ?", re.M)
 # What a comment is about: the first of these after it.
 ITEM = re.compile(r"^ *(?:pub |final )*(?:fn|struct|macro_rules!) (\w+)", re.M)
-# Comments that say no value.
-PLAIN = ("the same items", "the capacity is now at least")
+# A comment that says no value.
+SAME = "the same items"
+# What a comment says of the capacity of the name that a statement binds or changes.
+ROOM = re.compile(r"(?:, with room for|the capacity is now at least) (\d+).*")
 # Calls whose result is an iterator or a source, even if the comment has one item.
 ITERATORS = re.compile(r"^let \w+ = \w+\.(?:intersection|adjacent_runs)\(")
+
+# Which collections the examples of a crate make, mostly.
+COLLECTIONS = {
+    "ne_deque": "queue",
+    "ne_heap": "heap",
+    "ne_index": "index",
+    "ne_string": "text",
+    "ne_tree": "tree",
+}
 
 
 def bare(code):
@@ -25,85 +37,63 @@ def bare(code):
     return re.sub(r",(?=[)\]}>])", "", re.sub(r"\s", "", code))
 
 
-def split(text):
-    """Splits values that `, ` and ` and ` separate, outside of brackets and texts."""
-    values, depth, quote, start, at = [], 0, "", 0, 0
-    while at < len(text):
-        mark = text[at]
-        if quote:
-            quote = "" if mark == quote else quote
-        elif mark in "\"'":
-            quote = mark
-        else:
-            depth += (mark in "([{") - (mark in ")]}")
-            end = re.match(r", (?:and )?| and ", text[at:])
-            if end and not depth:
-                values.append(text[start:at])
-                start = at = at + len(end[0])
-                continue
-        at += 1
-    return [*values, text[start:]]
+def kind_of(crate, head):
+    """Returns which collections a statement of this crate's examples makes: see `conditions`."""
+    if called := re.search(r"run_(map|set|vec)\(", head):
+        return f"{called[1].title()}Reply"
+    if re.search(r"into_(?:map|set)|: (?:BTree|Hash|Index)(?:Map|Set)<", head):
+        return "std"
+    if re.search(r"into_deque\(\);|queue\.split_off|: VecDeque<", head):
+        return "std_queue"
+    if re.search(r": String =|into_string|to_ascii", head):
+        return "text"
+    if re.search(r"into_vec|into_sorted_vec|NEVec::from|: (?:NE)?Vec<", head):
+        return ""
+    return COLLECTIONS.get(crate, "")
 
 
-class Values:
-    """What a comment says: values of the names that a statement binds or changes."""
-
-    def __init__(self, comment, head):
-        named = re.fullmatch(r"(.*), and (?:the )?(\w+) is (.*)", comment)
-        comment, self.also = (named[1], [(named[2], named[3])]) if named else (comment, [])
-        self.in_any_order = comment.endswith(", in some order")
-        comment = re.sub(r", (?:in some order|with room for .*)$", "", comment)
-        comment = re.sub(r"^(None|true|false): .*", r"\1", comment)
-        self.is_some = comment.startswith("Some: ")
-        self.wanted = split(comment.removeprefix("Some: "))
-        bound = re.match(r"let (?:\(([^)]*)\)|(?:mut )?(\w+))", head)
-        lent = re.match(r"(?:for .* in|if let .* =) (?:&mut |&)?(\w+)", head)
-        if bound:
-            names = (bound[1] or bound[2]).replace("mut ", "").split(", ")
-        else:
-            names = [lent[1] if lent else re.match(r"\**(\w+)", head)[1]]
-        self.names = names[: len(self.wanted)]
-        self.is_iterated = len(names) < len(self.wanted) or ITERATORS.match(head)
-
-    def printed(self, label):
-        """Returns the lines of code that print the values."""
-        show = 'println!(out; "' + label + ' {NAME:?}")?;'
-        lines = []
-        if self.is_iterated:
-            given = self.names[0]
-            loop = f"for it in {given} {{ {show.replace('NAME', 'it')} }}"
-            some = f"if let Some({given}) = {given} {{ {loop} }}"
-            lines.append(some if self.is_some else loop)
-        else:
-            # what is not there may have no text
-            none = f'if NAME.is_none() {{ println!(out; "{label} None")?; }}'
-            pairs = zip(self.names, self.wanted)
-            lines += [(none if it == "None" else show).replace("NAME", name) for name, it in pairs]
-        lines += [show.replace("NAME", name) for name, _ in self.also]
-        return lines
-
-
-def plain(value, in_any_order):
-    """Returns the text of a value without references, and without the names of types, which not
-    all types print."""
-    value = re.sub(r"&|Error::", "", value)
-    value = re.sub(r"NESlice \{ inner: (\[[^\]]*\]) \}|Wrapping\((\w+)\)", r"\1\2", value)
-    if in_any_order:
-        return re.sub(r"\{(.*)\}", lambda it: "".join(sorted(split(it[1]))), value)
-    return value
+def conditions_of(crate, comment, head):
+    """Returns the conditions that a comment says of the names that a statement binds or changes,
+    and the number of values."""
+    kind, room = kind_of(crate, head), ROOM.search(comment)
+    named = re.fullmatch(r"(.*), and (?:the )?(\w+) is (.*)", comment)
+    comment, also = (named[1], [(named[2], named[3])]) if named else (comment, [])
+    in_any_order = comment.endswith(", in some order")
+    comment = ROOM.sub("", comment).removesuffix(", in some order")
+    comment = re.sub(r"^(None|true|false): .*", r"\1", comment)
+    is_some = comment.startswith("Some: ")
+    wanted = split(comment.removeprefix("Some: ")) if comment else []
+    bound = re.match(r"let (?:\(([^)]*)\)|(?:mut )?(\w+))", head)
+    lent = re.match(r"(?:for .* in|if let .* =) (?:&mut |&)?(\w+)", head)
+    if bound:
+        names = (bound[1] or bound[2]).replace("mut ", "").split(", ")
+    else:
+        names = [lent[1] if lent else re.match(r"\**(\w+)", head)[1]]
+    if len(names) < len(wanted) or ITERATORS.match(head):
+        each = in_any_order_of if in_any_order else in_order
+        found = each(f"{names[0]}.into_iter()", wanted, kind)
+        if is_some:
+            found = [f"match {names[0]} {{ Some({names[0]}) => {{", *found, UNREACHABLE]
+    else:
+        found = [it for row in zip(names, wanted) for it in conditions(*row, kind)]
+    found += [it for row in also for it in conditions(*row, COLLECTIONS.get(crate, ""))]
+    if room:
+        found.append(f"prove!({names[0]}.capacity().get() >= {room[1]});")
+    return found, len(wanted) + len(also) + bool(room)
 
 
 class Example:
-    """An example: its code, with a line that prints after each comment, and what is wanted."""
+    """An example: its code, with the conditions after each statement whose comment says values, and
+    the number of values."""
 
     def __init__(self, crate, file, label, block, about):
         lines = COMMENT.sub("", block).rstrip("\n").split("\n")
-        self.crate, self.file, self.label, self.about, self.values = crate, file, label, about, []
+        self.crate, self.file, self.label, self.about, self.values = crate, file, label, about, 0
         self.bare = bare("\n".join(lines))
         after = {}
         for at, line in enumerate(lines):
             comment = re.search(r"(?:^|[;})] )// (.*)", line)
-            if not comment or comment[1].startswith(PLAIN):
+            if not comment or comment[1] == SAME:
                 continue
             # the statement begins at the last line at the margin that begins one, and ends at the
             # next line at the margin that ends one
@@ -114,30 +104,13 @@ class Example:
                 for place in range(at, len(lines))
                 if re.match(r"(?=\S).*[;}](?: //.*)?$|//", lines[place])
             )
-            values = Values(comment[1], head)
-            after.setdefault(end, []).extend(values.printed(label))
-            self.values.append(values)
+            found, values = conditions_of(crate, comment[1], head)
+            after.setdefault(end, []).extend(found)
+            self.values += values
         code = []
         for at, line in enumerate(lines):
             code += [line, *after.get(at, [])]
         self.code = "".join(f"    {line}\n" if line else "\n" for line in code)
-
-    def wrong(self, printed):
-        """Returns what is wrong with the printed values, or ""."""
-        some_order = self.crate == "ne_hash"
-        found = [plain(it, some_order) for it in printed]
-        wanted = []
-        for values in self.values:
-            these = [*values.wanted, *(value for _, value in values.also)]
-            these = [plain(it, some_order) for it in these]
-            if values.in_any_order:
-                start, end = len(wanted), len(wanted) + len(these)
-                found[start:end], these = sorted(found[start:end]), sorted(these)
-            wanted += these
-        same = len(found) == len(wanted) and all(
-            one in (other, f'"{other}"') for one, other in zip(found, wanted)
-        )
-        return "" if same else f"{self.label}: the comment says {wanted}, and it is {found}"
 
 
 def examples():

@@ -84,12 +84,6 @@ def copy_crates(folder, names, also=""):
     write(os.path.join(folder, "crates.txt"), "".join(lines) + also)
 
 
-def kit():
-    """Returns the folder of the toolchain's kit."""
-    page = subprocess.run(["rt", "doc"], capture_output=True, text=True, check=True).stdout
-    return os.path.dirname(page.strip())
-
-
 def errors_of(said):
     """Returns the errors of the source in what a check printed, except those for a law without a
     proof: a check reports such a law as an error in the source, and continues."""
@@ -103,18 +97,13 @@ def write_heap(folder, head=""):
 
 
 def unproved(folder, *words, given=""):
-    """Runs `rt try` with these words in the folder of a crate, on this input, and returns what its
-    program prints. `rt` also begins a check, which only gives a hint on names and takes as long as
-    the run; here it is replaced by `true`. The interpreter would run the program first, and slowly:
-    it is stopped at once. C code may define `malloc`, which `rt` refuses of what is proved."""
-    program = (
-        "import rtlib, sys; rtlib.RATTLE = 'true'; rtlib.stop_on_taken_names = id; "
-        "sys.exit(rtlib.main(*sys.argv[1:]))"
-    )
+    """Runs `rt try` with these words in the folder of a crate, without its check, on this input, and
+    returns what its program prints. The interpreter would run the program first, and slowly: it is
+    stopped at once."""
     how = {"input": given, "capture_output": True, "text": True, "cwd": folder}
-    how["env"] = {**os.environ, "PYTHONPATH": os.path.join(kit(), "bin"), "RT_ALLOW_C": "1"}
+    how["env"] = {**os.environ, "RT_ALLOW_C": "1"}
     words = ["try", "--steps", "1", "--seconds", "600", *words]
-    ran = subprocess.run([sys.executable, "-c", program, *words], **how)
+    ran = subprocess.run([sys.executable, f"{ROOT}/.ci/toolchain.py", *words], **how)
     errors = errors_of(ran.stderr)
     if errors or "runners=1" not in ran.stderr or "memory are not freed" in ran.stderr:
         said = "\n".join([*errors[:9], ran.stdout[-2000:], ran.stderr[-2000:]])

@@ -21,10 +21,11 @@ from concurrent.futures import ThreadPoolExecutor
 
 from common import ROOT, libraries, stop, write
 
-# The stages: those that take no time, those that run beside each other, and those that run what
-# `rt ci` made.
+# The stages: those that take no time, those that run beside each other, those that prove, and those
+# that run what `rt ci` made.
 BEFORE = (".ci/public-names", "trials/run --fit")
 BESIDE = (".ci/does-not-compile", ".ci/examples", ".ci/tests")
+PROVE = ("rt ci", ".ci/examples --prove")
 AFTER = ("trials/run --gate", ".ci/cases", ".ci/failing-allocations")
 PAGE = os.path.join(ROOT, "docs", "TIMES.md")
 TICK = os.sysconf("SC_CLK_TCK")
@@ -139,7 +140,7 @@ def main(words):
         [*threads.map(lambda stage: run(stage, table, is_beside=True), BESIDE)]
     checks = Checks()
     try:
-        said = run("rt ci", table)
+        said, _ = (run(stage, table) for stage in PROVE)
     finally:
         proofs = checks.stop()
     for stage in AFTER:

@@ -3,8 +3,15 @@
 values in turn. Two keys are equal if their halves are equal."""
 
 import itertools
+import os
+import sys
 from collections import namedtuple
 
+from program import HERE
+
+sys.path.insert(0, os.path.join(HERE, os.pardir, ".ci"))
+
+from kinds import KINDS
 from calls import (
     CHANGES,
     EDGES,
@@ -22,8 +29,8 @@ from calls import (
 
 NAME = "keyed"
 REFERENCE = "replay"
-MAPS = ["tree_map", "hashed_map", "indexed_map"]
-SETS = ["tree_set", "hashed_set", "indexed_set"]
+MAPS = [f"{it.users}_map" for it in KINDS.values()]
+SETS = [f"{it.users}_set" for it in KINDS.values()]
 SUBJECTS = MAPS + SETS
 # Shows the keys after a call that leaves many; the programs write only how many there are.
 WALK = "iter", "", ()

@@ -81,6 +81,9 @@ class Program:
         self.path = os.path.join(folder, "program")
         names = below(crate) if crate in crates() else [*libraries(), "user_generic"]
         copy_crates(folder, names)
+        for file, text in texts.items():
+            if os.path.exists(os.path.join(folder, file)):
+                write(os.path.join(folder, file), text)
         lines = {it: f"{it}: {' '.join(crates()[it])}" for it in names}
         if write_crate:
             lines.setdefault(crate, write_crate(folder))
@@ -90,9 +93,6 @@ class Program:
         write(os.path.join(home, "src", "lib.rt"), CHOSEN)
         code = f'#define KEPT "{self.path}"\n' + read("trials/chosen.c")
         write(os.path.join(home, "c", "chosen.c"), code)
-        for file, text in texts.items():
-            if os.path.exists(os.path.join(folder, file)):
-                write(os.path.join(folder, file), text)
         args = os.path.join(ROOT, "crates", crate, "args")
         words = read(args).split() if os.path.exists(args) and not tests else []
         # the largest collections would take a minute for each body

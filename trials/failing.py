@@ -51,7 +51,7 @@ def statements(it):
     source = ""
     if "iter: I" in it.signature:
         source = "iter.into_nonempty_iter()" if "IntoNonEmptyIterator" in it.signature else "iter"
-    elif not it.trait and re.search(r"\(\s*self,", it.signature):
+    elif re.search(r"\(\s*self,", it.signature) and (not it.trait or it.name == "append_to"):
         source = "self"
     return f"for _item in {source} {{}} {FAILED}" if source else FAILED
 

@@ -7,32 +7,13 @@ there."""
 
 import os
 import re
-import shutil
 import subprocess
-import sys
 import tempfile
 from concurrent.futures import ThreadPoolExecutor
 from queue import SimpleQueue
 
-from common import QUIET, ROOT, below, copy_crates, errors_of, kit, stop, write
-
-
-def is_there(crate):
-    """Returns whether `rt ci` has built the library."""
-    return os.path.exists(f"{ROOT}/crates/{crate}/out/rlib/{crate}.rlib/format")
-
-
-def take_libraries(folder):
-    """Copies the libraries into a copy of the repository, with the stamp by which `rt` knows their
-    texts."""
-    sys.path.insert(0, os.path.join(kit(), "bin"))
-    import rtlib
-
-    for it in rtlib.crates_below(folder):
-        if not it.is_program and all(map(is_there, below(it.name))):
-            taken = os.path.join(it.folder, "out", "rlib")
-            shutil.copytree(os.path.join(ROOT, "crates", it.name, "out", "rlib"), taken)
-            write(os.path.join(taken, "stamp"), it.stamp())
+from common import QUIET, below, copy_crates, errors_of, stop, write
+from toolchain import take_libraries
 
 
 def rounds_of(mutants):
@@ -40,7 +21,7 @@ def rounds_of(mutants):
     no line in common. Lower crates come first."""
     rounds = []
     for mutant in mutants:
-        names = {*mutant.functions, *mutant.lines}
+        names = {mutant.function, *mutant.lines}
         for these, taken in rounds:
             if these[0].crate == mutant.crate and taken.isdisjoint(names):
                 these.append(mutant)
@@ -64,7 +45,8 @@ def judged(folder, mutants):
         rows[at] = new
         write(path, "\n".join(rows))
     # of a wrong law of an implementation the whole module is checked
-    names = [n.rpartition("::")[0] if it.of_impl else n for it in mutants for n in it.functions]
+    paths = [(it.function, it.of_impl) for it in mutants]
+    names = [path.rpartition("::")[0] if of_impl else path for path, of_impl in paths]
     only = [word for it in names for word in ("--only", it)]
     words = ["rt", "check", "--allow-holes", "--jobs", "1", *only]
     said = subprocess.run(words, **QUIET, cwd=os.path.join(folder, "crates", crate)).stdout
@@ -89,7 +71,7 @@ def judged(folder, mutants):
 
 
 def refused(mutants):
-    """Returns, for each mutant, whether the prover refuses each function that it changes."""
+    """Returns, for each mutant, whether the prover refuses the function that it changes."""
     copies, lanes = SimpleQueue(), len(os.sched_getaffinity(0))
 
     def in_a_copy(these):
@@ -100,7 +82,7 @@ def refused(mutants):
             copies.put(folder)
         # a callee that is not proved is no refusal
         told = re.compile(r"did not prove|antt refuses")
-        found = {it: all(told.search(said.get(n, "")) for n in it.functions) for it in these}
+        found = {it: bool(told.search(said.get(it.function, ""))) for it in these}
         print(f"checked {len(these)} mutants of {these[0].crate}")
         return found
 

@@ -2,9 +2,9 @@
 //! Chains over references and texts, and runs, are in `user_references`, maps in `user_maps`,
 //! queues in `user_queues`.
 //!
-//! They show more than the examples in comments do (`user_examples`), and are proved from the
-//! public contracts of what they call. Two have proof files: `pairs_of_any_sources`, which calls
-//! two laws, and `how_many_small`, for its loop. Most ensure the exact result.
+//! They show more than the examples in comments do, and are proved from the public contracts of
+//! what they call. Two have proof files: `pairs_of_any_sources`, which calls two laws, and
+//! `how_many_small`, for its loop. Most ensure the exact result.
 //!
 //! The manual imports from the crates below the facade, so that a change of a map does not prove it
 //! again; code over the facade imports the same from `nonempty_collections`.

@@ -2,6 +2,7 @@
 ghost use Rattle.std.specs.Prelude.{◌≡◌, ◌≢◌, ◌/◌, [], All, Contains, IfOk, IfSome, MatchOption};
 ghost use Rattle.std.specs.Prelude.{MatchResult, Some, filter, ltb, map, nat_eq, slice_get};
 ghost use Rattle.std.specs.Prelude.{◌<◌, ℕ, length};
+ghost use Rattle.std.specs.List.Sorted.{IsBinarySearchResult, IsPermutation, IsSorted};
 ghost use Rattle.std.specs.Ordering.{nat_cmp};
 ghost use Rattle.ne_vec.specs.Divisions.{by_first, heads, runs_of};
 ghost use Rattle.ne_vec.specs.KeyOrder.{KeysAscend};
@@ -16,6 +17,30 @@ pub struct Line {
     pub amount: u32,
 }
 
+/// Returns the items in ascending order.
+pub fn sorted(items: NEVec<u32>) -> Result<NEVec<u32>, AllocError>
+    ensures { IfOk result (λ v. IsPermutation items v × IsSorted nat_cmp v) }
+{
+    let mut items = items;
+    items.sort()?;
+    Ok(items)
+}
+
+/// The same in place, without an allocation.
+pub fn sort_in_place(items: &mut NEVec<u32>)
+    ensures same { IsPermutation items.old items.new }
+    ensures ascending { IsSorted nat_cmp items.new }
+{
+    items.sort_unstable();
+}
+
+/// Searches an item in a vector that ascends: returns its index, or where it would stand.
+pub fn place_of(items: &NEVec<u32>, x: u32) -> Result<usize, usize>
+    ensures { IsBinarySearchResult (λ y. nat_cmp y x) items.now result }
+{
+    items.binary_search(&x)
+}
+
 /// Returns the items below 10, or `None` if there is none.
 pub fn small(items: NEVec<u32>) -> Option<NEVec<u32>>
     ensures { MatchOption result (filter (λ x. ltb x 10) items ≡ [])
@@ -24,7 +49,7 @@ pub fn small(items: NEVec<u32>) -> Option<NEVec<u32>>
     items.retain(|x| *x < 10).ok()
 }
 
-/// Returns the lines of at most so many pieces.
+/// Returns the lines of fewer pieces than this.
 pub fn small_lines(lines: NEVec<Line>, limit: u32) -> Option<NEVec<Line>>
     ensures { IfSome result (λ v. v ≡ filter (λ l. ltb l.amount limit) lines) }
 {

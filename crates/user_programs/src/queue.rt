@@ -1,8 +1,7 @@
 //! Jobs that wait for their turn. There is always one that comes next.
-ghost use Rattle.std.specs.Prelude.{◌≡◌, ◌≤◌, ◌^◌, ◌+◌, ◌↔◌, ◌++◌, ◌∷◌, [], IfOk, MatchOption};
-ghost use Rattle.std.specs.Prelude.{None, OnOk, OnErr, Some, length, map, slice_get};
+ghost use Rattle.std.specs.Prelude.{◌≡◌, ◌≤◌, ◌^◌, ◌+◌, ◌∷◌, IfOk, MatchOption, Some, map};
+ghost use Rattle.std.specs.Prelude.{slice_get};
 ghost use Rattle.std.specs.List.Sorted.{IsPermutation};
-ghost use Rattle.nonempty_collections.specs.Taken.{TakesUnlessLast};
 ghost use Rattle.user_programs.specs.Rounds.{IsDueFirst, TakesTurn, due_again, first_due, reversed};
 
 use ne_deque::NEVecDeque;
@@ -53,14 +52,6 @@ impl<T: Copy> RoundRobin<T> {
         RoundRobin { jobs }
     }
 
-    /// Adds a job after all others.
-    pub fn add(&mut self, job: T) -> Result<(), AllocError>
-        ensures added { OnOk result (self.new ≡ self.old ++ job ∷ []) }
-        ensures refused { OnErr result (self.new ≡ self.old) }
-    {
-        self.jobs.push_back(job)
-    }
-
     /// Returns the job that has the next turn, which then stands last.
     pub fn next_turn(&mut self) -> T
         ensures { TakesTurn self.old result self.new }
@@ -68,14 +59,6 @@ impl<T: Copy> RoundRobin<T> {
         let job = *self.jobs.front();
         self.jobs.rotate_left(1);
         job
-    }
-
-    /// Removes the job that has the next turn and returns it, or returns `None` if it is the only
-    /// one, which then stays.
-    pub fn finish(&mut self) -> Option<T>
-        ensures { TakesUnlessLast self.old self.new result (λ job. self.old ≡ job ∷ self.new) }
-    {
-        self.jobs.pop_front()
     }
 }
 
@@ -111,21 +94,6 @@ impl DueFirst {
         Ok(DueFirst { jobs })
     }
 
-    /// Adds a job.
-    pub fn add(&mut self, due: Due) -> Result<(), AllocError>
-        ensures added { OnOk result (IsPermutation (reversed due ∷ self.old) self.new) }
-        ensures refused { OnErr result (self.new ≡ self.old) }
-    {
-        self.jobs.push(Reverse(due))
-    }
-
-    /// Returns the job that is due first, and of several the most urgent one.
-    pub fn next(&self) -> Due
-        ensures { IsDueFirst self.now result }
-    {
-        self.top()
-    }
-
     // Returns the job at the top of the heap, which is the one that is due first.
     fn top(&self) -> Due
         ensures first { IsDueFirst self.now result }
@@ -146,18 +114,6 @@ impl DueFirst {
         let due = self.top();
         let time = due.time.checked_add(u64::from(due.job.period))?;
         self.jobs.replace_greatest(Reverse(Due { time, ..due }));
-        Some(due)
-    }
-
-    /// Removes the job that is due first and returns it, or returns `None` if it is the only one,
-    /// which then stays.
-    pub fn finish(&mut self) -> Option<Due>
-        ensures last { (result ≡ None) ↔ (length self.old ≡ 1) }
-        ensures first { MatchOption result (self.new ≡ self.old) (λ due. IsDueFirst self.old due
-            × IsPermutation self.old (reversed due ∷ self.new)) }
-    {
-        let due = self.top();
-        self.jobs.pop()?;
         Some(due)
     }
 }

@@ -1,6 +1,7 @@
 //! Functions over priority queues, as a user writes them.
 ghost use Rattle.std.specs.Prelude.{◌≡◌, ℕ, ◌/◌, ◌∷◌, ◌≤◌, map, length, All, Contains};
-ghost use Rattle.std.specs.Prelude.{IfOk, IfSome};
+ghost use Rattle.std.specs.Prelude.{[], IfOk, IfSome, MatchOption, filter, ltb};
+ghost use Rattle.std.specs.BinaryHeap.{heap_items};
 ghost use Rattle.std.specs.List.{sum_by};
 ghost use Rattle.std.specs.List.Sorted.{IsPermutation, IsSorted};
 ghost use Rattle.std.specs.Ordering.{nat_cmp};
@@ -11,6 +12,7 @@ use ne_iter::{IntoNonEmptyIterator, NonEmptyIterator};
 use ne_vec::NEVec;
 use std::alloc::{AllocError, Global};
 use std::cmp::Reverse;
+use std::collections::BinaryHeap;
 
 /// A job that is due: the higher its priority, the sooner.
 #[derive(Clone, Copy, Debug, Drop, Eq, Ord, PartialEq, PartialOrd)]
@@ -62,11 +64,40 @@ pub fn least(heap: &NEBinaryHeap<Reverse<u32>>) -> u32
     heap.peek().0
 }
 
+/// Returns the items of a plain heap as one that is never empty, or `None` if there is none.
+pub fn if_any(heap: BinaryHeap<u32>) -> Option<NEBinaryHeap<u32>>
+    ensures { MatchOption result (heap_items heap ≡ []) (IsPermutation (heap_items heap)) }
+{
+    NEBinaryHeap::try_from_heap(heap)
+}
+
+/// Makes room for `n` more items. Those that are there stay.
+pub fn make_room(heap: &mut NEBinaryHeap<u32>, n: usize) -> Result<(), AllocError>
+    ensures { heap.new ≡ heap.old }
+{
+    heap.reserve(n)
+}
+
+/// Keeps the items below 10, or returns `None` if there is none.
+pub fn small(heap: NEBinaryHeap<u32>) -> Option<NEBinaryHeap<u32>>
+    ensures { MatchOption result (filter (λ x. ltb x 10) heap ≡ [])
+        (λ kept. IsPermutation (filter (λ x. ltb x 10) heap) kept) }
+{
+    heap.retain(|x| *x < 10).ok()
+}
+
 /// Returns the halves of the items, in the order of the iteration.
 pub fn halves(alloc: Global, heap: NEBinaryHeap<u32>) -> Result<NEVec<u32>, AllocError>
     ensures { IfOk result (λ v. v ≡ map (λ x. x / 2) heap) }
 {
     heap.into_nonempty_iter().map(|x| x / 2).collect(alloc)
+}
+
+/// The same by reference, as a plain vector.
+pub fn halves_by_reference(alloc: Global, heap: &NEBinaryHeap<u32>) -> Result<Vec<u32>, AllocError>
+    ensures { IfOk result (λ v. v.items ≡ map (λ x. x / 2) heap.now) }
+{
+    heap.iter().map(|x| *x / 2).collect(alloc)
 }
 
 /// Returns a heap of the halves of the items.

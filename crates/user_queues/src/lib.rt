@@ -1,8 +1,6 @@
-//! Queues, priority queues and texts as a user calls them: the examples of their comments, and the
-//! functions that a user writes first.
+//! Functions that a user writes first over queues, priority queues and texts.
 #![tactic(auto)]
 
-pub mod examples;
 pub mod heaps;
 pub mod names;
 pub mod queues;

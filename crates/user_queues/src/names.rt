@@ -1,6 +1,6 @@
 //! What a user of texts writes first.
-ghost use Rattle.std.specs.Prelude.{◌≡◌, ◌++◌, filter, map, length, IfOk, string_bytes};
-ghost use Rattle.std.specs.Prelude.{slice_index};
+ghost use Rattle.std.specs.Prelude.{◌≡◌, ◌-◌, ◌++◌, filter, map, length, IfOk, string_bytes};
+ghost use Rattle.std.specs.Prelude.{Some, slice_get, slice_index};
 ghost use Rattle.std.specs.Char.{is_ascii_alphanumeric, is_ascii_digit, to_ascii_uppercase};
 ghost use Rattle.std.specs.List.{list_all};
 ghost use Rattle.std.specs.Str.{chars};
@@ -39,6 +39,14 @@ pub fn initials(alloc: Global, names: &NEVec<NEString>) -> Result<NEVec<char>, A
         .nonempty_iter()
         .map(|name| name.first())
         .collect(alloc)
+}
+
+/// Returns the number of characters of a name, and the last one.
+pub fn count_and_last(name: &NEString) -> (usize, char)
+    ensures count { result.0 ≡ length (chars name.now) }
+    ensures last { slice_get (chars name.now) (length (chars name.now) - 1) ≡ Some result.1 }
+{
+    (name.char_count().get(), name.last())
 }
 
 /// Returns the number of bytes of each name.

@@ -1,8 +1,9 @@
 //! Functions that a user writes first over a queue.
-ghost use Rattle.std.specs.Prelude.{◌≡◌, ◌-◌, ◌/◌, ◌≤◌, ◌==◌, List, [], ◌∷◌, ◌++◌, All};
-ghost use Rattle.std.specs.Prelude.{Contains, IfOk, MatchBool, MatchOption, OnOk, Some, drop};
+ghost use Rattle.std.specs.Prelude.{◌≡◌, ◌-◌, ◌/◌, ◌≤◌, ◌==◌, ◌%◌, List, [], ◌∷◌, ◌++◌, All};
+ghost use Rattle.std.specs.Prelude.{Contains, IfOk, IfSome, MatchBool, MatchOption, OnOk};
+ghost use Rattle.std.specs.Prelude.{Some, drop, filter, ltb};
 ghost use Rattle.std.specs.Prelude.{◌↔◌, IsPermutation, IsSorted, IsTrue, length, map, reverse};
-ghost use Rattle.std.specs.Prelude.{slice_get};
+ghost use Rattle.std.specs.Prelude.{slice_get, slice_set};
 ghost use Rattle.std.specs.List.{enumerate_from};
 ghost use Rattle.std.specs.NonZero.{non_zero_usize_get};
 ghost use Rattle.std.specs.Ordering.{nat_cmp};
@@ -11,6 +12,7 @@ use ne_deque::NEVecDeque;
 use ne_iter::{IntoNonEmptyIterator, NonEmptyIterator};
 use ne_vec::NEVec;
 use std::alloc::{AllocError, Global};
+use std::mem;
 use std::num::NonZeroUsize;
 
 /// One turn of a round robin: the first job goes to the back, and is returned to be run.
@@ -58,6 +60,41 @@ pub fn remember(seen: &mut NEVecDeque<u32>, x: u32, n: NonZeroUsize) -> Result<(
         drop(seen.pop_front());
     }
     Ok(())
+}
+
+/// Adds the jobs of a vector at the back.
+pub fn add_all(jobs: &mut NEVecDeque<u32>, more: NEVec<u32>) -> Result<(), AllocError>
+    ensures { OnOk result (jobs.new ≡ jobs.old ++ more) }
+{
+    jobs.extend(more)
+}
+
+/// Keeps the items below 10, or returns `None` if there is none.
+pub fn small(items: NEVecDeque<u32>) -> Option<NEVecDeque<u32>>
+    ensures { MatchOption result (filter (λ x. ltb x 10) items ≡ [])
+        (λ q. q ≡ filter (λ x. ltb x 10) items) }
+{
+    items.retain(|x| *x < 10).ok()
+}
+
+/// Returns the even ones of the halves, or `None` if none is even.
+pub fn even_halves(items: NEVecDeque<u32>) -> Option<NEVecDeque<u32>>
+    ensures { IfSome result (λ q. q ≡ map (λ x. x / 2) (filter (λ x. x / 2 % 2 == 0) items)) }
+{
+    let kept = items.retain_mut(|x| {
+        *x /= 2;
+        *x % 2 == 0
+    });
+    kept.ok()
+}
+
+/// Puts a job at a place, and returns the one that was there, if there is such a place.
+pub fn replace_at(jobs: &mut NEVecDeque<u32>, place: usize, job: u32) -> Option<u32>
+    ensures { MatchOption result (jobs.new ≡ jobs.old) (λ was.
+        (slice_get jobs.old place ≡ Some was) × (jobs.new ≡ slice_set jobs.old place job)) }
+{
+    let found = jobs.get_mut(place)?;
+    Some(mem::replace(found, job))
 }
 
 /// The greatest half.
