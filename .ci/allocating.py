@@ -1,7 +1,9 @@
 """The public functions that may report a failed allocation, also as the error of a format that is
-read, and the names by which the tests with failing allocations report on them."""
+read, and the names by which the tests with failing allocations report on them; and those that ask
+for no memory, with the tests that call them."""
 
 import re
+from itertools import accumulate
 
 from common import libraries, read
 from kinds import KINDS
@@ -33,6 +35,13 @@ EXCUSED = {
     *("NonEmptySet::add", "NonEmptySet::put"),
     *("read_map", "read_map_owned", "read_seq", "read_seq_owned"),
 }
+# What is called by a sign or by std, writes to what it is given, or keeps its room if it is refused
+# less.
+BY_OTHERS = {"eq", "index", "index_mut", "deref", "hash", "fmt", "serialize", "shrink_to_fit"}
+# The files of `tests/library/no_memory` with the calls of each crate.
+FILES = dict.fromkeys(("ne_iter", "ne_products"), "chains") | dict.fromkeys(
+    ("ne_deque", "ne_heap", "ne_string"), "queues"
+)
 
 
 def call_of(it):
@@ -73,3 +82,30 @@ def reported_on(line, names):
     """Returns the one of these names that the line of a test begins with, or "" if there is
     none."""
     return max((it for it in names if f"{line} ".startswith(f"{it} ")), key=len, default="")
+
+
+def free(text):
+    """Returns the names of the calls in the text that are made without memory."""
+    found = set()
+    for begin in (it.end() for it in re.finditer(r"\bfree!\(", text)):
+        depths = accumulate((it == "(") - (it == ")") for it in text[begin:])
+        end = begin + next(at for at, depth in enumerate(depths) if depth < 0)
+        found |= {*re.findall(r"\b(\w+)(?:::<[^(]*>)?\(", text[begin:end])}
+    return found
+
+
+def untried():
+    """Returns the public functions that ask for no memory and that no test calls without it."""
+    calls, lacking = {}, set()
+    for name in ("chains", "maps", "queues", "sets", "vectors"):
+        calls[name] = free(read(f"tests/library/no_memory/{name}.rt.txt"))
+    due = {call_of(it) for it in may_fail()}
+    for it in functions():
+        crate = it.file.split("/")[1]
+        name = "maps" if "Map" in it.owner else "sets" if "Set" in it.owner else "vectors"
+        if it.trait == "Iterator" or it.is_law() or call_of(it) in due | EXCUSED:
+            continue
+        if it.name not in calls[FILES.get(crate, name)] | BY_OTHERS:
+            lacking.add(it.path())
+    # it is for the crates of the collections
+    return sorted(lacking - {"NonEmptyIter::new"})

@@ -8,6 +8,9 @@
    status is that of the process. With a first word that begins with `--`, as `--list` of tests, the
    program runs once as it is.
 
+   A test of calls that need no memory has each request refused between `refuse_memory` and
+   `refused_requests`, which returns how many there were.
+
    It is loaded by LD_PRELOAD, or linked into a program with a sanitizer, and uses its heap. */
 
 typedef unsigned long size_t;
@@ -30,8 +33,25 @@ static long blocks;
 static int left;
 /* Whether it has come: in memory that the process shares with its children. */
 static int *has_come;
+/* Whether every request is refused, and how many were. */
+static int refuses_all;
+static unsigned refused;
+
+void refuse_memory(void) {
+  refuses_all = 1;
+  refused = 0;
+}
+
+unsigned refused_requests(void) {
+  refuses_all = 0;
+  return refused;
+}
 
 static int is_refused(void) {
+  if (refuses_all) {
+    refused++;
+    return 1;
+  }
   if (left == 0 || --left > 0) {
     return 0;
   }
