@@ -127,6 +127,8 @@ ROWS = [
     ("rotate_left rotate_right", DEQUE, NONE, "place", CHANGES),
     ("pop_front pop_back make_contiguous", DEQUE, NONE, "", CHANGES),
     ("truncate split_off", DEQUE, NONE, "size", CHANGES),
+    ("resize", DEQUE, NONE, "size item", CHANGES),
+    ("pop_front_if pop_back_if", DEQUE, ANY, "", CHANGES),
     ("iter_mut nonempty_iter_mut for_mut retain retain_mut", DEQUE, ANY, "", CHANGES),
     ("reserve", QUEUES, NONE, "count", CHANGES),
     ("shrink_to_fit", QUEUES, NONE, "", CHANGES),
@@ -503,6 +505,14 @@ binary_search 1
 partition_point half 1
 retain_mut calls
 iter_mut total
+deque 4 6 7
+pop_front_if
+pop_front_if falling
+pop_back_if half
+resize 5 8
+resize 1 8
+pop_back_if
+pop_front_if
 """
 HEAP_ROWS = """
 heap 1

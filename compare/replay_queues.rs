@@ -85,11 +85,29 @@ fn edited(items: &mut VecDeque<u32>, call: &Call, out: &mut Transcript) {
         "swap_remove_front" => out.told(unless_last(len, || items.swap_remove_front(place))),
         "swap_remove_back" => out.told(unless_last(len, || items.swap_remove_back(place))),
         "truncate" => items.truncate(call.size.get()),
+        "resize" => items.resize(call.size.get(), call.last),
+        "pop_front_if" | "pop_back_if" => out.told(unless_last(len, || pop_if(items, call))),
         "split_off" if call.size.get() <= len => out.told(items.split_off(call.size.get())),
         "split_off" => out.said("out of range"),
         "retain" | "retain_mut" => retain(items, call, out),
         _ => read(items, call, out),
     }
+}
+
+// Removes the item at an end if what the closure returns for it is even, and else puts that there.
+fn pop_if(items: &mut VecDeque<u32>, call: &Call) -> Option<u32> {
+    let is_front = call.name == "pop_front_if";
+    let item = if is_front { items.pop_front() } else { items.pop_back() };
+    let changed = call.closure.of(item?);
+    if changed % 2 == 0 {
+        return Some(changed);
+    }
+    if is_front {
+        items.push_front(changed);
+    } else {
+        items.push_back(changed);
+    }
+    None
 }
 
 fn retain(items: &mut VecDeque<u32>, call: &Call, out: &mut Transcript) {

@@ -3,21 +3,22 @@
 //! Most methods have the names of those of std's [`VecDeque`]. `first` and `last` are the names
 //! that the other collections of this library have for `front` and `back`. A method that removes an
 //! item by `&mut self` never removes the only one; `retain` and `retain_mut` take the queue.
-//! `clear`, `drain`, `resize` and `resize_with`, which may leave none, are not here. Nor are
-//! `as_mut_slices` and `range`.
+//! `clear`, `drain` and `resize_with`, which may leave none, are not here. Nor are `as_mut_slices`
+//! and `range`.
 //!
 //! This module has the methods that read and edit, `search` those that search, `retain` those that
-//! keep what meets a test, `iter` the non-empty iterators, `traits` the other trait
-//! implementations, and `serialized` the traits of `serde`.
+//! keep what meets a test or remove an item that does, `iter` the non-empty iterators, `traits` the
+//! other trait implementations, and `serialized` the traits of `serde`.
 //!
 //! A method that allocates returns `AllocError` if the allocation fails, and its comment says what
 //! holds after that; only `shrink_to_fit` then keeps the memory. `new` and `with_capacity` take an
 //! allocator, the other constructors that of their argument, and each queue keeps its own.
 ghost use Rattle.std.specs.Prelude.{◌≡◌, ◌-◌, ◌<◌, ◌≤◌, ◌↔◌, false, [], ◌∷◌, ◌++◌};
-ghost use Rattle.std.specs.Prelude.{length, take, drop, Some, None, IsSome};
+ghost use Rattle.std.specs.Prelude.{length, take, drop, replicate, Some, None, IsSome};
 ghost use Rattle.std.specs.Prelude.{IfSome, IfOk, OnOk, OnErr, slice_get};
 ghost use Rattle.std.specs.NonZero.{non_zero_usize_get};
-ghost use Rattle.std.specs.List.{AllZip, insert, list_any, remove, swap, swap_remove};
+ghost use Rattle.std.specs.List.{AllZip, AppendsClonesOf, insert, list_any, remove, swap};
+ghost use Rattle.std.specs.List.{swap_remove};
 ghost use Rattle.std.specs.Iterator.{IsFiniteIterable, ExtendsWithItems};
 ghost use Rattle.std.specs.Iterator.Runs.{YieldsRefsInReverse};
 ghost use Rattle.std.specs.VecDeque.Iter.{deque_iter_rest, deque_iter_steps_back};
@@ -263,6 +264,29 @@ impl<T> NEVecDeque<T> {
         ensures { self.new ≡ take (non_zero_usize_get len) self.old }
     {
         self.inner.truncate(len.get());
+    }
+
+    /// Keeps the first `len` items, or adds clones of `value` at the end until there are so many.
+    ///
+    /// Returns `AllocError` if the queue has to grow and an allocation fails, also one of a clone;
+    /// the queue is then unchanged.
+    ///
+    /// ```
+    /// let mut queue = nevd![alloc; 4, 6]?;
+    /// queue.resize(NonZeroUsize::new(3).unwrap(), 7)?; // [4, 6, 7]
+    /// ```
+    pub fn resize(&mut self, len: NonZeroUsize, value: T) -> Result<(), AllocError>
+    where
+        T: Clone,
+        ensures clones { OnOk result (AppendsClonesOf T.is_clone
+            (take (non_zero_usize_get len) self.old) self.new value) }
+        ensures equal { OnOk result (((y : T) → T.is_clone value y → y ≡ value) → self.new
+            ≡ take (non_zero_usize_get len) self.old
+            ++ replicate (non_zero_usize_get len - length self.old) value) }
+        ensures len { OnOk result (length self.new ≡ non_zero_usize_get len) }
+        ensures unchanged { OnErr result (self.new ≡ self.old) }
+    {
+        self.inner.resize(len.get(), value)
     }
 
     /// Returns the items as two slices: all items are those of the first slice, followed by those

@@ -4,13 +4,17 @@ use Rattle.std.proofs.Common.{Bool, true, false, ◌==◌, MatchBool, Option, So
 use Rattle.std.proofs.Common.{IfSome, rules, length, take, drop, append-nil, length-append}
 use Rattle.std.proofs.Common.{encode_utf8}
 use Rattle.std.proofs.lemmas.Bool.Decides.{nat_tests}
+use Rattle.std.proofs.lemmas.Fn.{filter_same}
 use Rattle.std.proofs.lemmas.List.{nil_from_length, take-append-drop}
 use Rattle.std.proofs.lemmas.Str.{IsUtf8-past_char, IsUtf8-string_bytes, chars-nil}
 use Rattle.std.proofs.lemmas.Str.{chars_from_encodes, chars_past_char, encodes-append}
 use Rattle.std.proofs.lemmas.Str.{encodes-chars, length-encode, len_utf8_bounds}
-use Rattle.std.specs.String.{string_bytes}
+use Rattle.std.specs.Iterator.{ActsAs}
+use Rattle.std.specs.List.{filter}
+use Rattle.std.specs.String.{RetainsChars, string_bytes}
 use Rattle.std.specs.declared.string.String.{String}
 use Rattle.std.specs.Str.{IsUtf8, chars, encode_utf8_all}
+use denote.Param.Members.{Mut}
 
 -- the text bs is the text ds and then the character c
 pub chars_ended : (bs ds : List ℕ) (c : ℕ) → IsUtf8 bs → IsUtf8 ds → bs ≡ ds ++ encode_utf8 c
@@ -137,3 +141,12 @@ pub pushed : (cs old new : List ℕ) (c : ℕ) → new ≡ old ++ encode_utf8 c 
 pushed cs old new c added spelled = added ∙ ap (λ l. l ++ encode_utf8 c) spelled
     ∙ ap (λ l. encode_utf8_all cs ++ l) (sym (append-nil (encode_utf8 c)))
     ∙ sym (encodes-append cs (c ∷ []))
+
+-- the characters that `retain` keeps by a test
+pub kept_chars : {F : Type 0} (g : Mut F (ℕ × Unit {0}) Bool) (f : F) (bs out : List ℕ)
+    → IsUtf8 bs → IsUtf8 out → RetainsChars g f bs out → (keeps : ℕ → Bool) → ActsAs g f keeps
+    → chars out ≡ filter keeps (chars bs)
+kept_chars g f bs out whole left r keeps acts =
+    sym (chars_from_encodes r.kept out left (sym r.stay))
+    ∙ filter_same _ keeps f (λ x b q call. let it = acts x b q call in (it.1, it.0)) r.all r.kept
+    r.chosen ∙ ap (filter keeps) (chars_from_encodes r.all bs whole r.spell)

@@ -10,14 +10,18 @@
 ghost use Rattle.std.specs.Prelude.{◌≡◌, ◌-◌, ◌<◌, ◌≤◌, ◌↔◌, ℕ, List, [], ◌∷◌, ◌++◌};
 ghost use Rattle.std.specs.Prelude.{false, length, take, drop, map, Some, None, IfOk, IfSome};
 ghost use Rattle.std.specs.Prelude.{IsTrue, MatchBool, OnOk, OnErr, slice_get, slice_index};
-ghost use Rattle.std.specs.Prelude.{string_bytes};
+ghost use Rattle.std.specs.Prelude.{Bool, IsErr, string_bytes};
+ghost use Rattle.std.specs.Bound.{start_index, end_index};
 ghost use Rattle.std.specs.Char.{encode_utf8, to_ascii_lowercase, to_ascii_uppercase};
-ghost use Rattle.std.specs.List.{insert_slice};
+ghost use Rattle.std.specs.Iterator.{ActsAs};
+ghost use Rattle.std.specs.List.{filter, insert_slice, replace_range};
 ghost use Rattle.std.specs.NonZero.{non_zero_usize_get};
 ghost use Rattle.std.specs.Str.{chars, encode_utf8_all};
 ghost use Rattle.std.specs.Str.Iter.{bytes_rest, chars_rest};
+ghost use Rattle.std.specs.String.{RetainsChars};
 ghost use Rattle.std.specs.String.Boundary.{IsSplitPoint};
-ghost use Rattle.ne_string.specs.Characters.{ListsBytes, ListsChars, TakesUnlessLastChar};
+ghost use Rattle.ne_string.specs.Characters.{ListsBytes, ListsChars, ReplacesUnlessAll};
+ghost use Rattle.ne_string.specs.Characters.{TakesUnlessLastChar, kept_text};
 
 mod iter;
 mod serialized;
@@ -26,9 +30,12 @@ mod traits;
 pub use iter::{Bytes, Chars, Held};
 use ne_iter::NonEmptyIterator;
 use ne_iter::iter::NonEmptyIter;
+use ne_vec::NEVec;
 use std::alloc::{AllocError, Global};
 use std::marker::Model;
 use std::num::NonZeroUsize;
+use std::ops::RangeBounds;
+use std::slice;
 
 /// A text of at least one character, in UTF-8.
 ///
@@ -226,6 +233,43 @@ impl NEString {
         self.inner.insert_str(idx, string)
     }
 
+    /// Replaces the bytes in `range` by the text `replace_with` and returns `true`, or returns
+    /// `false` if nothing would be left; the text is then unchanged, where std's `String` is empty.
+    ///
+    /// `range` must be in order and within the length, and begin and end where a character begins
+    /// or the text ends; std's `String` panics otherwise. Returns `AllocError` if the text has to
+    /// grow and the allocation fails; the text is then unchanged.
+    ///
+    /// ```
+    /// let mut name = NEString::new(alloc, 'E', "da L.")?;
+    /// let is_replaced = name.replace_range(..1, "A")?; // true, and name is "Ada L."
+    /// let is_emptied = name.replace_range(.., "")?; // false
+    /// ```
+    pub fn replace_range<R: RangeBounds<usize>>(
+        &mut self,
+        range: R,
+        replace_with: &str,
+    ) -> Result<bool, AllocError>
+        requires bounds { R.has_bounds range }
+        requires order { start_index (R.start_bound range)
+            ≤ end_index (R.end_bound range) (length self.old) }
+        requires within { end_index (R.end_bound range) (length self.old) ≤ length self.old }
+        requires start { IsSplitPoint self.old (start_index (R.start_bound range)) }
+        requires end { IsSplitPoint self.old (end_index (R.end_bound range) (length self.old)) }
+        ensures replaced { IfOk result (λ replaced. ReplacesUnlessAll self.old self.new replaced
+            (replace_range self.old (start_index (R.start_bound range))
+            (end_index (R.end_bound range) (length self.old)) replace_with.now)) }
+        ensures unchanged { OnErr result (self.new ≡ self.old) }
+    {
+        let len = self.inner.len();
+        let part = slice::range(range, ..len);
+        if replace_with.is_empty() && part.start == 0 && part.end == len {
+            return Ok(false);
+        }
+        self.inner.replace_range(part, replace_with)?;
+        Ok(true)
+    }
+
     /// Returns the number of bytes.
     ///
     /// ```
@@ -290,6 +334,33 @@ impl NEString {
         ensures { length self.now ≤ non_zero_usize_get result }
     {
         NonZeroUsize::new(self.inner.capacity().max(self.inner.len())).unwrap()
+    }
+
+    /// Makes room for at least `additional` more bytes. The text stays as it is.
+    ///
+    /// Returns `AllocError` if the allocation fails.
+    ///
+    /// ```
+    /// let mut name = NEString::new(alloc, 'A', "da")?;
+    /// name.reserve(8)?; // "Ada"
+    /// ```
+    pub fn reserve(&mut self, additional: usize) -> Result<(), AllocError>
+        ensures { self.new ≡ self.old }
+    {
+        self.inner.reserve(additional)
+    }
+
+    /// Gives back memory that the text doesn't need, if that is possible. The text stays as it is.
+    /// If the smaller memory can't be allocated, the text keeps what it has.
+    ///
+    /// ```
+    /// let mut name = NEString::new(alloc, 'A', "da")?;
+    /// name.shrink_to_fit(); // "Ada"
+    /// ```
+    pub fn shrink_to_fit(&mut self)
+        ensures { self.new ≡ self.old }
+    {
+        self.inner.shrink_to_fit();
     }
 
     /// Returns the last character, which is also the first one if it is the only one.
@@ -433,6 +504,43 @@ impl NEString {
         ensures { string_bytes result ≡ self }
     {
         self.inner
+    }
+
+    /// Returns the bytes of the text, in the same memory. It doesn't allocate.
+    ///
+    /// ```
+    /// let bytes = NEString::new(alloc, 'A', "da")?.into_bytes(); // [65, 100, 97]
+    /// ```
+    pub fn into_bytes(self) -> NEVec<u8>
+        ensures { result ≡ self }
+    {
+        NEVec::try_from_vec(self.inner.into_bytes()).unwrap()
+    }
+
+    /// Keeps the characters for which `f` returns `true`, in order and in the same memory, or
+    /// returns the empty text as an error if there is no such character.
+    ///
+    /// `f` is called once for each character, in order. The clause `kept` covers an `f` whose
+    /// result depends only on the character and that changes nothing; `called` covers any `f`.
+    ///
+    /// ```
+    /// let lower = NEString::new(alloc, 'A', "da")?.retain(|c| c.is_lowercase()); // Ok("da")
+    /// let none = NEString::new(alloc, 'A', "")?.retain(|c| c.is_lowercase()); // Err("")
+    /// ```
+    pub fn retain<F: FnMut(char) -> bool>(self, f: F) -> Result<Self, String>
+        requires { F.IsAlwaysCallable f }
+        ensures none { IsErr result ↔ (chars (kept_text result) ≡ []) }
+        ensures kept { (keeps : ℕ → Bool) → ActsAs F.FnMut f keeps
+            → chars (kept_text result) ≡ filter keeps (chars self) }
+        ensures called { RetainsChars F.FnMut f self (kept_text result) }
+    {
+        let mut inner = self.inner;
+        inner.retain(f);
+        if inner.is_empty() {
+            Err(inner)
+        } else {
+            Ok(NEString { inner })
+        }
     }
 
     /// Returns a copy of the text, with the same allocator.

@@ -1,11 +1,12 @@
 //! What a user of texts writes first.
 ghost use Rattle.std.specs.Prelude.{◌≡◌, ◌-◌, ◌++◌, filter, map, length, IfOk, string_bytes};
-ghost use Rattle.std.specs.Prelude.{Some, slice_get, slice_index};
+ghost use Rattle.std.specs.Prelude.{MatchBool, MatchOption, Some, [], drop, slice_get, slice_index};
 ghost use Rattle.std.specs.Char.{is_ascii_alphanumeric, is_ascii_digit, to_ascii_uppercase};
-ghost use Rattle.std.specs.List.{list_all};
+ghost use Rattle.std.specs.List.{flat_map, list_all};
 ghost use Rattle.std.specs.Str.{chars};
+ghost use Rattle.std.specs.String.Boundary.{IsSplitPoint};
 
-use ne_iter::NonEmptyIterator;
+use ne_iter::{IntoNonEmptyIterator, NonEmptyIterator};
 use ne_string::NEString;
 use ne_vec::NEVec;
 use std::alloc::{AllocError, Global};
@@ -78,4 +79,28 @@ pub fn joined(alloc: Global, first: &NEString, second: &NEString) -> Result<NESt
     ensures { IfOk result (λ s. chars s ≡ chars first.now ++ chars second.now) }
 {
     first.chars().chain(second.chars()).collect(alloc)
+}
+
+/// Returns the digits of a name, if it has any.
+pub fn number_of(name: NEString) -> Option<NEString>
+    ensures { MatchOption result (filter is_ascii_digit (chars name) ≡ [])
+        (λ s. chars s ≡ filter is_ascii_digit (chars name)) }
+{
+    name.retain(|c| c.is_ascii_digit()).ok()
+}
+
+/// Puts a text in place of the first byte of a name.
+pub fn with_prefix(name: &mut NEString, prefix: &str) -> Result<bool, AllocError>
+    requires { IsSplitPoint name.old 1 }
+    ensures { IfOk result (λ replaced. MatchBool replaced
+        (name.new ≡ prefix.now ++ drop 1 name.old) (name.new ≡ name.old)) }
+{
+    name.replace_range(..1, prefix)
+}
+
+/// Joins the names.
+pub fn whole_name(alloc: Global, names: NEVec<NEString>) -> Result<NEString, AllocError>
+    ensures { IfOk result (λ s. s ≡ flat_map (λ name. name) names) }
+{
+    names.into_nonempty_iter().collect(alloc)
 }

@@ -49,6 +49,22 @@ pub fn due(jobs: &mut NEVecDeque<u32>, now: u32) -> Option<u32>
     }
 }
 
+/// Takes the first job if its time has come, by the call for that.
+pub fn next_due(jobs: &mut NEVecDeque<u32>, now: u32) -> Option<u32>
+    ensures { MatchOption result (jobs.new ≡ jobs.old)
+        (λ job. (jobs.old ≡ job ∷ jobs.new) × (job ≤ now)) }
+{
+    jobs.pop_front_if(|job| *job <= now)
+}
+
+/// Takes the last job if its time has come.
+pub fn last_due(jobs: &mut NEVecDeque<u32>, now: u32) -> Option<u32>
+    ensures { MatchOption result (jobs.new ≡ jobs.old)
+        (λ job. (jobs.old ≡ jobs.new ++ job ∷ []) × (job ≤ now)) }
+{
+    jobs.pop_back_if(|job| *job <= now)
+}
+
 /// The last `n` numbers that were seen: the oldest goes when there are too many.
 pub fn remember(seen: &mut NEVecDeque<u32>, x: u32, n: NonZeroUsize) -> Result<(), AllocError>
     requires { length seen.old ≤ non_zero_usize_get n }

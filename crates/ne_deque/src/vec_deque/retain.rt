@@ -1,8 +1,9 @@
-//! The methods of [`NEVecDeque`] that keep what meets a test. They are those of [`NEVec`], in the
-//! same memory: the items are first moved so that they are in one slice.
-ghost use Rattle.std.specs.Prelude.{◌≡◌, ◌↔◌, Bool, [], IsErr, map};
+//! The methods of [`NEVecDeque`] that keep what meets a test, or remove an item that does. Those
+//! that keep are those of [`NEVec`], in the same memory: the items are first moved so that they are
+//! in one slice.
+ghost use Rattle.std.specs.Prelude.{◌≡◌, ◌<◌, ◌≤◌, ◌↔◌, Bool, [], None, IsErr, length, map};
 ghost use Rattle.std.specs.List.{filter};
-ghost use Rattle.std.specs.List.Retain.{IsFiltered, RetainsInTurn};
+ghost use Rattle.std.specs.List.Retain.{IsFiltered, PopsFrontIf, PopsIf, RetainsInTurn};
 ghost use Rattle.std.specs.Fn.{CalledAt, CalledAtMut};
 ghost use Rattle.std.specs.Iterator.{ActsAsAt};
 ghost use Rattle.ne_vec.specs.Kept.{ActsAsAtMut};
@@ -58,6 +59,54 @@ impl<T: Drop> NEVecDeque<T> {
         ensures called { RetainsInTurn (CalledAtMut F.FnMut) f self (kept_items result) }
     {
         queue_of_kept(NEVec::from(self).retain_mut(f))
+    }
+}
+
+impl<T> NEVecDeque<T> {
+    /// Removes the first item and returns it if `predicate` returns `true` for it. Returns `None`
+    /// if not, or if it is the only item, which then stays, and `predicate` is not called.
+    ///
+    /// The item has what `predicate` wrote, whether it stays or not.
+    ///
+    /// ```
+    /// let mut queue = nevd![alloc; 4, 6, 7]?;
+    /// let even = queue.pop_front_if(|x| *x % 2 == 0); // Some(4)
+    /// let odd = queue.pop_front_if(|x| *x % 2 == 1); // None, and queue is [6, 7]
+    /// ```
+    pub fn pop_front_if<P: FnOnce(&mut T) -> bool>(&mut self, predicate: P) -> Option<T>
+        requires { P.IsAlwaysCallable predicate }
+        ensures last { length self.old ≤ 1 → (result ≡ None) × (self.new ≡ self.old) }
+        ensures popped { 1 < length self.old
+            → PopsFrontIf P.FnOnce self.old self.new predicate result }
+    {
+        if self.inner.len() > 1 {
+            self.inner.pop_front_if(predicate)
+        } else {
+            None
+        }
+    }
+
+    /// Removes the last item and returns it if `predicate` returns `true` for it. Returns `None`
+    /// if not, or if it is the only item, which then stays, and `predicate` is not called.
+    ///
+    /// The item has what `predicate` wrote, whether it stays or not.
+    ///
+    /// ```
+    /// let mut queue = nevd![alloc; 5, 4, 6]?;
+    /// let even = queue.pop_back_if(|x| *x % 2 == 0); // Some(6)
+    /// let odd = queue.pop_back_if(|x| *x % 2 == 1); // None, and queue is [5, 4]
+    /// ```
+    pub fn pop_back_if<P: FnOnce(&mut T) -> bool>(&mut self, predicate: P) -> Option<T>
+        requires { P.IsAlwaysCallable predicate }
+        ensures last { length self.old ≤ 1 → (result ≡ None) × (self.new ≡ self.old) }
+        ensures popped { 1 < length self.old
+            → PopsIf P.FnOnce self.old self.new predicate result }
+    {
+        if self.inner.len() > 1 {
+            self.inner.pop_back_if(predicate)
+        } else {
+            None
+        }
     }
 }
 

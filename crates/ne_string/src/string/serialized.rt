@@ -18,17 +18,23 @@ impl Serialize for NEString {
     }
 }
 
-/// Reads a text, which must not be empty.
+/// Reads a text, which must not be empty. The clause says that an `Ok` is the text that was read.
 impl<'de> Deserialize<'de> for NEString {
+    ghost use Rattle.std.specs.Prelude.{IfOk};
+    ghost use Rattle.serde.specs.Event.{text};
+    ghost use Rattle.serde.specs.Steps.{Gives};
+
     fn deserialize<F: Format>(
         alloc: Global,
         from: &mut Deserializer<'de, '_, F>,
-    ) -> Result<NEString, F::Error> {
+    ) -> Result<NEString, F::Error>
+        ensures { IfOk result (λ s. Gives F.gives from.old (text s) from.new) }
+    {
         NEString::deserialize_owned(alloc, from)
     }
 }
 
-/// Reads a text, which must not be empty. The clause says that an `Ok` is the text that was read.
+/// Reads a text, which must not be empty, as `Deserialize` does.
 impl DeserializeOwned for NEString {
     ghost use Rattle.std.specs.Prelude.{IfOk};
     ghost use Rattle.serde.specs.Event.{text};

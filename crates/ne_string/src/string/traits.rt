@@ -7,12 +7,14 @@ ghost use Rattle.std.specs.Cmp.Lexicographic.{nat_list_cmp_total, nat_list_eq_eq
 ghost use Rattle.std.specs.Cmp.Lexicographic.{slice_cmp, texts_po, texts_ties};
 ghost use Rattle.std.specs.Fmt.{debug_str, styled_text};
 ghost use Rattle.std.specs.Hash as fed;
+ghost use Rattle.std.specs.List.{flat_map};
 ghost use Rattle.std.specs.Ordering.{nat_cmp};
 ghost use Rattle.std.specs.Str.{bytes_eq, chars, encode_utf8_all};
 ghost use Rattle.ne_string.specs.CharacterLaws.{alike};
 
 use super::NEString;
 use ne_iter::{Error, FromNonEmptyIterator, IntoNonEmptyIterator, Singleton};
+use ne_vec::NEVec;
 use std::alloc::{AllocError, Global};
 use std::cmp::Ordering;
 use std::convert::AsStr;
@@ -119,6 +121,23 @@ impl Extend<char> for NEString {
     }
 }
 
+/// Appends the texts, in order. They may be empty.
+///
+/// Returns `AllocError` if the text has to grow and the allocation fails; the texts before that are
+/// then appended.
+///
+/// ```
+/// let mut name = NEString::new(alloc, 'A', "")?;
+/// name.extend(["d", "", "a"])?; // "Ada"
+/// ```
+impl<'a> Extend<&'a str> for NEString {
+    ghost extend_gives = { λ s xs t. t ≡ s ++ flat_map (λ x. x.now) xs };
+
+    fn extend<I: IntoIterator<Item = &'a str>>(&mut self, iter: I) -> Result<(), AllocError> {
+        self.inner.extend(iter)
+    }
+}
+
 /// Makes a text of the characters, in order.
 ///
 /// ```
@@ -134,6 +153,28 @@ impl FromNonEmptyIterator<char> for NEString {
     ) -> Result<NEString, AllocError> {
         let inner: String = String::from_nonempty_iter(alloc, iter)?;
         Ok(NEString { inner })
+    }
+}
+
+/// Makes a text of the texts joined in order, which are first collected into a vector.
+///
+/// ```
+/// let (first, second) = (NEString::new(alloc, 'A', "d")?, NEString::new(alloc, 'a', "")?);
+/// let name: NEString = [first, second].into_nonempty_iter().collect(alloc)?; // "Ada"
+/// ```
+impl FromNonEmptyIterator<NEString> for NEString {
+    ghost collected = { λ texts s. s ≡ flat_map (λ x. x) texts };
+
+    fn from_nonempty_iter<I: IntoNonEmptyIterator<Item = NEString>>(
+        alloc: Global,
+        iter: I,
+    ) -> Result<NEString, AllocError> {
+        let texts: NEVec<NEString> = NEVec::from_nonempty_iter(alloc, iter)?;
+        let (mut made, rest) = texts.into_first_and_rest();
+        for text in rest {
+            made.push_str(text.as_str())?;
+        }
+        Ok(made)
     }
 }
 
