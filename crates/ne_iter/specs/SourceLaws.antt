@@ -1,6 +1,10 @@
 -- Proofs of the laws of sources, which the implementations use.
 use Rattle.std.proofs.Common.{arith, subst, sym}
 use Rattle.std.specs.Prelude.{length, ◌<◌, true, List, Option, None, refl, [], ◌∷◌, ◌≡◌}
+use Rattle.std.proofs.lemmas.Bool.{OnFalse_from}
+use Rattle.ne_vec.specs.Lists.{View}
+use Rattle.ne_vec.specs.ListLaws.{triggered}
+use Rattle.ne_iter.specs.SourceLists.{KeepsLists}
 use Rattle.ne_iter.specs.Sources.{SameLists, Reads, IsNonEmpty}
 
 -- a source that is never empty yields no empty list
@@ -10,14 +14,6 @@ pub some_item : {U S A : Type 0} (becomes : U → S → Type 0) (steps : S → O
 some_item becomes steps full u [] h = let end = h.given.2 refl in
     absurd (full u h.it h.made end.0 (subst (λ it. steps it None end.0) (sym h.given.1) end.1))
 some_item becomes steps full u (x ∷ xs) h = omega arith
-
--- a source that becomes itself yields the same lists
-pub SameLists-self : {U S A : Type 0} (becomes : U → S → Type 0) (steps : S → Option A → S → Type 0)
-    → SameLists becomes steps (λ s r. r ≡ s) becomes steps
-SameLists-self becomes steps u whole xs = (
-  (λ h. (u, refl, h)),
-  (λ v e h. subst (λ q. Reads becomes steps whole q xs) e h),
-)
 
 -- a source that becomes one with the same iterators yields the same lists
 pub SameLists-through : {U S V A : Type 0} (becomes : U → S → Type 0)
@@ -57,3 +53,11 @@ IsNonEmpty-into becomes steps makes becomes' steps' same full u it made t ended 
     }) in
     let e = p.2.given.2 refl in
     full p.0 p.2.it p.2.made e.0 (subst (λ q. steps' q None e.0) (sym p.2.given.1) e.1)
+
+-- a source yields the lists that it yields
+pub keeps_lists : {U S A : Type 0} (becomes : U → S → Type 0) (steps : S → Option A → S → Type 0)
+    (view : View A) (s : U) → KeepsLists becomes steps view s s
+keeps_lists becomes steps view s = (
+  (λ xs known. (triggered s xs, (triggered s xs, known))),
+  OnFalse_from view.is_itself _ (λ _ xs known. (triggered s xs, (triggered s xs, known))),
+)

@@ -6,7 +6,8 @@ use Rattle.std.specs.Prelude.{slice_index_or}
 use Rattle.std.specs.Iterator.Runs.{Run, EachRunFrom}
 use Rattle.std.specs.Bool.{OnFalse}
 use Rattle.std.specs.Option.{option_map}
-use Rattle.ne_vec.specs.Lists.{EachList, IsPrefixRunThrough, Lists, View, YieldsPrefixes, itself}
+use Rattle.ne_vec.specs.Lists.{EachList, EachView, IsPrefixRunThrough, Listed, Lists, View}
+use Rattle.ne_vec.specs.Lists.{YieldsPrefixes, itself}
 
 -- The items of a run, through `view`, are a prefix of xs, and all of xs if the run is whole. The
 -- form is that of a clause of std's iterators.
@@ -49,3 +50,10 @@ abbrev pub BeginsList : {U S A : Type 0} → (U → List A → Type 0) → (S �
     → U → A → S → Type 0
 BeginsList lists steps u x rest =
     EachList lists u (λ xs. (xs ≡ x ∷ drop 1 xs) × YieldsPrefixes steps (drop 1 xs) rest)
+
+-- For the automatic proof, which seldom carries a list over by `r ≡ s`: the source r yields each
+-- list that s yields, itself and through `view`.
+abbrev pub KeepsLists : {U S A : Type 0} → (U → S → Type 0) → (S → Option A → S → Type 0) → View A
+    → U → U → Type 0
+KeepsLists becomes steps view s r = EachView view (λ view. Lists becomes steps view.of) s
+    (λ view xs. Listed becomes steps view.of r xs)

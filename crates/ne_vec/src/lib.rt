@@ -36,7 +36,7 @@ impl fmt::Display for Error {
     ghost output = { λ _. Some (codes "Given collection was empty") };
 
     fn fmt<W: fmt::Write>(&self, f: &mut fmt::Formatter<W>) -> fmt::Result {
-        f.write_str("Given collection was empty")
+        f.write_str(serialized::EMPTY)
     }
 }
 

@@ -12,54 +12,59 @@ use crate::Singleton;
 use serde::{Deserialize, DeserializeOwned, Deserializer, Format};
 use std::alloc::Global;
 
+/// The text of [`Error::Empty`](crate::Error::Empty), with which a format refuses what is empty.
+///
+/// ```
+/// let said = format!(in alloc; "{}", Error::Empty)?; // EMPTY
+/// ```
+pub const EMPTY: &str = "Given collection was empty";
+
+/// How an item, a key or a value is read: as one that [`Borrows`] from the input, or as one that
+/// [`Owns`] what it holds.
+pub trait Reader<'de, T> {
+    /// Reads a value. Returns the format's error if none is read.
+    fn read<F: Format>(alloc: Global, from: &mut Deserializer<'de, '_, F>) -> Result<T, F::Error>;
+}
+
+/// Reads by [`Deserialize`].
+pub struct Borrows;
+
+impl<'de, T: Deserialize<'de>> Reader<'de, T> for Borrows {
+    fn read<F: Format>(alloc: Global, from: &mut Deserializer<'de, '_, F>) -> Result<T, F::Error> {
+        T::deserialize(alloc, from)
+    }
+}
+
+/// Reads by [`DeserializeOwned`].
+pub struct Owns;
+
+impl<'de, T: DeserializeOwned> Reader<'de, T> for Owns {
+    fn read<F: Format>(alloc: Global, from: &mut Deserializer<'de, '_, F>) -> Result<T, F::Error> {
+        T::deserialize_owned(alloc, from)
+    }
+}
+
 /// Reads a sequence of at least one item.
 ///
 /// Returns the format's error if no sequence comes, if it has no item, if an item is not read, or
 /// if an allocation fails.
-pub fn read_seq<'de, C: Singleton + Drop, F: Format>(
+pub fn read_seq<'de, R: Reader<'de, C::Item>, C: Singleton + Drop, F: Format>(
     alloc: Global,
     from: &mut Deserializer<'de, '_, F>,
 ) -> Result<C, F::Error>
-where
-    C::Item: Deserialize<'de>,
     ensures { OnOk result ((item : _) × BeginsSeq F.gives F.stays from.old item) }
 {
     begin_seq(from)?;
-    let first = <C::Item>::deserialize(alloc, from)?;
+    let first = R::read(alloc, from)?;
     let Ok(mut made) = C::singleton(alloc, first) else {
         return Err(from.no_memory());
     };
+    // No input has as many items as this: the bound is there since each loop has to end.
     for _ in 0..u64::MAX {
         if !from.next_item()? {
             break;
         }
-        let item = <C::Item>::deserialize(alloc, from)?;
-        if made.extend_one(item).is_err() {
-            return Err(from.no_memory());
-        }
-    }
-    Ok(made)
-}
-
-/// Reads what [`read_seq`] reads, of items that borrow nothing from the input.
-pub fn read_seq_owned<C: Singleton + Drop, F: Format>(
-    alloc: Global,
-    from: &mut Deserializer<'_, '_, F>,
-) -> Result<C, F::Error>
-where
-    C::Item: DeserializeOwned,
-    ensures { OnOk result ((item : _) × BeginsSeq F.gives F.stays from.old item) }
-{
-    begin_seq(from)?;
-    let first = <C::Item>::deserialize_owned(alloc, from)?;
-    let Ok(mut made) = C::singleton(alloc, first) else {
-        return Err(from.no_memory());
-    };
-    for _ in 0..u64::MAX {
-        if !from.next_item()? {
-            break;
-        }
-        let item = <C::Item>::deserialize_owned(alloc, from)?;
+        let item = R::read(alloc, from)?;
         if made.extend_one(item).is_err() {
             return Err(from.no_memory());
         }
@@ -71,7 +76,7 @@ where
 ///
 /// Returns the format's error if no map comes, if it has no entry, if a key or a value is not read,
 /// or if an allocation fails.
-pub fn read_map<'de, C, K: Deserialize<'de>, V: Deserialize<'de>, F: Format>(
+pub fn read_map<'de, R: Reader<'de, K> + Reader<'de, V>, C, K: Drop, V: Drop, F: Format>(
     alloc: Global,
     from: &mut Deserializer<'de, '_, F>,
 ) -> Result<C, F::Error>
@@ -80,8 +85,8 @@ where
     ensures { OnOk result ((key : _) × BeginsMap F.gives from.old key) }
 {
     begin_map(from)?;
-    let key = K::deserialize(alloc, from)?;
-    let value = V::deserialize(alloc, from)?;
+    let key = <R as Reader<'de, K>>::read(alloc, from)?;
+    let value = <R as Reader<'de, V>>::read(alloc, from)?;
     let Ok(mut made) = C::singleton(alloc, (key, value)) else {
         return Err(from.no_memory());
     };
@@ -89,36 +94,8 @@ where
         if !from.next_entry()? {
             break;
         }
-        let key = K::deserialize(alloc, from)?;
-        let value = V::deserialize(alloc, from)?;
-        if made.extend_one((key, value)).is_err() {
-            return Err(from.no_memory());
-        }
-    }
-    Ok(made)
-}
-
-/// Reads what [`read_map`] reads, of keys and values that borrow nothing from the input.
-pub fn read_map_owned<C, K: DeserializeOwned, V: DeserializeOwned, F: Format>(
-    alloc: Global,
-    from: &mut Deserializer<'_, '_, F>,
-) -> Result<C, F::Error>
-where
-    C: Singleton<Item = (K, V)> + Drop,
-    ensures { OnOk result ((key : _) × BeginsMap F.gives from.old key) }
-{
-    begin_map(from)?;
-    let key = K::deserialize_owned(alloc, from)?;
-    let value = V::deserialize_owned(alloc, from)?;
-    let Ok(mut made) = C::singleton(alloc, (key, value)) else {
-        return Err(from.no_memory());
-    };
-    for _ in 0..u64::MAX {
-        if !from.next_entry()? {
-            break;
-        }
-        let key = K::deserialize_owned(alloc, from)?;
-        let value = V::deserialize_owned(alloc, from)?;
+        let key = <R as Reader<'de, K>>::read(alloc, from)?;
+        let value = <R as Reader<'de, V>>::read(alloc, from)?;
         if made.extend_one((key, value)).is_err() {
             return Err(from.no_memory());
         }
@@ -149,6 +126,3 @@ fn begin_map<F: Format>(from: &mut Deserializer<'_, '_, F>) -> Result<(), F::Err
         Err(from.custom(EMPTY))
     }
 }
-
-// The text of `Error::Empty`.
-const EMPTY: &str = "Given collection was empty";

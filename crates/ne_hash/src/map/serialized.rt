@@ -4,7 +4,7 @@ ghost use Rattle.serde.specs.Event.{WritesMap};
 ghost use Rattle.ne_vec.specs.Read.{BeginsMap};
 
 use super::NEMap;
-use ne_vec::serialized::{read_map, read_map_owned};
+use ne_vec::serialized::{Borrows, Owns, read_map};
 use serde::{
     Described, Deserialize, DeserializeOwned, Deserializer, Format, Serialize, Serializer,
 };
@@ -31,7 +31,7 @@ impl<'de, K: Deserialize<'de> + Eq + Hash, V: Deserialize<'de>> Deserialize<'de>
     ) -> Result<NEMap<K, V>, F::Error>
         ensures { OnOk result ((key : _) × BeginsMap F.gives from.old key) }
     {
-        read_map(alloc, from)
+        read_map::<Borrows, _, _, _, _>(alloc, from)
     }
 }
 
@@ -44,6 +44,6 @@ impl<K: DeserializeOwned + Eq + Hash, V: DeserializeOwned> DeserializeOwned for 
     ) -> Result<NEMap<K, V>, F::Error>
         ensures { OnOk result ((key : _) × BeginsMap F.gives from.old key) }
     {
-        read_map_owned(alloc, from)
+        read_map::<Owns, _, _, _, _>(alloc, from)
     }
 }

@@ -4,7 +4,7 @@ ghost use Rattle.serde.specs.Event.{WritesSeq};
 ghost use Rattle.ne_vec.specs.Read.{BeginsSeq};
 
 use super::NESet;
-use ne_vec::serialized::{read_seq, read_seq_owned};
+use ne_vec::serialized::{Borrows, Owns, read_seq};
 use serde::{
     Described, Deserialize, DeserializeOwned, Deserializer, Format, Serialize, Serializer,
 };
@@ -31,7 +31,7 @@ impl<'de, T: Deserialize<'de> + Eq + Hash> Deserialize<'de> for NESet<T> {
     ) -> Result<NESet<T>, F::Error>
         ensures { OnOk result ((item : _) × BeginsSeq F.gives F.stays from.old item) }
     {
-        read_seq(alloc, from)
+        read_seq::<Borrows, _, _>(alloc, from)
     }
 }
 
@@ -44,6 +44,6 @@ impl<T: DeserializeOwned + Eq + Hash> DeserializeOwned for NESet<T> {
     ) -> Result<NESet<T>, F::Error>
         ensures { OnOk result ((item : _) × BeginsSeq F.gives F.stays from.old item) }
     {
-        read_seq_owned(alloc, from)
+        read_seq::<Owns, _, _>(alloc, from)
     }
 }

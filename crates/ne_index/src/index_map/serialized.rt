@@ -4,7 +4,7 @@ ghost use Rattle.serde.specs.Event.{WritesMap};
 ghost use Rattle.ne_vec.specs.Read.{BeginsMap};
 
 use super::NEIndexMap;
-use ne_vec::serialized::{read_map, read_map_owned};
+use ne_vec::serialized::{Borrows, Owns, read_map};
 use serde::{
     Described, Deserialize, DeserializeOwned, Deserializer, Format, Serialize, Serializer,
 };
@@ -39,7 +39,7 @@ impl<'de, K: Deserialize<'de> + Eq + Hash, V: Deserialize<'de>> Deserialize<'de>
     ) -> Result<NEIndexMap<K, V>, F::Error>
         ensures { OnOk result ((key : _) × BeginsMap F.gives from.old key) }
     {
-        read_map(alloc, from)
+        read_map::<Borrows, _, _, _, _>(alloc, from)
     }
 }
 
@@ -52,6 +52,6 @@ impl<K: DeserializeOwned + Eq + Hash, V: DeserializeOwned> DeserializeOwned for 
     ) -> Result<NEIndexMap<K, V>, F::Error>
         ensures { OnOk result ((key : _) × BeginsMap F.gives from.old key) }
     {
-        read_map_owned(alloc, from)
+        read_map::<Owns, _, _, _, _>(alloc, from)
     }
 }

@@ -3,7 +3,8 @@ ghost use Rattle.std.specs.Prelude.{◌≡◌, Bool, List};
 ghost use Rattle.std.specs.Iterator.{IsFiniteIterable};
 ghost use Rattle.ne_vec.specs.Lists.{Listed, Lists, EachPrefix, YieldsItems, YieldsThrough, View};
 ghost use Rattle.ne_iter.specs.Sources.{Reads, SameLists};
-ghost use Rattle.ne_iter.specs.SourceLaws.{SameLists-self};
+ghost use Rattle.ne_iter.specs.SourceLists.{KeepsLists};
+ghost use Rattle.ne_iter.specs.SourceLaws.{SameLists-of, keeps_lists};
 
 use super::NonEmptyIterator;
 
@@ -89,9 +90,12 @@ pub trait IntoNonEmptyIterator: IntoIterator {
 impl<S: NonEmptyIterator> IntoNonEmptyIterator for S {
     type IntoNEIter = S;
 
-    ghost into_nonempty_iter_gives = { λ s r. r ≡ s };
+    ghost into_nonempty_iter_gives = { λ s r. (r ≡ s)
+        × KeepsLists S.into_iter_gives S.IntoIter.next_gives S.item_view s r };
 
-    ghost same_lists = { SameLists-self S.into_iter_gives S.IntoIter.next_gives };
+    ghost same_lists = { SameLists-of S.into_iter_gives S.IntoIter.next_gives (λ s. s)
+        (KeepsLists S.into_iter_gives S.IntoIter.next_gives S.item_view)
+        (keeps_lists S.into_iter_gives S.IntoIter.next_gives S.item_view) };
 
     fn into_nonempty_iter(self) -> S {
         self

@@ -3,6 +3,7 @@
 ghost use Rattle.serde.specs.Event.{Logs, text};
 
 use super::NEString;
+use ne_vec::serialized::EMPTY;
 use serde::{
     Described, Deserialize, DeserializeOwned, Deserializer, Format, Serialize, Serializer,
 };
@@ -49,7 +50,7 @@ impl DeserializeOwned for NEString {
         let text = from.string(alloc)?;
         match NEString::try_from_string(text) {
             Some(made) => Ok(made),
-            None => Err(from.custom("Given text was empty")),
+            None => Err(from.custom(EMPTY)),
         }
     }
 }

@@ -4,7 +4,7 @@ ghost use Rattle.serde.specs.Event.{WritesMap};
 ghost use Rattle.ne_vec.specs.Read.{BeginsMap};
 
 use super::NEBTreeMap;
-use ne_vec::serialized::{read_map, read_map_owned};
+use ne_vec::serialized::{Borrows, Owns, read_map};
 use serde::{
     Described, Deserialize, DeserializeOwned, Deserializer, Format, Serialize, Serializer,
 };
@@ -30,7 +30,7 @@ impl<'de, K: Deserialize<'de> + Ord, V: Deserialize<'de>> Deserialize<'de> for N
     ) -> Result<NEBTreeMap<K, V>, F::Error>
         ensures { OnOk result ((key : _) × BeginsMap F.gives from.old key) }
     {
-        read_map(alloc, from)
+        read_map::<Borrows, _, _, _, _>(alloc, from)
     }
 }
 
@@ -43,6 +43,6 @@ impl<K: DeserializeOwned + Ord, V: DeserializeOwned> DeserializeOwned for NEBTre
     ) -> Result<NEBTreeMap<K, V>, F::Error>
         ensures { OnOk result ((key : _) × BeginsMap F.gives from.old key) }
     {
-        read_map_owned(alloc, from)
+        read_map::<Owns, _, _, _, _>(alloc, from)
     }
 }
