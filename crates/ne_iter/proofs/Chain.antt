@@ -15,7 +15,8 @@ use Rattle.ne_vec.specs.ListLaws.{triggered}
 use Rattle.ne_iter.specs.Sources.{ReadsListThrough, EachReading, Reads}
 use Rattle.ne_iter.specs.Chain.{IsChained, ChainsLists, ChainsRuns}
 use Rattle.ne_iter.specs.SourceLists.{MeetsList}
-use Rattle.ne_iter.proofs.SourceLists.{reads_through, through_reads, meets_read, each_view}
+use Rattle.ne_iter.specs.LoopLaws.{reads_through}
+use Rattle.ne_iter.proofs.SourceLists.{through_reads, meets_read, each_view}
 
 module _ {S T A : Type 0} (steps : S → Option A → S → Type 0) (others : T → Option A → T → Type 0)
   where

@@ -13,8 +13,8 @@ use Rattle.std.specs.Option.{option_map}
 use Rattle.ne_iter.specs.Sources.{Reads, ReadsListThrough}
 use Rattle.ne_iter.specs.Calls.{ReturnsEach}
 use Rattle.ne_iter.proofs.FunctionCalls.{same_results, same_results_at}
-use Rattle.ne_iter.proofs.Runs.{Yields-append}
-use Rattle.ne_iter.proofs.SourceLists.{whole_prefix}
+use Rattle.ne_iter.specs.LoopLaws.{Yields-append}
+use Rattle.ne_iter.specs.LoopLaws.{whole_prefix}
 
 module _ {A B : Type 0} (view : A → B) (test : B → Bool) where
   all_pass : (us : List A) → AllByRecursion (λ x. test (view x) ≡ true) us

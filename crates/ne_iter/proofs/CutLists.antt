@@ -25,7 +25,8 @@ use Rattle.ne_iter.specs.declared.iter.group_by.State.{State}
 use Rattle.ne_iter.specs.declared.iter.group_by.State.TheVariants.{Unread, Held, Ended}
 use Rattle.ne_iter.proofs.CutRuns.{held_append}
 use Rattle.ne_iter.proofs.Groupings.{division_of_none}
-use Rattle.ne_iter.proofs.SourceLists.{reads_through, read_through}
+use Rattle.ne_iter.specs.LoopLaws.{reads_through}
+use Rattle.ne_iter.proofs.SourceLists.{read_through}
 
 -- a run that ends before y ends before the first of the lists that y begins
 breaks_on : {A : Type 0} (goes_on : List A → A → Bool) (run : List A) (y : A) (ys : List A)

@@ -14,7 +14,8 @@ use Rattle.ne_vec.specs.Lists.{View, itself, numbered}
 use Rattle.ne_vec.specs.ListLaws.{triggered}
 use Rattle.ne_iter.specs.Sources.{ReadsListThrough, EachReading, Reads}
 use Rattle.ne_iter.specs.Enumerate.{IsEnumerated, NumbersLists}
-use Rattle.ne_iter.proofs.SourceLists.{read_lists, reads_through, through_reads, as_items}
+use Rattle.ne_iter.specs.LoopLaws.{reads_through}
+use Rattle.ne_iter.proofs.SourceLists.{read_lists, through_reads, as_items}
 
 pub DrainsIf-enumerate : {W S A : Type 0} (steps : S → Option A → S → Type 0) (s : Enumerate S)
     (ys : List (ℕ × A))

@@ -17,7 +17,7 @@ use Rattle.ne_iter.specs.Sources.{Reads, EachReading, ReadsList, ReadsListThroug
 use Rattle.ne_iter.specs.Calls.{Calls, CallsEachAt, ReturnsEach, ReturnsEachAt}
 use Rattle.ne_iter.specs.Filter.{IsFiltered, IsFilterMapped}
 use Rattle.ne_iter.specs.Keys.{items_of}
-use Rattle.ne_iter.proofs.Runs.{Yields-append}
+use Rattle.ne_iter.specs.LoopLaws.{Yields-append}
 use Rattle.ne_iter.proofs.FunctionCalls.{function_values, values_at}
 
 -- each item of xs, paired with b

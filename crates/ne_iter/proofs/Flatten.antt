@@ -19,7 +19,7 @@ use Rattle.ne_vec.specs.ListLaws.{triggered}
 use Rattle.ne_iter.specs.Sources.{Reads, SameLists, EachReading, ReadsList}
 use Rattle.ne_iter.specs.Flatten.{ReadsEach, IsFlattened, FlattensLists}
 use Rattle.ne_iter.specs.SourceLists.{BecomesList}
-use Rattle.ne_iter.proofs.Runs.{Yields-append}
+use Rattle.ne_iter.specs.LoopLaws.{Yields-append}
 use Rattle.ne_iter.proofs.SourceLists.{lists_read, read_lists, becomes_read}
 
 module _ {S U J A : Type 0} (steps : S → Option U → S → Type 0) (becomes : U → J → Type 0)

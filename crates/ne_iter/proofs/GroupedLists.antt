@@ -14,7 +14,8 @@ use Rattle.ne_vec.specs.DivisionLaws.{division_mapped}
 use Rattle.ne_iter.specs.GroupingRuns.{GivesRun, GroupsRuns, GroupsLists, IsUnread}
 use Rattle.ne_iter.specs.Keys.{IsDividedBy}
 use Rattle.ne_iter.specs.Sources.{Reads, ReadsListThrough}
-use Rattle.ne_iter.proofs.SourceLists.{reads_through, read_through}
+use Rattle.ne_iter.specs.LoopLaws.{reads_through}
+use Rattle.ne_iter.proofs.SourceLists.{read_through}
 
 -- whether an item continues a run does not depend on the view
 alike : {A C K : Type 0} (eq : K → K → Bool) (h : C → K) (view : A → C) (r : List A) (x : A)

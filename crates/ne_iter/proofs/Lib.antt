@@ -1,8 +1,6 @@
-pub mod Runs
 pub mod InterspersedPlaces
 pub mod Unzipped
 pub mod Traced
-pub mod Loops
 mod Appended
 mod Errors
 pub mod Best

@@ -17,7 +17,8 @@ use Rattle.ne_iter.specs.Sources.{ReadsList, ReadsListThrough, EachReading, Read
 use Rattle.ne_vec.specs.RunLaws.{run_drains}
 use Rattle.ne_iter.specs.Map.{IsMapped, ActsThrough, MapsTo, MapsToTexts, MapsThrough}
 use Rattle.ne_iter.proofs.FunctionCalls.{function_values}
-use Rattle.ne_iter.proofs.SourceLists.{read_lists, each_view, whole_prefix}
+use Rattle.ne_iter.specs.LoopLaws.{whole_prefix}
+use Rattle.ne_iter.proofs.SourceLists.{read_lists, each_view}
 
 pub DrainsIf-map : {W S A B F : Type 0} (steps : S → Option A → S → Type 0)
     (g : Mut F (A × Unit {0}) B) (s : Map S F) (ys : List B)

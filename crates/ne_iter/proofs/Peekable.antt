@@ -16,7 +16,7 @@ use Rattle.ne_iter.specs.Sources.{ReadsList, ReadsListThrough, Reads}
 use Rattle.ne_iter.specs.declared.iter.peekable.Peekable.{Peekable}
 use Rattle.ne_vec.specs.RunLaws.{run_drains}
 use Rattle.ne_iter.proofs.Chain.{DrainsIf-chain}
-use Rattle.ne_iter.proofs.SourceLists.{whole_prefix}
+use Rattle.ne_iter.specs.LoopLaws.{whole_prefix}
 
 no_item : {A : Type 0} (x : A) → Some x ≡ None → ⊥
 no_item x e = let e = e in search rules

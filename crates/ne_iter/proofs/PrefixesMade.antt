@@ -6,7 +6,7 @@ use Rattle.std.specs.Bool.{MatchBool}
 use Rattle.std.specs.Result.{result_map_both}
 use Rattle.ne_vec.specs.Lists.{IsPrefix}
 use Rattle.ne_iter.specs.Collected.{PrefixMakes, values_or_first_err}
-use Rattle.ne_iter.proofs.SourceLists.{whole_prefix}
+use Rattle.ne_iter.specs.LoopLaws.{whole_prefix}
 
 module _ {T V : Type 0} (collected : List T → V → Type 0) (v : V) (xs ys : List T) where
   prefix_made : (whole : Bool) → IsPrefix whole xs ys → collected ys v → MatchBool whole

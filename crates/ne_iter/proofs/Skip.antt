@@ -17,7 +17,7 @@ use Rattle.ne_vec.specs.Lists.{IsPrefix}
 use Rattle.ne_iter.specs.Sources.{Reads, EachReading, ReadsListThrough}
 use Rattle.ne_iter.specs.Calls.{ReturnsEachAt}
 use Rattle.ne_iter.specs.Skip.{FailsFirst, IsSkipped, IsSkippedWhile}
-use Rattle.ne_iter.proofs.Runs.{Yields-append}
+use Rattle.ne_iter.specs.LoopLaws.{Yields-append}
 use Rattle.ne_iter.proofs.FunctionCalls.{same_results_at}
 use Rattle.ne_iter.proofs.TakeWhile.{all_map}
 

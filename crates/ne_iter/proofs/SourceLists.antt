@@ -15,6 +15,7 @@ use Rattle.ne_vec.specs.Lists.{IsPrefix, Lists, YieldsItems, YieldsThrough, Yiel
 use Rattle.ne_vec.specs.Lists.{EachView, View, itself}
 use Rattle.ne_vec.specs.ListLaws.{lists_of, of_lists, triggered}
 use Rattle.ne_vec.specs.RunLaws.{yields_items, yields_through, run_drains}
+use Rattle.ne_iter.specs.LoopLaws.{reads_through, whole_prefix}
 use Rattle.ne_iter.specs.Sources.{ReadsList, ReadsListThrough, Reads, SameLists}
 use Rattle.ne_iter.specs.SourceLists.{BecomesList, MeetsList, EachKept, StdYields}
 
@@ -52,10 +53,6 @@ viewed_prefix_of view whole xs us within ends places =
     (λ k d less. option_map_id (slice_get (map view us) k) ∙ slice_get-map view us k
     ∙ places k d (subst (λ n. k < n) long less))
 
--- a prefix that is whole is the list
-pub whole_prefix : {A : Type 0} (xs ys : List A) → IsPrefix true xs ys → ys ≡ xs
-whole_prefix xs ys h = sym (h.1 ∙ ap (λ l. ys ++ l) (h.2 refl) ∙ append-nil ys)
-
 -- a list through the view `itself`
 module _ {U A : Type 0} (reads : Bool → U → List A → Type 0) (u : U) (xs : List A) where
   pub as_items : ReadsListThrough reads (λ x. x) u xs → ReadsList reads u xs
@@ -74,11 +71,6 @@ module _ {U S A : Type 0} (becomes : U → S → Type 0) (steps : S → Option A
         (λ it made whole ys given. list whole ys (record { it = it; made = made; given = given })))
 
     module _ {B : Type 0} (view : A → B) (xs : List B) where
-      pub reads_through : Lists becomes steps view u xs → ReadsListThrough (Reads becomes steps)
-          view u xs
-      unfolding Lists
-      reads_through shows whole ys read = shows read.it read.made whole ys read.given
-
       pub through_reads : ReadsListThrough (Reads becomes steps) view u xs
           → YieldsThrough becomes steps view u xs
       unfolding Lists

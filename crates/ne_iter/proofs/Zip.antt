@@ -13,7 +13,8 @@ use Rattle.ne_vec.specs.ListLaws.{triggered}
 use Rattle.ne_iter.specs.Sources.{ReadsListThrough, EachReading, Reads, SameLists}
 use Rattle.ne_iter.specs.Zip.{IsZipped, PairsOf, ZipsLists}
 use Rattle.ne_iter.specs.SourceLists.{BecomesList}
-use Rattle.ne_iter.proofs.SourceLists.{read_lists, reads_through, through_reads, as_items}
+use Rattle.ne_iter.specs.LoopLaws.{reads_through}
+use Rattle.ne_iter.proofs.SourceLists.{read_lists, through_reads, as_items}
 use Rattle.ne_iter.proofs.SourceLists.{becomes_read_through}
 
 -- if a conjunction of two tests is true, both are true

@@ -1,6 +1,7 @@
 pub mod Sources
 pub mod SourceLaws
 pub mod SourceLists
+pub mod LoopLaws
 pub mod Calls
 pub mod PeekLends
 pub mod FirstItemLaws
@@ -36,3 +37,4 @@ pub mod Peekable
 pub mod Filter
 pub mod Skip
 pub mod TakeWhile
+pub mod KeyedMap

@@ -7,6 +7,7 @@ ghost use Rattle.ne_iter.specs.Keyed.SameMap.{IsSameMap};
 ghost use Rattle.ne_hash.specs.ValidHashMap.{IsValid};
 
 use super::NEMap;
+use ne_iter::iter::KeyedMap;
 use ne_iter::{Error, FromNonEmptyIterator, IntoNonEmptyIterator, Singleton};
 use std::alloc::{AllocError, Global};
 use std::collections::HashMap;
@@ -139,5 +140,23 @@ impl<K: Eq + Hash + Drop, V: Drop, S: BuildHasher> Extend<(K, V)> for NEMap<K, V
 
     fn extend<I: IntoIterator<Item = (K, V)>>(&mut self, iter: I) -> Result<(), AllocError> {
         NEMap::extend(self, iter)
+    }
+}
+
+/// The value of a key is what [`get`](Self::get) returns.
+impl<K: Eq + Hash + Drop, V: Drop> KeyedMap<K, V> for NEMap<K, V> {
+    ghost value = { get K.eq };
+
+    fn with_entry(alloc: Global, k: K, v: V) -> Result<Self, AllocError> {
+        NEMap::new(alloc, k, v)
+    }
+
+    fn put(&mut self, k: K, v: V) -> Result<(), AllocError> {
+        let _old = self.insert(k, v)?;
+        Ok(())
+    }
+
+    fn value_mut(&mut self, k: &K) -> Option<&mut V> {
+        self.get_mut(k)
     }
 }

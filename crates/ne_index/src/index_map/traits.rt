@@ -14,7 +14,7 @@ ghost use Rattle.ne_index.specs.ValidIndexMap.{IsValid};
 
 use super::NEIndexMap;
 use indexmap::IndexMap;
-use ne_iter::iter::ItemSource;
+use ne_iter::iter::{ItemSource, KeyedMap};
 use ne_iter::{FromNonEmptyIterator, IntoNonEmptyIterator, NonEmptyIterator, Singleton};
 use std::alloc::{AllocError, Global};
 use std::fmt;
@@ -163,5 +163,23 @@ impl<K: Eq + Hash + Drop, V: Drop, S: BuildHasher> Extend<(K, V)> for NEIndexMap
 
     fn extend<I: IntoIterator<Item = (K, V)>>(&mut self, iter: I) -> Result<(), AllocError> {
         NEIndexMap::extend(self, iter)
+    }
+}
+
+/// The value of a key is what [`get`](Self::get) returns.
+impl<K: Eq + Hash + Drop, V: Drop> KeyedMap<K, V> for NEIndexMap<K, V> {
+    ghost value = { get K.eq };
+
+    fn with_entry(alloc: Global, k: K, v: V) -> Result<Self, AllocError> {
+        NEIndexMap::new(alloc, k, v)
+    }
+
+    fn put(&mut self, k: K, v: V) -> Result<(), AllocError> {
+        let _old = self.insert(k, v)?;
+        Ok(())
+    }
+
+    fn value_mut(&mut self, k: &K) -> Option<&mut V> {
+        self.get_mut(k)
     }
 }

@@ -9,6 +9,7 @@ ghost use Rattle.ne_iter.specs.Keyed.SameMap.{IsSameMap};
 ghost use Rattle.ne_tree.specs.ValidTreeMap.{IsValid};
 
 use super::NEBTreeMap;
+use ne_iter::iter::KeyedMap;
 use ne_iter::{Error, FromNonEmptyIterator, IntoNonEmptyIterator, Singleton};
 use std::alloc::{AllocError, Global};
 use std::collections::BTreeMap;
@@ -131,5 +132,23 @@ impl<K: Ord + Drop, V: Drop> Extend<(K, V)> for NEBTreeMap<K, V> {
 
     fn extend<I: IntoIterator<Item = (K, V)>>(&mut self, iter: I) -> Result<(), AllocError> {
         NEBTreeMap::extend(self, iter)
+    }
+}
+
+/// The value of a key is what [`get`](Self::get) returns.
+impl<K: Ord + Drop, V: Drop> KeyedMap<K, V> for NEBTreeMap<K, V> {
+    ghost value = { get K.cmp };
+
+    fn with_entry(alloc: Global, k: K, v: V) -> Result<Self, AllocError> {
+        NEBTreeMap::new(alloc, k, v)
+    }
+
+    fn put(&mut self, k: K, v: V) -> Result<(), AllocError> {
+        let _old = self.insert(k, v)?;
+        Ok(())
+    }
+
+    fn value_mut(&mut self, k: &K) -> Option<&mut V> {
+        self.get_mut(k)
     }
 }

@@ -4,8 +4,8 @@ use Rattle.std.proofs.lemmas.Fn.{says_at_two, FoldsTo-push}
 use Rattle.std.proofs.lemmas.List.Elements.{Contains-append_left, Contains-push}
 use Rattle.ne_iter.specs.Consumers.{KeepsBetter}
 use Rattle.ne_iter.proofs.Best.{Contains-kept}
-use Rattle.ne_iter.proofs.Loops.{Reads-loop, Yields-first}
-use Rattle.ne_iter.proofs.Runs.{Yields-append}
+use Rattle.ne_iter.specs.LoopLaws.{Reads-loop, Yields-first}
+use Rattle.ne_iter.specs.LoopLaws.{Yields-append}
 
 pub better-requires : goal.better-requires
 better-requires g c =

@@ -4,7 +4,7 @@ use Rattle.std.proofs.iter.Next.{said, Yields-more}
 use Rattle.std.specs.Iterator.{IsNearerEnd}
 use Rattle.ne_iter.proofs.Appended.{DrainsIf-failed}
 use Rattle.ne_iter.proofs.PrefixesMade.{more_items}
-use Rattle.ne_iter.proofs.Runs.{Yields-append}
+use Rattle.ne_iter.specs.LoopLaws.{Yields-append}
 
 pub returns-in_default : goal.returns-in_default
 returns-in_default g c =

@@ -1,5 +1,5 @@
 use Rattle.ne_iter.proofs.laws.firsts.first_items_stay_first.Goals as goal
-use Rattle.ne_iter.proofs.SourceLists.{whole_prefix}
+use Rattle.ne_iter.specs.LoopLaws.{whole_prefix}
 use Rattle.ne_iter.proofs.Map.{map_prefix}
 use Rattle.ne_iter.proofs.Enumerate.{enumerate_prefix}
 use Rattle.ne_iter.proofs.Take.{take_prefix}

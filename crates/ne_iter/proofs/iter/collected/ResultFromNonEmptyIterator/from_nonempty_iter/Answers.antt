@@ -8,8 +8,8 @@ use Rattle.std.specs.Prelude.{Ok}
 use Rattle.ne_iter.specs.Collected.{values_or_first_err}
 use Rattle.ne_iter.proofs.PrefixesMade.{all_values, first_err_at, up_to_err, one_more, more_items}
 use Rattle.ne_iter.proofs.PrefixesMade.{are_values}
-use Rattle.ne_iter.proofs.Loops.{Reads-first, Reads-left, Reads-loop}
-use Rattle.ne_iter.proofs.Runs.{Yields-append}
+use Rattle.ne_iter.specs.LoopLaws.{Reads-first, Reads-left, Reads-loop}
+use Rattle.ne_iter.specs.LoopLaws.{Yields-append}
 
 pub returns-in-Err : goal.returns-in-Err
 returns-in-Err g c =

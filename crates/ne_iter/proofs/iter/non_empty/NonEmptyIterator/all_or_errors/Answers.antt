@@ -3,7 +3,7 @@ use Rattle.std.proofs.Common.{subst, sym, [], ◌∷◌, append_assoc}
 use Rattle.std.proofs.lemmas.List.{append-nil}
 use Rattle.ne_vec.specs.ListLaws.{triggered}
 use Rattle.ne_iter.specs.Collected.{IsAllOrErrors}
-use Rattle.ne_iter.proofs.Loops.{Reads-loop}
+use Rattle.ne_iter.specs.LoopLaws.{Reads-loop}
 use Rattle.ne_iter.proofs.Traced.{whole_run_of}
 use Rattle.ne_iter.proofs.SourceLists.{of_read}
 

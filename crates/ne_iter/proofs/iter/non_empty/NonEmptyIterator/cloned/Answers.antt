@@ -5,7 +5,8 @@ use Rattle.ne_vec.specs.ListLaws.{triggered}
 use Rattle.ne_iter.specs.Cloned.{TriesClone}
 use Rattle.ne_iter.proofs.Cloned.{DrainsIf-cloned, cloned_list}
 use Rattle.ne_iter.proofs.PrefixesMade.{all_values}
-use Rattle.ne_iter.proofs.SourceLists.{reads_through, read_lists}
+use Rattle.ne_iter.specs.LoopLaws.{reads_through}
+use Rattle.ne_iter.proofs.SourceLists.{read_lists}
 
 pub returns-clause-gives : goal.returns-clause-gives
 returns-clause-gives g c whole ys h =

@@ -3,7 +3,8 @@ use Rattle.std.proofs.Common.{◌≡◌, true}
 use Rattle.std.specs.Iterator.Adapters.{copied_source}
 use Rattle.ne_vec.specs.ListLaws.{triggered}
 use Rattle.ne_iter.proofs.Copied.{DrainsIf-copied, copied_list}
-use Rattle.ne_iter.proofs.SourceLists.{reads_through, read_lists}
+use Rattle.ne_iter.specs.LoopLaws.{reads_through}
+use Rattle.ne_iter.proofs.SourceLists.{read_lists}
 
 pub returns-clause-gives : goal.returns-clause-gives
 returns-clause-gives g c whole ys h =

@@ -4,7 +4,8 @@ use Rattle.std.proofs.lemmas.Bool.{OnFalse_from}
 use Rattle.ne_vec.specs.ListLaws.{triggered}
 use Rattle.ne_iter.proofs.Peekable.{DrainsIf-headed, peekable_list, yields_rest}
 use Rattle.ne_iter.proofs.Peekable.{yields_peeked}
-use Rattle.ne_iter.proofs.SourceLists.{lists_read, read_lists, reads_through}
+use Rattle.ne_iter.specs.LoopLaws.{reads_through}
+use Rattle.ne_iter.proofs.SourceLists.{lists_read, read_lists}
 
 pub returns-clause-gives : goal.returns-clause-gives
 returns-clause-gives g c w whole zs h =

@@ -2,7 +2,7 @@ use Rattle.ne_iter.proofs.iter.non_empty.NonEmptyIterator.unzip.Goals as goal
 use Rattle.std.proofs.Common.{subst, sym, map, [], ◌∷◌}
 use Rattle.std.proofs.lemmas.List.{append-nil}
 use Rattle.ne_vec.specs.ListLaws.{triggered}
-use Rattle.ne_iter.proofs.Loops.{Reads-loop}
+use Rattle.ne_iter.specs.LoopLaws.{Reads-loop}
 use Rattle.ne_iter.proofs.Traced.{whole_run_of, indexes}
 use Rattle.ne_iter.proofs.Unzipped.{map-one_more}
 use Rattle.ne_iter.proofs.SourceLists.{of_read}
