@@ -8,3 +8,4 @@ pub mod ProductSteps
 pub mod Restarted
 pub mod SideRuns
 pub mod Uniques
+pub mod ByKey

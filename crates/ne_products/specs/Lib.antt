@@ -5,3 +5,4 @@ pub mod Restarts
 pub mod Sides
 pub mod SideLaws
 pub mod Unique
+pub mod ByKey

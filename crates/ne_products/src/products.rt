@@ -1,9 +1,11 @@
 //! Products of two non-empty iterators, and whether the items of one are distinct.
 ghost use Rattle.std.specs.Prelude.{◌≡◌, IfOk, MatchOption, None};
 ghost use Rattle.std.specs.HashSet.{contains};
-ghost use Rattle.std.specs.Iterator.{MakesProgress};
-ghost use Rattle.ne_vec.specs.Lists.{EachList, itself};
+ghost use Rattle.std.specs.Iterator.{ActsAsAt, ActsAsOnTwo, MakesProgress};
+ghost use Rattle.ne_vec.specs.Lists.{EachList, EachView, itself};
+ghost use Rattle.ne_iter.specs.Sources.{Becomes};
 ghost use Rattle.ne_iter.specs.SourceLists.{BecomesList};
+ghost use Rattle.ne_products.specs.ByKey.{AddsByCall, CallableByKey, FoldsByKey, IsFoldedByKey};
 ghost use Rattle.ne_products.specs.Pairs.{CanRefuse};
 ghost use Rattle.ne_products.specs.Product.{product_first, product_second, restart_of, PairsItems};
 ghost use Rattle.ne_products.specs.Product.{PairsNext, TriesRestart, IsRowItem, is_exhausted};
@@ -12,7 +14,7 @@ ghost use Rattle.ne_products.specs.Restarts.{ClonesAgain, HasExactClones};
 ghost use Rattle.ne_products.specs.Restarts.{NeverRefuses, PairsListed, PairsLists, YieldsPairs};
 ghost use Rattle.ne_products.specs.Unique.{ChecksDistinct, ChecksUnique};
 
-use ne_iter::iter::ItemSource;
+use ne_iter::iter::{ItemSource, KeyedMap};
 use ne_iter::{IntoNonEmptyIterator, NonEmptyIterator};
 use std::alloc::{AllocError, Global};
 use std::collections::HashSet;
@@ -120,6 +122,65 @@ pub trait NonEmptyItertools: NonEmptyIterator {
             }
         }
         Ok(true)
+    }
+
+    /// Returns, for each key, the fold of the items with that key, in their order: `init` and the
+    /// first of them make a value, that and the second the next one. `M` is a map of any of the
+    /// three types; of two equal keys it keeps the first.
+    ///
+    /// `key` and then `f` are called once for each item, in order, `f` with the value that the
+    /// item's key has so far. They must be callable with those; for most closures this is proved
+    /// without a word.
+    ///
+    /// Returns `AllocError` if an allocation for the map fails; what was made is then dropped. The
+    /// Rust crate lacks this method; `itertools` has it as `into_grouping_map_by(..).fold(..)`.
+    ///
+    /// ```
+    /// let sales = nev![alloc; (7, 3u32), (8, 1), (7, 4)]?;
+    /// let totals: NEBTreeMap<u32, u32> =
+    ///     sales.nonempty_iter().fold_by_key(alloc, |s| s.0, 0, |total, s| s.1.max(total))?;
+    /// // {7: 4, 8: 1}
+    /// ```
+    final fn fold_by_key<
+        M: KeyedMap<K, B> + Drop,
+        K: Eq + Drop,
+        B: Copy + Drop,
+        F: FnMut(&Self::Item) -> K,
+        G: FnMut(B, Self::Item) -> B,
+    >(
+        self,
+        alloc: Global,
+        key: F,
+        init: B,
+        f: G,
+    ) -> Result<M, AllocError>
+    where
+        Self: Sized,
+        Self::Item: Drop,
+        requires ends { ⟦<Self as ItemSource>⟧.ends self }
+        requires callable { (it : Self.IntoIter) → Self.into_iter_gives self it
+            → CallableByKey Self.IntoIter.next_gives F.FnMut G.FnMut K.eq it key init f }
+        ensures gives { IfOk result (λ m. Becomes Self.into_iter_gives self (λ it.
+            FoldsByKey F.FnMut (AddsByCall G.FnMut) K.eq init Self.IntoIter.next_gives it key f
+            (M.value m))) }
+        ensures lists { IfOk result (λ m.
+            EachView Self.item_view (⟦<Self as ItemSource>⟧.lists) self (λ view xs.
+            (h : view.Target → K) → ActsAsAt F.FnMut key (λ x. h (view.of x))
+            → (g : B → view.Target → B) → ActsAsOnTwo G.FnMut f (λ b x. g b (view.of x))
+            → IsFoldedByKey (M.value m) K.eq h g init xs)) }
+    {
+        let (mut key, mut f) = (key, f);
+        let (first, rest) = self.next();
+        let k = key(&first);
+        let mut folded = M::with_entry(alloc, k, f(init, first))?;
+        for x in rest {
+            let k = key(&x);
+            match folded.value_mut(&k) {
+                Some(value) => *value = f(*value, x),
+                None => folded.put(k, f(init, x))?,
+            }
+        }
+        Ok(folded)
     }
 }
 
