@@ -47,7 +47,7 @@ of_some-push f init (y ∷ ys) x = ap Some (fold-append f init (y ∷ ys) (x ∷
 
 module _ {K B : Type 0} {eq : K → K → Bool} (laws : IsEquivalence eq) (init : B) where
   -- the values of the keys after one more item
-  folded-more : {A : Type 0} (h : A → K) (f : B → A → B) (xs : List A) (x : A)
+  pub folded-more : {A : Type 0} (h : A → K) (f : B → A → B) (xs : List A) (x : A)
       (old new : K → Option B)
       → PutsValue eq old (h x) (f (unwrap_or (old (h x)) init) x) new
       → IsFoldedByKey old eq h f init xs → IsFoldedByKey new eq h f init (xs ++ x ∷ [])
@@ -132,3 +132,43 @@ callable_later steps keys calls eq it key init f xs t {first = first} {s = s} {n
     {after = after} {x = x} callable begins same yields turn turns step =
     callable.at (first ∷ xs) now t x after (Yields-first steps it first xs now begins same yields)
     (s, turn, turns) step
+
+-- the closure for keys is called in each turn
+pub turns_calls : {A K B F G : Type 0} (keys : Mut F (Bor A × Unit {0}) K)
+    (adds : G → B → A → B → G → Type 0) (eq : K → K → Bool) (init : B)
+    (p : F × (G × (K → Option B))) (xs : List A) (q : F × (G × (K → Option B)))
+    → FoldsTo (KeyTurn keys adds eq init) p xs q
+    → FoldsTo (λ f x g. (k : K) × CalledAt keys f x k g) p.0 xs q.0
+turns_calls keys adds eq init p [] q same = ap (λ s. s.0) same
+turns_calls keys adds eq init p (x ∷ xs) q (s, (k, v, called, added, puts), turns) =
+    (s.0, (k, called), turns_calls keys adds eq init s xs q turns)
+
+-- groups are folds that append
+fold-and_last : {A : Type 0} (before ys : List A) → fold and_last before ys ≡ before ++ ys
+fold-and_last before [] = sym (append-nil before)
+fold-and_last before (y ∷ ys) =
+    fold-and_last (before ++ y ∷ []) ys ∙ append_assoc before (y ∷ []) ys
+
+of_some-list : {A : Type 0} (ys : List A)
+    → of_some (fold and_last []) ys ≡ of_some (λ zs. zs) ys
+of_some-list [] = refl
+of_some-list (y ∷ ys) = ap Some (fold-and_last [] (y ∷ ys))
+
+of_some-map : {A C : Type 0} (v : A → C) (ys : List A)
+    → option_map (map v) (of_some (λ zs. zs) ys) ≡ of_some (λ zs. zs) (map v ys)
+of_some-map v [] = refl
+of_some-map v (y ∷ ys) = refl
+
+-- the groups by key of the items of a list, through each view
+pub grouped_view : {A K F : Type 0} {eq : K → K → Bool} (laws : IsEquivalence eq)
+    (keys : Mut F (Bor A × Unit {0}) K) (key : F) (ys : List A) (value : K → Option (List A))
+    (key' : F) → FoldsTo (KeyTurn keys AddsLast eq []) (key, (tt, λ _. None)) ys
+    (key', (tt, value)) → (view : View A) (h : view.Target → K)
+    → ActsAsAt keys key (λ x. h (view.of x)) → IsGroupedByKey value eq view h (map view.of ys)
+grouped_view {eq = eq} laws keys key ys value key' turns view h acts q =
+    let folded = turns_fold laws [] keys AddsLast key tt (λ x. h (view.of x)) and_last acts
+    (λ b x v j added. (refl, added)) [] ys (λ _. None) value key' tt (λ q. refl) turns in
+    let test : view.Target → Bool = λ x. eq q (h x) in
+    let mine = filter (λ x. test (view.of x)) ys in
+    ap (option_map (map view.of)) (folded q ∙ of_some-list mine) ∙ of_some-map view.of mine
+    ∙ ap (of_some (λ zs. zs)) (filter-viewed test view.of ys)

@@ -9,3 +9,4 @@ pub mod Restarted
 pub mod SideRuns
 pub mod Uniques
 pub mod ByKey
+pub mod Counted

@@ -1,11 +1,14 @@
 //! Products of two non-empty iterators, and whether the items of one are distinct.
-ghost use Rattle.std.specs.Prelude.{◌≡◌, IfOk, MatchOption, None};
+ghost use Rattle.std.specs.Prelude.{◌≡◌, IfOk, List, MatchOption, None, [], true};
 ghost use Rattle.std.specs.HashSet.{contains};
-ghost use Rattle.std.specs.Iterator.{ActsAsAt, ActsAsOnTwo, MakesProgress};
+ghost use Rattle.std.specs.Iterator.{ActsAsAt, ActsAsOnTwo, CallableOnAllAt, IsFinite};
+ghost use Rattle.std.specs.Iterator.{MakesProgress};
+ghost use Rattle.std.specs.Iterator.Runs.{CountFits};
 ghost use Rattle.ne_vec.specs.Lists.{EachList, EachView, itself};
 ghost use Rattle.ne_iter.specs.Sources.{Becomes};
 ghost use Rattle.ne_iter.specs.SourceLists.{BecomesList};
-ghost use Rattle.ne_products.specs.ByKey.{AddsByCall, CallableByKey, FoldsByKey, IsFoldedByKey};
+ghost use Rattle.ne_products.specs.ByKey.{AddsByCall, AddsLast, CallableByKey, FoldsByKey};
+ghost use Rattle.ne_products.specs.ByKey.{IsCounted, IsFoldedByKey, IsGroupedByKey};
 ghost use Rattle.ne_products.specs.Pairs.{CanRefuse};
 ghost use Rattle.ne_products.specs.Product.{product_first, product_second, restart_of, PairsItems};
 ghost use Rattle.ne_products.specs.Product.{PairsNext, TriesRestart, IsRowItem, is_exhausted};
@@ -16,6 +19,7 @@ ghost use Rattle.ne_products.specs.Unique.{ChecksDistinct, ChecksUnique};
 
 use ne_iter::iter::{ItemSource, KeyedMap};
 use ne_iter::{IntoNonEmptyIterator, NonEmptyIterator};
+use ne_vec::NEVec;
 use std::alloc::{AllocError, Global};
 use std::collections::HashSet;
 use std::hash::Hash;
@@ -147,13 +151,7 @@ pub trait NonEmptyItertools: NonEmptyIterator {
         B: Copy + Drop,
         F: FnMut(&Self::Item) -> K,
         G: FnMut(B, Self::Item) -> B,
-    >(
-        self,
-        alloc: Global,
-        key: F,
-        init: B,
-        f: G,
-    ) -> Result<M, AllocError>
+    >(self, alloc: Global, key: F, init: B, f: G) -> Result<M, AllocError>
     where
         Self: Sized,
         Self::Item: Drop,
@@ -181,6 +179,89 @@ pub trait NonEmptyItertools: NonEmptyIterator {
             }
         }
         Ok(folded)
+    }
+
+    /// Returns, for each key, the items with that key, in their order. `M` is a map of any of the
+    /// three types; of two equal keys it keeps the first.
+    ///
+    /// `key` is called once for each item, in order.
+    ///
+    /// Returns `AllocError` if an allocation for the map or a vector fails; the items taken are then
+    /// dropped. The Rust crate lacks this method; that of `itertools` returns a `HashMap` of `Vec`s.
+    ///
+    /// ```
+    /// let words = nev![alloc; "tree", "leaf", "bud"]?;
+    /// let groups: NEBTreeMap<usize, NEVec<&str>> =
+    ///     words.into_nonempty_iter().into_group_map_by(alloc, |word| word.len())?;
+    /// // {3: ["bud"], 4: ["tree", "leaf"]}
+    /// ```
+    final fn into_group_map_by<
+        M: KeyedMap<K, NEVec<Self::Item>> + Drop,
+        K: Eq + Drop,
+        F: FnMut(&Self::Item) -> K,
+    >(self, alloc: Global, key: F) -> Result<M, AllocError>
+    where
+        Self: Sized,
+        Self::Item: Drop,
+        requires ends { ⟦<Self as ItemSource>⟧.ends self }
+        requires callable { (it : Self.IntoIter) → Self.into_iter_gives self it
+            → CallableOnAllAt Self.IntoIter.next_gives F.FnMut it key }
+        ensures gives { IfOk result (λ m. Becomes Self.into_iter_gives self (λ it.
+            FoldsByKey F.FnMut AddsLast K.eq [] Self.IntoIter.next_gives it key tt (M.value m))) }
+        ensures lists { IfOk result (λ m.
+            EachView Self.item_view (⟦<Self as ItemSource>⟧.lists) self (λ view xs.
+            (h : view.Target → K) → ActsAsAt F.FnMut key (λ x. h (view.of x))
+            → IsGroupedByKey (M.value m) K.eq view h xs)) }
+    {
+        let mut key = key;
+        let (first, rest) = self.next();
+        let k = key(&first);
+        let mut groups = M::with_entry(alloc, k, NEVec::new(alloc, first)?)?;
+        for x in rest {
+            let k = key(&x);
+            match groups.value_mut(&k) {
+                Some(group) => group.push(x)?,
+                None => groups.put(k, NEVec::new(alloc, x)?)?,
+            }
+        }
+        Ok(groups)
+    }
+
+    /// Returns the number of items equal to each item, at least 1. The number of all items must fit
+    /// in a `usize`. `M` is a map of any of the three types; of equal items it keeps the first.
+    ///
+    /// Returns `AllocError` if an allocation for the map fails; the items taken are then dropped.
+    /// The Rust crate lacks this method; that of `itertools` returns a `HashMap`.
+    ///
+    /// ```
+    /// let letters = nev![alloc; 'b', 'a', 'b']?.into_nonempty_iter();
+    /// let counts: NEBTreeMap<char, usize> = letters.counts(alloc)?; // {'a': 1, 'b': 2}
+    /// ```
+    final fn counts<M: KeyedMap<Self::Item, usize> + Drop>(
+        self,
+        alloc: Global,
+    ) -> Result<M, AllocError>
+    where
+        Self: Sized,
+        Self::Item: Eq + Drop,
+        requires { (it : Self.IntoIter) → Self.into_iter_gives self it → Self.IntoIter.can_next it
+            × IsFinite (Self.IntoIter.remaining it)
+            × CountFits Self.IntoIter.next_gives Self.IntoIter.remaining 0 it }
+        ensures gives { IfOk result (λ m. (xs : List Self.Item)
+            × ⟦<Self as ItemSource>⟧.reads true self xs × IsCounted (M.value m) Self.Item.eq xs) }
+        ensures lists { IfOk result (λ m. EachList (⟦<Self as ItemSource>⟧.lists itself) self
+            (λ xs. IsCounted (M.value m) Self.Item.eq xs)) }
+    {
+        let (first, rest) = self.next();
+        let mut counts = M::with_entry(alloc, first, 1)?;
+        for x in rest {
+            match counts.value_mut(&x) {
+                // All items fit, so no count wraps.
+                Some(count) => *count = count.wrapping_add(1),
+                None => counts.put(x, 1)?,
+            }
+        }
+        Ok(counts)
     }
 }
 

@@ -30,9 +30,13 @@ key-k-requires-in-loop-x g c =
     (callable_later g.Self.IntoIter.Iterator.next_gives g.F.FnMut g.G.FnMut g.K.PartialEq.eq from.0
     c.args.key c.args.init c.args.f c.loop-x.yielded
     (c.loop-x.key, (c.loop-x.f, g.M.KeyedMap.value c.loop-x.folded)) (c.requires.callable from.0 from.1) from.2
-    c.into_iter-x-iterator.ensures.into_iter_gives c.loop-x.yielded_by
-    (c.key-k.result, c.f.result, called_at g.F.FnMut c.key-k.ensures refl, c.f.ensures,
-    c.in_ok-folded.ensures) c.loop-x.invariant c.in-Some.ensures.steps).0 _ refl
+    c.into_iter-x-iterator.ensures.into_iter_gives c.loop-x.yielded_by (
+      c.key-k.result,
+      c.f.result,
+      called_at g.F.FnMut c.key-k.ensures refl,
+      c.f.ensures,
+      c.in_ok-folded.ensures,
+    ) c.loop-x.invariant c.in-Some.ensures.steps).0 _ refl
 
 -- What the closures are called with at an item of the loop.
 pub f-requires-in-Some-value_mut : goal.f-requires-in-Some-value_mut
@@ -40,15 +44,20 @@ f-requires-in-Some-value_mut g c =
     let from = c.next-first.ensures.first in
     let value = g.M.KeyedMap.value c.loop-x.folded in
     let found : unwrap_or (value c.key-k-in-loop-x.result) c.args.init
-        ≡ c.in-Some-value_mut.value.now
+    ≡ c.in-Some-value_mut.value.now
     = ap (λ o. unwrap_or o c.args.init) (sym c.value_mut.ensures.value
     ∙ ap option_copied_mut c.in-Some-value_mut.is) in
     subst (λ b. g.G.FnMut.pre c.loop-x.f (b, (c.in-Some.x, tt))) found
     ((callable_later g.Self.IntoIter.Iterator.next_gives g.F.FnMut g.G.FnMut g.K.PartialEq.eq from.0
     c.args.key c.args.init c.args.f c.loop-x.yielded (c.loop-x.key, (c.loop-x.f, value))
     (c.requires.callable from.0 from.1) from.2 c.into_iter-x-iterator.ensures.into_iter_gives
-    c.loop-x.yielded_by (c.key-k.result, c.f.result, called_at g.F.FnMut c.key-k.ensures refl,
-    c.f.ensures, c.in_ok-folded.ensures) c.loop-x.invariant c.in-Some.ensures.steps).1
+    c.loop-x.yielded_by (
+      c.key-k.result,
+      c.f.result,
+      called_at g.F.FnMut c.key-k.ensures refl,
+      c.f.ensures,
+      c.in_ok-folded.ensures,
+    ) c.loop-x.invariant c.in-Some.ensures.steps).1
     c.key-k-in-loop-x.result c.key-k-in-loop-x.new.self
     (called_at g.F.FnMut c.key-k-in-loop-x.ensures refl))
 
@@ -63,8 +72,13 @@ f-requires-in-None-value_mut g c =
     ((callable_later g.Self.IntoIter.Iterator.next_gives g.F.FnMut g.G.FnMut g.K.PartialEq.eq from.0
     c.args.key c.args.init c.args.f c.loop-x.yielded (c.loop-x.key, (c.loop-x.f, value))
     (c.requires.callable from.0 from.1) from.2 c.into_iter-x-iterator.ensures.into_iter_gives
-    c.loop-x.yielded_by (c.key-k.result, c.f.result, called_at g.F.FnMut c.key-k.ensures refl,
-    c.f.ensures, c.in_ok-folded.ensures) c.loop-x.invariant c.in-Some.ensures.steps).1
+    c.loop-x.yielded_by (
+      c.key-k.result,
+      c.f.result,
+      called_at g.F.FnMut c.key-k.ensures refl,
+      c.f.ensures,
+      c.in_ok-folded.ensures,
+    ) c.loop-x.invariant c.in-Some.ensures.steps).1
     c.key-k-in-loop-x.result c.key-k-in-loop-x.new.self
     (called_at g.F.FnMut c.key-k-in-loop-x.ensures refl))
 
@@ -78,9 +92,13 @@ loop-x-preserved-in-Some-value_mut g c =
     c.f-in-Some-value_mut.result c.f-in-Some-value_mut.new.self)
     (sym (ap (λ o. unwrap_or o c.args.init) here)) c.f-in-Some-value_mut.ensures in
     FoldsTo-push (KeyTurn g.F.FnMut (AddsByCall g.G.FnMut) g.K.PartialEq.eq c.args.init) _
-    c.loop-x.yielded _ c.in-Some.x _ c.loop-x.invariant
-    (k, c.f-in-Some-value_mut.result, called_at g.F.FnMut c.key-k-in-loop-x.ensures refl, added,
-    c.value_mut.follows.holds c.f-in-Some-value_mut.result (search (rules, here)))
+    c.loop-x.yielded _ c.in-Some.x _ c.loop-x.invariant (
+      k,
+      c.f-in-Some-value_mut.result,
+      called_at g.F.FnMut c.key-k-in-loop-x.ensures refl,
+      added,
+      c.value_mut.follows.holds c.f-in-Some-value_mut.result (search (rules, here)),
+    )
 
 pub loop-x-preserved : goal.loop-x-preserved
 loop-x-preserved g c =
@@ -95,9 +113,13 @@ loop-x-preserved g c =
     c.f-in-None-value_mut.result (g.M.KeyedMap.value c.put.new.self))
     c.value_mut.follows.holds-at-none c.in_ok-put-in-None-value_mut.ensures in
     FoldsTo-push (KeyTurn g.F.FnMut (AddsByCall g.G.FnMut) g.K.PartialEq.eq c.args.init) _
-    c.loop-x.yielded _ c.in-Some.x _ c.loop-x.invariant
-    (k, c.f-in-None-value_mut.result, called_at g.F.FnMut c.key-k-in-loop-x.ensures refl, added,
-    put)
+    c.loop-x.yielded _ c.in-Some.x _ c.loop-x.invariant (
+      k,
+      c.f-in-None-value_mut.result,
+      called_at g.F.FnMut c.key-k-in-loop-x.ensures refl,
+      added,
+      put,
+    )
 
 pub returns-clause-gives : goal.returns-clause-gives
 returns-clause-gives g c =
