@@ -14,7 +14,7 @@ use Rattle.ne_vec.specs.Lists.{View}
 use Rattle.ne_iter.specs.KeyedMap.{PutsValue}
 use Rattle.ne_iter.specs.LoopLaws.{Yields-first}
 use Rattle.ne_products.specs.ByKey.{AddsByCall, AddsLast, CallableByKey, IsFoldedByKey}
-use Rattle.ne_products.specs.ByKey.{IsGroupedByKey, KeyTurn, and_last, of_some}
+use Rattle.ne_products.specs.ByKey.{IsGroupedByKey, KeyTurn, and_last, fold_some, of_some}
 use mathlib.Core.Path.{fun_ext}
 
 -- items seen through v
@@ -34,16 +34,16 @@ filter-viewed {A} {C} t v (y ∷ ys) = by (t (v y)) (filter-viewed t v ys)
     by true h = ap (λ l. v y ∷ l) h
     by false h = h
 
-of_some-viewed : {A B C : Type 0} (f : B → C → B) (v : A → C) (init : B) (ys : List A)
-    → of_some (fold (λ b x. f b (v x)) init) ys ≡ of_some (fold f init) (map v ys)
-of_some-viewed f v init [] = refl
-of_some-viewed f v init (y ∷ ys) = ap Some (fold-viewed f v init (y ∷ ys))
+fold_some-viewed : {A B C : Type 0} (f : B → C → B) (v : A → C) (init : B) (ys : List A)
+    → fold_some (λ b x. f b (v x)) init ys ≡ fold_some f init (map v ys)
+fold_some-viewed f v init [] = refl
+fold_some-viewed f v init (y ∷ ys) = ap Some (fold-viewed f v init (y ∷ ys))
 
 -- one more item at the end
-of_some-push : {A B : Type 0} (f : B → A → B) (init : B) (ys : List A) (x : A)
-    → of_some (fold f init) (ys ++ x ∷ []) ≡ Some (f (unwrap_or (of_some (fold f init) ys) init) x)
-of_some-push f init [] x = refl
-of_some-push f init (y ∷ ys) x = ap Some (fold-append f init (y ∷ ys) (x ∷ []))
+fold_some-push : {A B : Type 0} (f : B → A → B) (init : B) (ys : List A) (x : A)
+    → fold_some f init (ys ++ x ∷ []) ≡ Some (f (unwrap_or (fold_some f init ys) init) x)
+fold_some-push f init [] x = refl
+fold_some-push f init (y ∷ ys) x = ap Some (fold-append f init (y ∷ ys) (x ∷ []))
 
 module _ {K B : Type 0} {eq : K → K → Bool} (laws : IsEquivalence eq) (init : B) where
   -- the values of the keys after one more item
@@ -54,28 +54,28 @@ module _ {K B : Type 0} {eq : K → K → Bool} (laws : IsEquivalence eq) (init 
   folded-more {A} h f xs x old new puts folded q =
       puts q ∙ ap (λ b. cond b (Some (f (unwrap_or (old (h x)) init) x)) (old q))
       (laws.symm (h x) q) ∙ by (eq q (h x)) refl
-      ∙ ap (of_some (fold f init)) (sym (filter-append test xs (x ∷ [])))
+      ∙ ap (fold_some f init) (sym (filter-append test xs (x ∷ [])))
     where
       test : A → Bool
       test y = eq q (h y)
 
       by : (b : Bool) → eq q (h x) ≡ b
           → cond b (Some (f (unwrap_or (old (h x)) init) x)) (old q)
-          ≡ of_some (fold f init) (filter test xs ++ cond b (x ∷ []) [])
-      by false apart = folded q ∙ ap (of_some (fold f init)) (sym (append-nil (filter test xs)))
+          ≡ fold_some f init (filter test xs ++ cond b (x ∷ []) [])
+      by false apart = folded q ∙ ap (fold_some f init) (sym (append-nil (filter test xs)))
       by true same =
           let tests : (λ y. eq (h x) (h y)) ≡ test
           = fun_ext (λ y. sym (laws.congr q (h x) (h y) same)) in
           ap (λ o. Some (f (unwrap_or o init) x)) (folded (h x)
-          ∙ ap (λ (t : A → Bool). of_some (fold f init) (filter t xs)) tests)
-          ∙ sym (of_some-push f init (filter test xs) x)
+          ∙ ap (λ (t : A → Bool). fold_some f init (filter t xs)) tests)
+          ∙ sym (fold_some-push f init (filter test xs) x)
 
   folded-viewed : {A C : Type 0} (h : C → K) (f : B → C → B) (v : A → C) (ys : List A)
       (value : K → Option B) → IsFoldedByKey value eq (λ x. h (v x)) (λ b x. f b (v x)) init ys
       → IsFoldedByKey value eq h f init (map v ys)
   folded-viewed h f v ys value folded q = folded q
-      ∙ of_some-viewed f v init (filter (λ x. eq q (h (v x))) ys)
-      ∙ ap (of_some (fold f init)) (filter-viewed (λ x. eq q (h x)) v ys)
+      ∙ fold_some-viewed f v init (filter (λ x. eq q (h (v x))) ys)
+      ∙ ap (fold_some f init) (filter-viewed (λ x. eq q (h x)) v ys)
 
   -- the values after the turns over xs, if the closure for keys is a function and so is what adds
   module _ {A F G : Type 0} (keys : Mut F (Bor A × Unit {0}) K) (adds : G → B → A → B → G → Type 0)
@@ -150,7 +150,7 @@ fold-and_last before (y ∷ ys) =
     fold-and_last (before ++ y ∷ []) ys ∙ append_assoc before (y ∷ []) ys
 
 of_some-list : {A : Type 0} (ys : List A)
-    → of_some (fold and_last []) ys ≡ of_some (λ zs. zs) ys
+    → fold_some and_last [] ys ≡ of_some (λ zs. zs) ys
 of_some-list [] = refl
 of_some-list (y ∷ ys) = ap Some (fold-and_last [] (y ∷ ys))
 

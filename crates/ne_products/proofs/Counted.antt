@@ -12,7 +12,7 @@ use Rattle.ne_products.proofs.ByKey.{folded-more}
 use Rattle.std.specs.Iterator.{Count, IsFinite, MakesProgress}
 use Rattle.std.specs.Iterator.Runs.{CountFits}
 use Rattle.std.specs.List.{filter, fold}
-use Rattle.ne_products.specs.ByKey.{IsCounted, IsFoldedByKey, of_some}
+use Rattle.ne_products.specs.ByKey.{IsCounted, IsFoldedByKey, fold_some, of_some}
 
 -- one more, as a `usize` counts
 abbrev pub one_more : {A : Type 0} → ℕ → A → ℕ
@@ -58,7 +58,7 @@ shorter {A} t (y ∷ ys) = by (t y) (shorter t ys)
     by false h = omega (arith, h)
 
 some_length : {A : Type 0} (ys : List A) → length ys < 2 ^ 64
-    → of_some (fold one_more 0) ys ≡ of_some length ys
+    → fold_some one_more 0 ys ≡ of_some length ys
 some_length [] h = refl
 some_length (y ∷ ys) h = ap Some (folds_length 0 (y ∷ ys) (omega (arith, h)) ∙ omega arith)
 

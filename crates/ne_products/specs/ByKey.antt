@@ -14,11 +14,16 @@ abbrev pub of_some : {A B : Type 0} → (List A → B) → List A → Option B
 of_some make [] = None
 of_some make (x ∷ xs) = Some (make (x ∷ xs))
 
+-- The fold of the items, if there is one.
+abbrev pub fold_some : {A B : Type 0} → (B → A → B) → B → List A → Option B
+fold_some f init [] = None
+fold_some f init (x ∷ xs) = Some (fold f init (x ∷ xs))
+
 -- The value of each key is the fold of the items with that key, in their order.
 abbrev pub IsFoldedByKey : {A B K : Type 0} → (K → Option B) → (K → K → Bool) → (A → K)
     → (B → A → B) → B → List A → Type 0
 IsFoldedByKey {K = K} value eq key f init xs = (q : K)
-    → value q ≡ of_some (fold f init) (filter (λ x. eq q (key x)) xs)
+    → value q ≡ fold_some f init (filter (λ x. eq q (key x)) xs)
 
 -- The value of each key, its items seen through `view`, is the items with that key, in their order.
 abbrev pub IsGroupedByKey : {A K : Type 0} → (K → Option (List A)) → (K → K → Bool)
@@ -46,8 +51,9 @@ module _ {A K B F G : Type 0} (keys : Mut F (Bor A × Unit {0}) K) (adds : G →
   KeyTurn p x q = (k : K) × (v : B) × CalledAt keys p.0 x k q.0
       × adds p.1.0 (unwrap_or (p.1.1 k) init) x v q.1.0 × PutsValue eq p.1.1 k v q.1.1
 
-  -- The turns over all items of the iterator, from no value at all, made `value`.
-  abbrev pub FoldsByKey : {S : Type 0} → (S → Option A → S → Type 0) → S → F → G → (K → Option B)
+  -- The turns over all items of the iterator, from no value at all, made `value`. `grind` does not
+  -- unfold it.
+  unfoldable pub FoldsByKey : {S : Type 0} → (S → Option A → S → Type 0) → S → F → G → (K → Option B)
       → Type 0
   FoldsByKey steps it key g value = (xs : List A) × (key' : F) × (g' : G) × Drains steps it xs
       × FoldsTo {P = State} KeyTurn (key, (g, λ _. None)) xs (key', (g', value))

@@ -1,6 +1,6 @@
 //! The traits of an [`NEMap`]: conversions, clones, equality as a map, collecting, printing.
 ghost use Rattle.std.specs.Prelude.{◌≡◌, ◌↔◌, ◌++◌, IsTrue, MatchResult};
-ghost use Rattle.std.specs.HashMap.{get, hash_map_eq, IsClone, IsEmpty};
+ghost use Rattle.std.specs.HashMap.{get, get_by_text, hash_map_eq, IsClone, IsEmpty};
 ghost use Rattle.ne_iter.specs.Collected.{IsMapOfPairs};
 ghost use Rattle.ne_iter.specs.Keyed.Clones.{KeepsEntries};
 ghost use Rattle.ne_iter.specs.Keyed.SameMap.{IsSameMap};
@@ -145,18 +145,49 @@ impl<K: Eq + Hash + Drop, V: Drop, S: BuildHasher> Extend<(K, V)> for NEMap<K, V
 
 /// The value of a key is what [`get`](Self::get) returns.
 impl<K: Eq + Hash + Drop, V: Drop> KeyedMap<K, V> for NEMap<K, V> {
+    ghost key_view = { itself };
+
+    ghost same = { K.eq };
+
     ghost value = { get K.eq };
+
+    ghost equivalence = { K.Eq.laws };
 
     fn with_entry(alloc: Global, k: K, v: V) -> Result<Self, AllocError> {
         NEMap::new(alloc, k, v)
     }
 
-    fn put(&mut self, k: K, v: V) -> Result<(), AllocError> {
+    fn put(&mut self, _alloc: Global, k: K, v: V) -> Result<(), AllocError> {
         let _old = self.insert(k, v)?;
         Ok(())
     }
 
     fn value_mut(&mut self, k: &K) -> Option<&mut V> {
         self.get_mut(k)
+    }
+}
+
+/// A key is given by its text, and a `String` is made of it where the key is new.
+impl<V: Drop> KeyedMap<&str, V> for NEMap<String, V> {
+    ghost key_view = { referenced };
+
+    ghost same = { bytes_eq };
+
+    ghost value = { get_by_text };
+
+    ghost equivalence = { nat_list_eq_equiv };
+
+    fn with_entry(alloc: Global, k: &str, v: V) -> Result<Self, AllocError> {
+        let map = NEMap::new(alloc, String::from_str(alloc, k)?, v)?;
+        Ok(map)
+    }
+
+    fn put(&mut self, alloc: Global, k: &str, v: V) -> Result<(), AllocError> {
+        let _old = self.insert(String::from_str(alloc, k)?, v)?;
+        Ok(())
+    }
+
+    fn value_mut(&mut self, k: &&str) -> Option<&mut V> {
+        self.inner.get_mut(*k)
     }
 }

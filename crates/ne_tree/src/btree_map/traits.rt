@@ -1,8 +1,10 @@
 //! The traits of an [`NEBTreeMap`]: conversions, clones, equality as a map, collecting, printing.
 ghost use Rattle.std.specs.Prelude.{◌≡◌, ◌↔◌, ◌++◌, ◌&&◌, IsTrue, MatchResult};
-ghost use Rattle.std.specs.BTreeMap.{IsClone, IsEmpty, get};
+ghost use Rattle.std.specs.BTreeMap.{IsClone, IsEmpty, get, get_by_text};
 ghost use Rattle.std.specs.Cmp.{and_equiv, and_per, on_equiv, on_per};
-ghost use Rattle.std.specs.Cmp.Lexicographic.{lists_equiv, lists_per, pointwise};
+ghost use Rattle.std.specs.Cmp.Lexicographic.{lists_equiv, lists_per, nat_list_eq_equiv, pointwise};
+ghost use Rattle.std.specs.Str.{bytes_eq};
+ghost use Rattle.ne_vec.specs.Lists.{itself, referenced};
 ghost use Rattle.ne_iter.specs.Collected.{IsMapOfPairs};
 ghost use Rattle.ne_iter.specs.Keyed.Clones.{KeepsEntries};
 ghost use Rattle.ne_iter.specs.Keyed.SameMap.{IsSameMap};
@@ -137,18 +139,49 @@ impl<K: Ord + Drop, V: Drop> Extend<(K, V)> for NEBTreeMap<K, V> {
 
 /// The value of a key is what [`get`](Self::get) returns.
 impl<K: Ord + Drop, V: Drop> KeyedMap<K, V> for NEBTreeMap<K, V> {
+    ghost key_view = { itself };
+
+    ghost same = { K.eq };
+
     ghost value = { get K.cmp };
+
+    ghost equivalence = { K.Eq.laws };
 
     fn with_entry(alloc: Global, k: K, v: V) -> Result<Self, AllocError> {
         NEBTreeMap::new(alloc, k, v)
     }
 
-    fn put(&mut self, k: K, v: V) -> Result<(), AllocError> {
+    fn put(&mut self, _alloc: Global, k: K, v: V) -> Result<(), AllocError> {
         let _old = self.insert(k, v)?;
         Ok(())
     }
 
     fn value_mut(&mut self, k: &K) -> Option<&mut V> {
         self.get_mut(k)
+    }
+}
+
+/// A key is given by its text, and a `String` is made of it where the key is new.
+impl<V: Drop> KeyedMap<&str, V> for NEBTreeMap<String, V> {
+    ghost key_view = { referenced };
+
+    ghost same = { bytes_eq };
+
+    ghost value = { get_by_text };
+
+    ghost equivalence = { nat_list_eq_equiv };
+
+    fn with_entry(alloc: Global, k: &str, v: V) -> Result<Self, AllocError> {
+        let map = NEBTreeMap::new(alloc, String::from_str(alloc, k)?, v)?;
+        Ok(map)
+    }
+
+    fn put(&mut self, alloc: Global, k: &str, v: V) -> Result<(), AllocError> {
+        let _old = self.insert(String::from_str(alloc, k)?, v)?;
+        Ok(())
+    }
+
+    fn value_mut(&mut self, k: &&str) -> Option<&mut V> {
+        self.inner.get_mut(*k)
     }
 }

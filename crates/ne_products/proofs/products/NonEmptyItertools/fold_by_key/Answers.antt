@@ -5,6 +5,7 @@ use Rattle.std.specs.Option.{option_copied_mut, unwrap_or}
 use Rattle.std.specs.Iterator.{ActsAsAt, ActsAsOnTwo}
 use Rattle.ne_iter.specs.KeyedMap.{PutsValue}
 use Rattle.ne_iter.specs.LoopLaws.{Reads-loop, Yields-first, each_view_read}
+use Rattle.ne_products.specs.ByKey.{FoldsByKey}
 use Rattle.ne_products.specs.ByKey.{AddsByCall, IsFoldedByKey, KeyTurn}
 use Rattle.ne_products.proofs.ByKey.{callable_later, folded_view}
 
@@ -122,6 +123,7 @@ loop-x-preserved g c =
     )
 
 pub returns-clause-gives : goal.returns-clause-gives
+unfolding FoldsByKey
 returns-clause-gives g c =
     let from = c.next-first.ensures.first in
     let drained = Yields-first g.Self.IntoIter.Iterator.next_gives from.0 c.next-first.result.0
@@ -149,7 +151,7 @@ returns-clause-gives g c =
     )
 
 pub returns-clause-lists : goal.returns-clause-lists
-unfolding returns-clause-gives
+unfolding FoldsByKey returns-clause-gives
 returns-clause-lists g c =
     let from = c.next-first.ensures.first in
     let given = returns-clause-gives g c in

@@ -5,6 +5,7 @@ use Rattle.std.specs.Option.{option_copied_mut, unwrap_or}
 use Rattle.std.specs.Iterator.{ActsAsAt}
 use Rattle.ne_iter.specs.KeyedMap.{PutsValue}
 use Rattle.ne_iter.specs.LoopLaws.{Reads-loop, Yields-first, each_view_read}
+use Rattle.ne_products.specs.ByKey.{FoldsByKey}
 use Rattle.ne_products.specs.ByKey.{AddsLast, IsGroupedByKey, KeyTurn, and_last}
 use Rattle.ne_products.proofs.ByKey.{grouped_view, turns_calls}
 
@@ -69,6 +70,7 @@ loop-x-preserved g c =
     )
 
 pub returns-clause-gives : goal.returns-clause-gives
+unfolding FoldsByKey
 returns-clause-gives g c =
     let from = c.next-first.ensures.first in
     let drained = Yields-first g.Self.IntoIter.Iterator.next_gives from.0 c.next-first.result.0
@@ -96,7 +98,7 @@ returns-clause-gives g c =
     )
 
 pub returns-clause-lists : goal.returns-clause-lists
-unfolding returns-clause-gives
+unfolding FoldsByKey returns-clause-gives
 returns-clause-lists g c =
     let from = c.next-first.ensures.first in
     let given = returns-clause-gives g c in
