@@ -3,12 +3,12 @@ use Rattle.std.proofs.Common.{ap, append_assoc, arith, false, inl, inr, refl, su
 use Rattle.std.proofs.Common.{◌∙◌}
 use Rattle.std.proofs.iter.runs.Made.{fits_after, run, seen}
 use Rattle.std.specs.Prelude.{◌≡◌, ◌≤◌, ◌<◌, ◌+◌, ◌%◌, ◌^◌, ℕ, Bool, true, cond, List, [], ◌∷◌, length}
-use Rattle.std.specs.Prelude.{Option, Some, ◌++◌}
-use Rattle.std.proofs.lemmas.List.{length_push}
+use Rattle.std.specs.Prelude.{Option, Some, ◌++◌, map}
+use Rattle.std.proofs.lemmas.List.{length-map, length_push}
 use Rattle.std.specs.Cmp.{IsEquivalence}
 use Rattle.std.specs.Option.{unwrap_or}
 use Rattle.ne_iter.specs.KeyedMap.{PutsValue}
-use Rattle.ne_products.proofs.ByKey.{folded-more}
+use Rattle.ne_products.proofs.ByKey.{folded-more, folded-viewed}
 use Rattle.std.specs.Iterator.{Count, IsFinite, MakesProgress}
 use Rattle.std.specs.Iterator.Runs.{CountFits}
 use Rattle.std.specs.List.{filter, fold}
@@ -63,33 +63,37 @@ some_length [] h = refl
 some_length (y ∷ ys) h = ap Some (folds_length 0 (y ∷ ys) (omega (arith, h)) ∙ omega arith)
 
 -- if all items fit, the folds are the counts
-pub counted : {K : Type 0} (eq : K → K → Bool) (value : K → Option ℕ) (xs : List K)
-    → length xs < 2 ^ 64 → IsFoldedByKey value eq (λ x. x) one_more 0 xs → IsCounted value eq xs
-counted eq value xs fits folded q =
-    folded q ∙ some_length (filter (eq q) xs) (omega (arith, fits, shorter (eq q) xs))
+pub counted : {A N : Type 0} {eq : N → N → Bool} (laws : IsEquivalence eq) (name : A → N)
+    (value : N → Option ℕ) (xs : List A) → length xs < 2 ^ 64
+    → IsFoldedByKey value eq name one_more 0 xs → IsCounted value eq (map name xs)
+counted {eq = eq} laws name value xs fits folded q =
+    let names = map name xs in
+    folded-viewed laws 0 (λ n. n) one_more name xs value folded q
+    ∙ some_length (filter (eq q) names)
+    (omega (arith, fits, shorter (eq q) names, length-map xs name))
 
-module _ {S K : Type 0} {eq : K → K → Bool} (laws : IsEquivalence eq)
-    (steps : S → Option K → S → Type 0) (can : S → Type 0) (left : S → Count)
-    (start : K → Option ℕ) where
+module _ {S A N : Type 0} {eq : N → N → Bool} (laws : IsEquivalence eq) (name : A → N)
+    (steps : S → Option A → S → Type 0) (can : S → Type 0) (left : S → Count)
+    (start : N → Option ℕ) where
   -- The number of items so far, xs, one before them, and those that are left fits. The values were
   -- `start`, and are now the counts with xs.
-  abbrev pub CountsSoFar : List K → S → (K → Option ℕ) → Type 0
+  abbrev pub CountsSoFar : List A → S → (N → Option ℕ) → Type 0
   CountsSoFar xs it value =
       (CountFits steps left (length xs + 1) it × can it × IsFinite (left it))
-      × ((before : List K) → IsFoldedByKey start eq (λ x. x) one_more 0 before
-      → IsFoldedByKey value eq (λ x. x) one_more 0 (before ++ xs))
+      × ((before : List A) → IsFoldedByKey start eq name one_more 0 before
+      → IsFoldedByKey value eq name one_more 0 (before ++ xs))
 
   -- one more item, x, which was counted n times
-  pub counts_more : (xs : List K) (it : S) (value : K → Option ℕ) (x : K) (after : S)
-      (new : K → Option ℕ) (o : Option ℕ) → CountsSoFar xs it value → steps it (Some x) after
-      → MakesProgress can left it (Some x) after → value x ≡ o
-      → PutsValue eq value x (one_more (unwrap_or o 0) x) new
+  pub counts_more : (xs : List A) (it : S) (value : N → Option ℕ) (x : A) (after : S)
+      (new : N → Option ℕ) (o : Option ℕ) → CountsSoFar xs it value → steps it (Some x) after
+      → MakesProgress can left it (Some x) after → value (name x) ≡ o
+      → PutsValue eq value (name x) (one_more (unwrap_or o 0) x) new
       → CountsSoFar (xs ++ x ∷ []) after new
   counts_more xs it value x after new o so_far step goes here puts = (
     fits_push steps can left (length xs + 1) (length (xs ++ x ∷ []) + 1) it x after
         (omega (arith, length_push xs x)) so_far.0 step goes,
-    λ before folded. subst (λ l. IsFoldedByKey new eq (λ x. x) one_more 0 l)
-        (append_assoc before xs (x ∷ [])) (folded-more laws 0 (λ x. x) one_more
-        (before ++ xs) x value new (subst (λ o. PutsValue eq value x (one_more (unwrap_or o 0) x) new)
+    λ before folded. subst (λ l. IsFoldedByKey new eq name one_more 0 l)
+        (append_assoc before xs (x ∷ [])) (folded-more laws 0 name one_more
+        (before ++ xs) x value new (subst (λ o. PutsValue eq value (name x) (one_more (unwrap_or o 0) x) new)
         (sym here) puts) (so_far.1 before folded)),
   )

@@ -39,22 +39,30 @@ IsCounted {K} value eq xs = (q : K) → value q ≡ of_some length (filter (eq q
 abbrev pub and_last : {A : Type 0} → List A → A → List A
 and_last xs x = xs ++ x ∷ []
 
+-- f, called at a `&` to an item, returns the key that h gives, seen through `view`, and is not
+-- changed.
+abbrev pub NamesKeys : {A K F : Type 0} → Mut F (Bor A × Unit {0}) K → (view : View K) → F
+    → (A → view.Target) → Type 0
+NamesKeys {A} {K} {F} keys view f h = (x : A) (k : K) (g : F) → CalledAt keys f x k g
+    → (g ≡ f) × (view.of k ≡ h x)
+
 module _ {A K B F G : Type 0} (keys : Mut F (Bor A × Unit {0}) K) (adds : G → B → A → B → G → Type 0)
-    (eq : K → K → Bool) (init : B) where
+    (view : View K) (eq : view.Target → view.Target → Bool) (init : B) where
   -- The closure for keys, what adds, and the value of each key so far.
   abbrev State : Type 0
-  State = F × (G × (K → Option B))
+  State = F × (G × (view.Target → Option B))
 
   -- One item: its key is asked for, and gets the value that is made of its value so far, or of
   -- `init`, and of the item.
   abbrev pub KeyTurn : State → A → State → Type 0
   KeyTurn p x q = (k : K) × (v : B) × CalledAt keys p.0 x k q.0
-      × adds p.1.0 (unwrap_or (p.1.1 k) init) x v q.1.0 × PutsValue eq p.1.1 k v q.1.1
+      × adds p.1.0 (unwrap_or (p.1.1 (view.of k)) init) x v q.1.0
+      × PutsValue eq p.1.1 (view.of k) v q.1.1
 
   -- The turns over all items of the iterator, from no value at all, made `value`. `grind` does not
   -- unfold it.
-  unfoldable pub FoldsByKey : {S : Type 0} → (S → Option A → S → Type 0) → S → F → G → (K → Option B)
-      → Type 0
+  unfoldable pub FoldsByKey : {S : Type 0} → (S → Option A → S → Type 0) → S → F → G
+      → (view.Target → Option B) → Type 0
   FoldsByKey steps it key g value = (xs : List A) × (key' : F) × (g' : G) × Drains steps it xs
       × FoldsTo {P = State} KeyTurn (key, (g, λ _. None)) xs (key', (g', value))
 
@@ -69,9 +77,10 @@ AddsLast g so_far x v h = v ≡ and_last so_far x
 -- Both closures may be called at each turn: the one for keys with the item, and the one for values
 -- with the value so far and the item.
 abbrev pub CallableByKey : {S A K B F G : Type 0} → (S → Option A → S → Type 0)
-    → Mut F (Bor A × Unit {0}) K → Mut G (B × (A × Unit {0})) B → (K → K → Bool) → S → F → B → G
-    → Type 0
-CallableByKey {K = K} {B = B} {F = F} {G = G} steps keys calls eq it key init f =
-    CallableAtEachTurn {P = F × (G × (K → Option B))} steps (KeyTurn keys (AddsByCall calls) eq init)
+    → Mut F (Bor A × Unit {0}) K → Mut G (B × (A × Unit {0})) B → (view : View K)
+    → (view.Target → view.Target → Bool) → S → F → B → G → Type 0
+CallableByKey {K = K} {B = B} {F = F} {G = G} steps keys calls view eq it key init f =
+    CallableAtEachTurn {P = F × (G × (view.Target → Option B))} steps
+    (KeyTurn keys (AddsByCall calls) view eq init)
     (λ p x. TakesAt keys p.0 x × ((k : K) (key' : F) → CalledAt keys p.0 x k key'
-    → Takes calls p.1.0 (unwrap_or (p.1.1 k) init, (x, tt)))) it (key, (f, λ _. None))
+    → Takes calls p.1.0 (unwrap_or (p.1.1 (view.of k)) init, (x, tt)))) it (key, (f, λ _. None))

@@ -1,14 +1,14 @@
 //! Products of two non-empty iterators, and whether the items of one are distinct.
-ghost use Rattle.std.specs.Prelude.{◌≡◌, IfOk, List, MatchOption, None, [], true};
+ghost use Rattle.std.specs.Prelude.{◌≡◌, IfOk, List, MatchOption, None, [], map, true};
 ghost use Rattle.std.specs.HashSet.{contains};
-ghost use Rattle.std.specs.Iterator.{ActsAsAt, ActsAsOnTwo, CallableOnAllAt, IsFinite};
+ghost use Rattle.std.specs.Iterator.{ActsAsOnTwo, CallableOnAllAt, IsFinite};
 ghost use Rattle.std.specs.Iterator.{MakesProgress};
 ghost use Rattle.std.specs.Iterator.Runs.{CountFits};
 ghost use Rattle.ne_vec.specs.Lists.{EachList, EachView, itself};
 ghost use Rattle.ne_iter.specs.Sources.{Becomes};
 ghost use Rattle.ne_iter.specs.SourceLists.{BecomesList};
 ghost use Rattle.ne_products.specs.ByKey.{AddsByCall, AddsLast, CallableByKey, FoldsByKey};
-ghost use Rattle.ne_products.specs.ByKey.{IsCounted, IsFoldedByKey, IsGroupedByKey};
+ghost use Rattle.ne_products.specs.ByKey.{IsCounted, IsFoldedByKey, IsGroupedByKey, NamesKeys};
 ghost use Rattle.ne_products.specs.Pairs.{CanRefuse};
 ghost use Rattle.ne_products.specs.Product.{product_first, product_second, restart_of, PairsItems};
 ghost use Rattle.ne_products.specs.Product.{PairsNext, TriesRestart, IsRowItem, is_exhausted};
@@ -147,7 +147,7 @@ pub trait NonEmptyItertools: NonEmptyIterator {
     /// ```
     final fn fold_by_key<
         M: KeyedMap<K, B> + Drop,
-        K: Eq + Drop,
+        K: Drop,
         B: Copy + Drop,
         F: FnMut(&Self::Item) -> K,
         G: FnMut(B, Self::Item) -> B,
@@ -157,15 +157,17 @@ pub trait NonEmptyItertools: NonEmptyIterator {
         Self::Item: Drop,
         requires ends { ⟦<Self as ItemSource>⟧.ends self }
         requires callable { (it : Self.IntoIter) → Self.into_iter_gives self it
-            → CallableByKey Self.IntoIter.next_gives F.FnMut G.FnMut K.eq it key init f }
+            → CallableByKey Self.IntoIter.next_gives F.FnMut G.FnMut M.key_view M.same it key
+            init f }
         ensures gives { IfOk result (λ m. Becomes Self.into_iter_gives self (λ it.
-            FoldsByKey F.FnMut (AddsByCall G.FnMut) K.eq init Self.IntoIter.next_gives it key f
-            (M.value m))) }
+            FoldsByKey F.FnMut (AddsByCall G.FnMut) M.key_view M.same init
+            Self.IntoIter.next_gives it key f (M.value m))) }
         ensures lists { IfOk result (λ m.
             EachView Self.item_view (⟦<Self as ItemSource>⟧.lists) self (λ view xs.
-            (h : view.Target → K) → ActsAsAt F.FnMut key (λ x. h (view.of x))
+            (h : view.Target → M.key_view.Target)
+            → NamesKeys F.FnMut M.key_view key (λ x. h (view.of x))
             → (g : B → view.Target → B) → ActsAsOnTwo G.FnMut f (λ b x. g b (view.of x))
-            → IsFoldedByKey (M.value m) K.eq h g init xs)) }
+            → IsFoldedByKey (M.value m) M.same h g init xs)) }
     {
         let (mut key, mut f) = (key, f);
         let (first, rest) = self.next();
@@ -175,7 +177,7 @@ pub trait NonEmptyItertools: NonEmptyIterator {
             let k = key(&x);
             match folded.value_mut(&k) {
                 Some(value) => *value = f(*value, x),
-                None => folded.put(k, f(init, x))?,
+                None => folded.put(alloc, k, f(init, x))?,
             }
         }
         Ok(folded)
@@ -197,7 +199,7 @@ pub trait NonEmptyItertools: NonEmptyIterator {
     /// ```
     final fn into_group_map_by<
         M: KeyedMap<K, NEVec<Self::Item>> + Drop,
-        K: Eq + Drop,
+        K: Drop,
         F: FnMut(&Self::Item) -> K,
     >(self, alloc: Global, key: F) -> Result<M, AllocError>
     where
@@ -207,11 +209,13 @@ pub trait NonEmptyItertools: NonEmptyIterator {
         requires callable { (it : Self.IntoIter) → Self.into_iter_gives self it
             → CallableOnAllAt Self.IntoIter.next_gives F.FnMut it key }
         ensures gives { IfOk result (λ m. Becomes Self.into_iter_gives self (λ it.
-            FoldsByKey F.FnMut AddsLast K.eq [] Self.IntoIter.next_gives it key tt (M.value m))) }
+            FoldsByKey F.FnMut AddsLast M.key_view M.same [] Self.IntoIter.next_gives it key tt
+            (M.value m))) }
         ensures lists { IfOk result (λ m.
             EachView Self.item_view (⟦<Self as ItemSource>⟧.lists) self (λ view xs.
-            (h : view.Target → K) → ActsAsAt F.FnMut key (λ x. h (view.of x))
-            → IsGroupedByKey (M.value m) K.eq view h xs)) }
+            (h : view.Target → M.key_view.Target)
+            → NamesKeys F.FnMut M.key_view key (λ x. h (view.of x))
+            → IsGroupedByKey (M.value m) M.same view h xs)) }
     {
         let mut key = key;
         let (first, rest) = self.next();
@@ -221,7 +225,7 @@ pub trait NonEmptyItertools: NonEmptyIterator {
             let k = key(&x);
             match groups.value_mut(&k) {
                 Some(group) => group.push(x)?,
-                None => groups.put(k, NEVec::new(alloc, x)?)?,
+                None => groups.put(alloc, k, NEVec::new(alloc, x)?)?,
             }
         }
         Ok(groups)
@@ -243,14 +247,15 @@ pub trait NonEmptyItertools: NonEmptyIterator {
     ) -> Result<M, AllocError>
     where
         Self: Sized,
-        Self::Item: Eq + Drop,
+        Self::Item: Drop,
         requires { (it : Self.IntoIter) → Self.into_iter_gives self it → Self.IntoIter.can_next it
             × IsFinite (Self.IntoIter.remaining it)
             × CountFits Self.IntoIter.next_gives Self.IntoIter.remaining 0 it }
         ensures gives { IfOk result (λ m. (xs : List Self.Item)
-            × ⟦<Self as ItemSource>⟧.reads true self xs × IsCounted (M.value m) Self.Item.eq xs) }
-        ensures lists { IfOk result (λ m. EachList (⟦<Self as ItemSource>⟧.lists itself) self
-            (λ xs. IsCounted (M.value m) Self.Item.eq xs)) }
+            × ⟦<Self as ItemSource>⟧.reads true self xs
+            × IsCounted (M.value m) M.same (map M.key_view.of xs)) }
+        ensures lists { IfOk result (λ m. EachList (⟦<Self as ItemSource>⟧.lists M.key_view) self
+            (λ keys. IsCounted (M.value m) M.same keys)) }
     {
         let (first, rest) = self.next();
         let mut counts = M::with_entry(alloc, first, 1)?;
@@ -258,7 +263,7 @@ pub trait NonEmptyItertools: NonEmptyIterator {
             match counts.value_mut(&x) {
                 // All items fit, so no count wraps.
                 Some(count) => *count = count.wrapping_add(1),
-                None => counts.put(x, 1)?,
+                None => counts.put(alloc, x, 1)?,
             }
         }
         Ok(counts)

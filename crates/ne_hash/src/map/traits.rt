@@ -1,6 +1,9 @@
 //! The traits of an [`NEMap`]: conversions, clones, equality as a map, collecting, printing.
 ghost use Rattle.std.specs.Prelude.{◌≡◌, ◌↔◌, ◌++◌, IsTrue, MatchResult};
 ghost use Rattle.std.specs.HashMap.{get, get_by_text, hash_map_eq, IsClone, IsEmpty};
+ghost use Rattle.std.specs.Cmp.Lexicographic.{nat_list_eq_equiv};
+ghost use Rattle.std.specs.Str.{bytes_eq};
+ghost use Rattle.ne_vec.specs.Lists.{itself, referenced};
 ghost use Rattle.ne_iter.specs.Collected.{IsMapOfPairs};
 ghost use Rattle.ne_iter.specs.Keyed.Clones.{KeepsEntries};
 ghost use Rattle.ne_iter.specs.Keyed.SameMap.{IsSameMap};
@@ -188,6 +191,6 @@ impl<V: Drop> KeyedMap<&str, V> for NEMap<String, V> {
     }
 
     fn value_mut(&mut self, k: &&str) -> Option<&mut V> {
-        self.inner.get_mut(*k)
+        self.get_mut(*k)
     }
 }

@@ -5,7 +5,10 @@ ghost use Rattle.std.specs.Cmp.{partial_equiv_from_equiv};
 ghost use Rattle.std.specs.HashMap.Eq.{hash_map_eq_refl, hash_map_eq_symm, hash_map_eq_trans};
 ghost use Rattle.std.specs.Iterator.{IsFiniteIterable};
 ghost use Rattle.indexmap.specs.IndexMap.{hasher_of, index_map_eq, index_map_len, values};
-ghost use Rattle.indexmap.specs.IndexMap.{IsClone, get};
+ghost use Rattle.std.specs.Cmp.Lexicographic.{nat_list_eq_equiv};
+ghost use Rattle.std.specs.Str.{bytes_eq};
+ghost use Rattle.indexmap.specs.IndexMap.{IsClone, get, get_by_text};
+ghost use Rattle.ne_vec.specs.Lists.{itself, referenced};
 ghost use Rattle.ne_iter.specs.Keyed.Clones.{KeepsEntries};
 ghost use Rattle.ne_iter.specs.Keyed.KeyList.{IsKeyListMapOf};
 ghost use Rattle.ne_iter.specs.Keyed.SameMap.{IsSameMap};
@@ -168,18 +171,49 @@ impl<K: Eq + Hash + Drop, V: Drop, S: BuildHasher> Extend<(K, V)> for NEIndexMap
 
 /// The value of a key is what [`get`](Self::get) returns.
 impl<K: Eq + Hash + Drop, V: Drop> KeyedMap<K, V> for NEIndexMap<K, V> {
+    ghost key_view = { itself };
+
+    ghost same = { K.eq };
+
     ghost value = { get K.eq };
+
+    ghost equivalence = { K.Eq.laws };
 
     fn with_entry(alloc: Global, k: K, v: V) -> Result<Self, AllocError> {
         NEIndexMap::new(alloc, k, v)
     }
 
-    fn put(&mut self, k: K, v: V) -> Result<(), AllocError> {
+    fn put(&mut self, _alloc: Global, k: K, v: V) -> Result<(), AllocError> {
         let _old = self.insert(k, v)?;
         Ok(())
     }
 
     fn value_mut(&mut self, k: &K) -> Option<&mut V> {
         self.get_mut(k)
+    }
+}
+
+/// A key is given by its text, and a `String` is made of it where the key is new.
+impl<V: Drop> KeyedMap<&str, V> for NEIndexMap<String, V> {
+    ghost key_view = { referenced };
+
+    ghost same = { bytes_eq };
+
+    ghost value = { get_by_text };
+
+    ghost equivalence = { nat_list_eq_equiv };
+
+    fn with_entry(alloc: Global, k: &str, v: V) -> Result<Self, AllocError> {
+        let map = NEIndexMap::new(alloc, String::from_str(alloc, k)?, v)?;
+        Ok(map)
+    }
+
+    fn put(&mut self, alloc: Global, k: &str, v: V) -> Result<(), AllocError> {
+        let _old = self.insert(String::from_str(alloc, k)?, v)?;
+        Ok(())
+    }
+
+    fn value_mut(&mut self, k: &&str) -> Option<&mut V> {
+        self.get_mut(*k)
     }
 }

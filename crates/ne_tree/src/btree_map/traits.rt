@@ -182,6 +182,6 @@ impl<V: Drop> KeyedMap<&str, V> for NEBTreeMap<String, V> {
     }
 
     fn value_mut(&mut self, k: &&str) -> Option<&mut V> {
-        self.inner.get_mut(*k)
+        self.get_mut(*k)
     }
 }

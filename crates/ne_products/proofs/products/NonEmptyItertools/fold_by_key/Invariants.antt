@@ -5,6 +5,7 @@ use Rattle.ne_products.specs.ByKey.{AddsByCall, KeyTurn}
 -- The turns over the items so far led from the closures and values at the loop's start to those now.
 abbrev pub invariant-loop-x : goal.invariant-loop-x
 invariant-loop-x g l =
-    FoldsTo (KeyTurn g.F.FnMut (AddsByCall g.G.FnMut) g.K.PartialEq.eq l.init)
+    FoldsTo (KeyTurn g.F.FnMut (AddsByCall g.G.FnMut) g.M.KeyedMap.key_view
+    g.M.KeyedMap.same l.init)
     (l.initial.key, (l.initial.f, g.M.KeyedMap.value l.initial.folded)) l.yielded
     (l.key, (l.f, g.M.KeyedMap.value l.folded))

@@ -2,11 +2,10 @@ use Rattle.ne_products.proofs.products.NonEmptyItertools.into_group_map_by.Goals
 use Rattle.std.proofs.Common.{◌≡◌, [], ◌∷◌, ◌∙◌, None, Some, ap, refl, rules, subst, sym}
 use Rattle.std.proofs.lemmas.Fn.{called_at, FoldsTo-push}
 use Rattle.std.specs.Option.{option_copied_mut, unwrap_or}
-use Rattle.std.specs.Iterator.{ActsAsAt}
 use Rattle.ne_iter.specs.KeyedMap.{PutsValue}
 use Rattle.ne_iter.specs.LoopLaws.{Reads-loop, Yields-first, each_view_read}
 use Rattle.ne_products.specs.ByKey.{FoldsByKey}
-use Rattle.ne_products.specs.ByKey.{AddsLast, IsGroupedByKey, KeyTurn, and_last}
+use Rattle.ne_products.specs.ByKey.{AddsLast, IsGroupedByKey, KeyTurn, NamesKeys, and_last}
 use Rattle.ne_products.proofs.ByKey.{grouped_view, turns_calls}
 
 pub key-k-requires : goal.key-k-requires
@@ -28,20 +27,20 @@ key-k-requires-in-loop-x g c =
     c.loop-x.yielded_by) (
       _,
       (c.key-k.result, called_at g.F.FnMut c.key-k.ensures refl),
-      turns_calls g.F.FnMut AddsLast g.K.PartialEq.eq [] _ c.loop-x.yielded _ c.loop-x.invariant,
+      turns_calls g.F.FnMut AddsLast g.M.KeyedMap.key_view g.M.KeyedMap.same [] _ c.loop-x.yielded _ c.loop-x.invariant,
     )
     c.in-Some.ensures.steps _ refl
 
 pub loop-x-preserved-in-Some-value_mut : goal.loop-x-preserved-in-Some-value_mut
 loop-x-preserved-in-Some-value_mut g c =
     let value = g.M.KeyedMap.value c.loop-x.groups in
-    let k = c.key-k-in-loop-x.result in
+    let k = g.M.KeyedMap.key_view.of c.key-k-in-loop-x.result in
     let group = c.push.new.self in
     let here : value k ≡ Some c.in-Some-value_mut.group.now
     = sym c.value_mut.ensures.value ∙ ap option_copied_mut c.in-Some-value_mut.is in
-    FoldsTo-push (KeyTurn g.F.FnMut AddsLast g.K.PartialEq.eq []) _ c.loop-x.yielded _ c.in-Some.x _
+    FoldsTo-push (KeyTurn g.F.FnMut AddsLast g.M.KeyedMap.key_view g.M.KeyedMap.same []) _ c.loop-x.yielded _ c.in-Some.x _
     c.loop-x.invariant (
-      k,
+      c.key-k-in-loop-x.result,
       group,
       called_at g.F.FnMut c.key-k-in-loop-x.ensures refl,
       c.in_ok-push-in-Some-value_mut.ensures.added
@@ -52,16 +51,16 @@ loop-x-preserved-in-Some-value_mut g c =
 pub loop-x-preserved : goal.loop-x-preserved
 loop-x-preserved g c =
     let value = g.M.KeyedMap.value c.loop-x.groups in
-    let k = c.key-k-in-loop-x.result in
+    let k = g.M.KeyedMap.key_view.of c.key-k-in-loop-x.result in
     let group = c.in_ok-new-in-None-value_mut.field-0 in
     let absent : value k ≡ None
     = sym c.value_mut.ensures.value ∙ ap option_copied_mut c.in-None-value_mut.is in
-    let put = subst (λ m. PutsValue g.K.PartialEq.eq (g.M.KeyedMap.value m) k group
+    let put = subst (λ m. PutsValue g.M.KeyedMap.same (g.M.KeyedMap.value m) k group
     (g.M.KeyedMap.value c.put.new.self))
     c.value_mut.follows.holds-at-none c.in_ok-put-in-None-value_mut.ensures in
-    FoldsTo-push (KeyTurn g.F.FnMut AddsLast g.K.PartialEq.eq []) _ c.loop-x.yielded _ c.in-Some.x _
+    FoldsTo-push (KeyTurn g.F.FnMut AddsLast g.M.KeyedMap.key_view g.M.KeyedMap.same []) _ c.loop-x.yielded _ c.in-Some.x _
     c.loop-x.invariant (
-      k,
+      c.key-k-in-loop-x.result,
       group,
       called_at g.F.FnMut c.key-k-in-loop-x.ensures refl,
       c.in_ok-new-in-None-value_mut.ensures
@@ -103,9 +102,9 @@ returns-clause-lists g c =
     let from = c.next-first.ensures.first in
     let given = returns-clause-gives g c in
     let value = g.M.KeyedMap.value c.loop-x.groups in
-    each_view_read (λ view xs. (h : view.Target → g.row.K.Denot)
-    → ActsAsAt g.F.FnMut c.args.key (λ x. h (view.of x))
-    → IsGroupedByKey value g.K.PartialEq.eq view h xs) g.Self.NonEmptyIterator.item_view
+    each_view_read (λ view xs. (h : view.Target → g.M.KeyedMap.key_view.Target)
+    → NamesKeys g.F.FnMut g.M.KeyedMap.key_view c.args.key (λ x. h (view.of x))
+    → IsGroupedByKey value g.M.KeyedMap.same view h xs) g.Self.NonEmptyIterator.item_view
     given.2.0 (Reads-loop from.0 c.loop-x.x-iterator c.next.new.self from.1 from.2
     c.into_iter-x-iterator.ensures.into_iter_gives c.loop-x.yielded_by c.in-None.ensures.steps)
-    (grouped_view g.met.K.Eq.laws g.F.FnMut c.args.key given.2.0 value c.loop-x.key given.2.4)
+    (grouped_view g.M.KeyedMap.key_view g.met.M.KeyedMap.equivalence g.F.FnMut c.args.key given.2.0 value c.loop-x.key given.2.4)

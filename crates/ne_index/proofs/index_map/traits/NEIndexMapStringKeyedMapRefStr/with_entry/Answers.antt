@@ -1,0 +1,13 @@
+use Rattle.ne_index.proofs.index_map.traits.NEIndexMapStringKeyedMapRefStr.with_entry.Goals as goal
+use Rattle.std.proofs.Common.{None, Some, ap, cond, sym, ◌∙◌}
+use Rattle.std.specs.Cmp.Lexicographic.{nat_list_eq_equiv}
+use Rattle.std.specs.Map.{lookup}
+use Rattle.std.specs.Str.{bytes_eq}
+use Rattle.std.specs.String.{string_bytes}
+
+pub returns : goal.returns
+returns g c = λ q.
+    let k = c.in_ok-from_str.field-0 in
+    ap (lookup (λ j. bytes_eq q (string_bytes j))) c.in_ok-map.ensures.entries
+    ∙ ap (λ b. cond b (Some c.args.v) None) (ap (bytes_eq q) c.in_ok-from_str.ensures.ok
+    ∙ nat_list_eq_equiv.symm q c.args.k.now)
