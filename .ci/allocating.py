@@ -26,14 +26,14 @@ ITEMS = {
 # Types that keep the memory of the vector that they are collected from.
 DRAINED = ("NEVec", "Vec", "NEVecDeque", "NEBinaryHeap")
 # Calls that never allocate, although their type allows an `AllocError`; methods of traits that have
-# a body only in an implementation, each of which is tested; and what reads a collection, which the
-# tests of each collection call.
+# a body only in an implementation, each of which is tested; what folds by key and what reads a
+# collection call, which the tests of those call.
 EXCUSED = {
     *("NESlice::clone", "Iter::clone", "NonEmptyIter::clone", "collect into ()"),
     *(f"FromNonEmptyIterator::from_drained of {it}" for it in DRAINED),
     *("FromNonEmptyIterator::from_nonempty_iter", "NonEmptyMap::put"),
-    *("NonEmptySet::add", "NonEmptySet::put"),
-    *("read_map", "read_map_owned", "read_seq", "read_seq_owned"),
+    *("KeyedMap::put", "KeyedMap::with_entry", "NonEmptySet::add", "NonEmptySet::put"),
+    *("Reader::read", "read_map", "read_seq"),
 }
 # What is called by a sign, by std or by `indexmap`, writes to what it is given, or keeps its room if
 # it is refused less.
@@ -51,6 +51,8 @@ def call_of(it):
     trait = it.trait.partition("<")[0]
     if trait == "Iterator":
         return ITEMS.get(it.owner, it.path())
+    if trait in ("KeyedMap", "Reader"):
+        return f"{trait}::{it.name}"
     if trait in ("Singleton", "NonEmptyMap", "NonEmptySet"):
         return f"{trait}::{it.name}{TYPES.get(it.owner, f' of {it.owner}')}"
     if trait == "FromNonEmptyIterator" and it.name == "from_drained":

@@ -39,6 +39,7 @@ pub use Rattle.ne_iter.specs.TakeWhile
 pub use Rattle.ne_iter.specs.TryGroupBy
 pub use Rattle.ne_iter.specs.TryInto
 pub use Rattle.ne_iter.specs.Zip
+pub use Rattle.ne_products.specs.ByKey
 pub use Rattle.ne_products.specs.Pairs
 pub use Rattle.ne_products.specs.Restarts
 pub use Rattle.ne_products.specs.Sides
