@@ -1,6 +1,7 @@
 //! Kinds of source, collected. Only `pairs_of_any_sources`, which is generic in its sources, calls
 //! laws and has a stored proof.
-ghost use Rattle.std.specs.Prelude.{◌≡◌, ◌/◌, ℕ, List, IfOk, Ok, map};
+ghost use Rattle.std.specs.Prelude.{◌≡◌, ◌/◌, ℕ, List, IfOk, Ok, map, slice_get, take};
+ghost use Rattle.std.specs.Int.NonZero.{non_zero_usize_get};
 ghost use Rattle.ne_iter.specs.Sources.{ReadsList};
 ghost use Rattle.ne_products.specs.Pairs.{cartesian_product};
 ghost use Rattle.ne_products.specs.Restarts.{ClonesAgain, NeverRefuses};
@@ -13,12 +14,40 @@ use ne_products::laws::list_of_cartesian_product;
 use ne_products::{NEEither, NonEmptyItertools};
 use ne_vec::{NESlice, NEVec};
 use std::alloc::{AllocError, Global};
+use std::num::NonZeroUsize;
 
 /// Returns the items of an array, by reference.
 pub fn of_an_array_reference(alloc: Global, items: &[u32; 3]) -> Result<NEVec<u32>, AllocError>
     ensures { IfOk result (λ v. v ≡ items.now) }
 {
     items.into_nonempty_iter().copied().collect(alloc)
+}
+
+/// Returns half of the item at an index. The chain is made into a source although it is one.
+pub fn half_at(items: NEVec<u32>, index: usize) -> Option<u32>
+    ensures { result ≡ slice_get (map (λ x. x / 2) items) index }
+{
+    items
+        .into_nonempty_iter()
+        .map(|x| x / 2)
+        .into_nonempty_iter()
+        .nth(index)
+}
+
+/// Returns half of each of the first `most` items. The chain is made into a source, as above.
+pub fn first_halved(
+    alloc: Global,
+    items: &NEVec<u32>,
+    most: NonZeroUsize,
+) -> Result<NEVec<u32>, AllocError>
+    ensures { IfOk result (λ v. v ≡ map (λ x. x / 2) (take (non_zero_usize_get most) items.now)) }
+{
+    items
+        .nonempty_iter()
+        .take(most)
+        .into_nonempty_iter()
+        .map(|x| *x / 2)
+        .collect(alloc)
 }
 
 /// Returns the items of a slice that is passed by value.

@@ -162,6 +162,21 @@ pub fn lengths_above_first(
         .collect(alloc)
 }
 
+/// The same, of runs that are made into a source although they are one.
+pub fn lengths_of_a_source(
+    alloc: Global,
+    items: NESlice<'_, u32>,
+) -> Result<NEVec<usize>, AllocError>
+    ensures { IfOk result (λ v. v ≡ map (λ run. length run)
+        (runs_of by_first (λ x y. ltb x y) items.entry)) }
+{
+    items
+        .runs_by(|x, y| *x < *y)
+        .into_nonempty_iter()
+        .map(|run| run.len().get())
+        .collect(alloc)
+}
+
 /// Returns the lengths of the runs in which each further item has the quotient of the run's first
 /// one. The closure, which divides by the items, may be called only with these.
 pub fn lengths_of_quotients(
