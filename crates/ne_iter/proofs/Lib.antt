@@ -38,3 +38,4 @@ pub mod Skip
 pub mod TakeWhile
 pub mod Once
 pub mod SourceLists
+pub mod Parted

@@ -84,9 +84,14 @@ pub each_view_read : {U S A : Type 0} {becomes : U → S → Type 0}
     → ((view : View A) → P view (map view.of ys))
     → EachView view (λ view. Lists becomes steps view.of) u P
 each_view_read {becomes = becomes} {steps = steps} {u = u} P view ys read law = (
-  (λ xs known. (triggered u xs, subst (P itself) (whole_prefix xs (map itself.of ys)
-      (reads_through becomes steps u itself.of xs known true ys read)) (law itself))),
-  OnFalse_from view.is_itself _ (λ _ xs known.
-      (triggered u xs, subst (P view) (whole_prefix xs (map view.of ys)
-      (reads_through becomes steps u view.of xs known true ys read)) (law view))),
+  (λ xs known. (
+    triggered u xs,
+    subst (P itself) (whole_prefix xs (map itself.of ys)
+        (reads_through becomes steps u itself.of xs known true ys read)) (law itself),
+  )),
+  OnFalse_from view.is_itself _ (λ _ xs known. (
+    triggered u xs,
+    subst (P view) (whole_prefix xs (map view.of ys)
+        (reads_through becomes steps u view.of xs known true ys read)) (law view),
+  )),
 )

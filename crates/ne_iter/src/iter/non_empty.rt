@@ -64,7 +64,7 @@ ghost use Rattle.ne_iter.specs.GroupingRuns.{GroupsLists};
 ghost use Rattle.ne_iter.specs.RunsBy.{runs_by_source, runs_by_callee, CutsLists, HasCut};
 ghost use Rattle.ne_iter.specs.TryGroupBy.{try_group_by_source, try_group_by_callee, by_keys};
 ghost use Rattle.ne_iter.specs.Map.{MapsThrough};
-ghost use Rattle.ne_iter.specs.Filter.{IsFiltered, IsFilterMapped};
+ghost use Rattle.ne_iter.specs.Filter.{IsFiltered, IsFilterMapped, IsParted, PartsLists};
 ghost use Rattle.ne_iter.specs.Skip.{IsSkipped, IsSkippedWhile};
 ghost use Rattle.ne_iter.specs.TakeWhile.{IsTakenWhile};
 ghost use Rattle.ne_iter.specs.Peekable.{peekable_first, peekable_rest, PeekableGives, YieldsRest};
@@ -397,6 +397,44 @@ pub trait NonEmptyIterator: IntoIterator {
             SomeRun Self.IntoIter.next_gives it (λ q. IsFilterRun u q P.FnMut predicate))) }
     {
         self.into_iter().filter(predicate)
+    }
+
+    /// Returns the items for which `predicate` returns `true`, and the others, each in order. Either
+    /// vector may be empty.
+    ///
+    /// `predicate` is called once for each item, in order. Returns `AllocError` if an allocation
+    /// fails; the items taken are then dropped. The Rust crate lacks this method.
+    ///
+    /// ```
+    /// let (small, great) = nev![alloc; 4, 9, 6]?.into_nonempty_iter().partition(alloc, |x| *x < 7)?;
+    /// // [4, 6] and [9]
+    /// ```
+    final fn partition<P: FnMut(&Self::Item) -> bool>(
+        self,
+        alloc: Global,
+        predicate: P,
+    ) -> Result<(Vec<Self::Item>, Vec<Self::Item>), AllocError>
+    where
+        Self: Sized,
+        Self::Item: Drop,
+        requires ends { ⟦<Self as ItemSource>⟧.ends self }
+        requires callable { (it : Self.IntoIter) → Self.into_iter_gives self it
+            → CallableOnAllAt Self.IntoIter.next_gives P.FnMut it predicate }
+        ensures gives { IfOk result (λ r. IsParted (⟦<Self as ItemSource>⟧.reads) P.FnMut self
+            predicate r.0.items r.1.items) }
+        ensures lists { IfOk result (λ r. PartsLists P.FnMut item_view
+            (⟦<Self as ItemSource>⟧.lists) self predicate r.0.items r.1.items) }
+    {
+        let mut predicate = predicate;
+        let (mut passed, mut others) = (Vec::new(alloc), Vec::new(alloc));
+        for x in self {
+            if predicate(&x) {
+                passed.push(x)?;
+            } else {
+                others.push(x)?;
+            }
+        }
+        Ok((passed, others))
     }
 
     /// Returns an iterator over the values that `f` returns in `Some`. There may be none, so it is
