@@ -2,11 +2,12 @@
 -- calls another one with the same item.
 use Rattle.std.proofs.Common.{◌≡◌, ℕ, ◌<◌, List, [], ◌∷◌, length, refl, sym, ap, ◌∙◌}
 use Rattle.std.proofs.Common.{arith}
-use Rattle.std.proofs.lemmas.Fn.{answers_by}
+use Rattle.std.proofs.lemmas.Fn.{always_returns_same, answers_by}
 use Rattle.std.proofs.lemmas.List.Elements.{All-cons}
 use Rattle.std.specs.Prelude.{slice_index_or, Contains}
 use Rattle.std.specs.Borrow.{Bor}
 use Rattle.std.specs.Fn.{Mut, CalledAt, TakesAt, ComputesKey}
+use Rattle.std.specs.Iterator.{ActsAsAt}
 use Rattle.std.specs.List.{FoldsTo}
 use Rattle.core.proofs.slice.Orders.{answers_next}
 use Rattle.ne_vec.specs.Searches.{CallableAtItems}
@@ -27,6 +28,13 @@ module _ {F A R : Type 0} (calls : Mut F (Bor A × Unit {0}) R) (xs : List A) wh
       → x.now ≡ slice_index_or xs i x.now → CallableAtItems calls f xs → calls.pre f (x, tt)
   items_take f i x inside read callable =
       callable.at [] f (λ k d h. absurd (omega arith)) refl i x.now inside x read
+
+-- a closure that acts as a function returns its values
+pub computes : {F A K : Type 0} (calls : Mut F (Bor A × Unit {0}) K) (f : F) (key : A → K)
+    → ActsAsAt calls f key → ComputesKey calls key f
+computes calls f key acts =
+    always_returns_same calls (λ a r. r ≡ key a.0.now) f (λ a r g called.
+    let s = acts a.0.now r g (record { shown = a.0; shows = refl; called = called }) in (s.1, s.0))
 
 -- A closure each of whose calls calls another one, `under` it, with the same item.
 module _ {F G A K R : Type 0} (inner : Mut F (Bor A × Unit {0}) K)

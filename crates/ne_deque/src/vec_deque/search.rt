@@ -1,12 +1,17 @@
 //! The methods of [`NEVecDeque`] that search. Those by a closure have a loop of their own, as those
 //! of `NEVec`, so that the closure needs to be callable with the queue's items only. They call it
 //! with the same items as std's searches do, in the same order, and return the same results.
-ghost use Rattle.std.specs.Prelude.{◌≡◌, ◌≤◌, Bool, true, false, cond, length};
+//!
+//! Their clauses `acts` and `keys` say of a closure that changes nothing what `position` and
+//! `partitioned` say of any closure. They are there for the automatic proof.
+ghost use Rattle.std.specs.Prelude.{◌≡◌, ◌≤◌, Bool, true, false, cond, length, map};
 ghost use Rattle.std.specs.List.Sorted.{IsBinarySearchResult, IsSearchInRange, IsPartitionedBy};
 ghost use Rattle.std.specs.List.Sorted.{IsPartitionPoint};
 ghost use Rattle.std.specs.Fn.{CalledAt, ComputesKey, TakesAt};
+ghost use Rattle.std.specs.Iterator.{ActsAsAt};
 ghost use Rattle.std.specs.declared.cmp.Ordering.{Ordering};
 ghost use Rattle.std.specs.declared.cmp.Ordering.TheVariants.{Less, Greater};
+ghost use Rattle.ne_vec.specs.Lists.{Naming};
 ghost use Rattle.ne_vec.specs.Searches.{CallableAtItems};
 
 use super::NEVecDeque;
@@ -51,6 +56,8 @@ impl<T> NEVecDeque<T> {
         ensures bound { IsSearchInRange result (length self.now) }
         ensures position { (order : T → Ordering) → ComputesKey F.FnMut order f
             → IsBinarySearchResult order self.now result }
+        ensures acts { (order : T → Ordering) → ActsAsAt F.FnMut f order
+            → IsBinarySearchResult order self.now result }
     {
         let items = &self.inner;
         let mut base = 0;
@@ -90,6 +97,9 @@ impl<T> NEVecDeque<T> {
         ensures bound { IsSearchInRange result (length self.now) }
         ensures position { (key : T → B) → ComputesKey F.FnMut key f
             → IsBinarySearchResult (λ y. B.cmp (key y) b.now) self.now result }
+        ensures keys { (key : T → B) → ActsAsAt F.FnMut f key
+            → Naming (map key self.now) (λ keys.
+            IsBinarySearchResult (λ k. B.cmp k b.now) keys result) }
     {
         self.binary_search_by(
             |x|
@@ -114,6 +124,9 @@ impl<T> NEVecDeque<T> {
         requires { CallableAtItems P.FnMut pred self.now }
         ensures bound { result ≤ length self.now }
         ensures partitioned { (meets : T → Bool) → ComputesKey P.FnMut meets pred
+            → IsPartitionedBy meets self.now → IsPartitionPoint (λ y. meets y ≡ true)
+            (λ y. meets y ≡ false) self.now result }
+        ensures acts { (meets : T → Bool) → ActsAsAt P.FnMut pred meets
             → IsPartitionedBy meets self.now → IsPartitionPoint (λ y. meets y ≡ true)
             (λ y. meets y ≡ false) self.now result }
     {

@@ -5,7 +5,7 @@ use Rattle.std.specs.Ordering.{is_gt}
 use Rattle.std.specs.declared.cmp.Ordering.TheVariants.{Less, Equal, Greater}
 use Rattle.core.proofs.slice.Orders.{answers_next}
 use Rattle.core.proofs.slice.Searches.{lower, upper, after_Less, at_Greater, at_read}
-use Rattle.ne_deque.proofs.ItemCalls.{items_next, items_take}
+use Rattle.ne_deque.proofs.ItemCalls.{computes, items_next, items_take}
 use Rattle.ne_deque.proofs.vec_deque.NEVecDeque.binary_search_by.Goals.{then-not-is_gt}
 use Rattle.ne_deque.proofs.vec_deque.NEVecDeque.binary_search_by.Goals.{else-not-is_gt}
 
@@ -92,3 +92,15 @@ returns-clause-position g c order h =
     (at_Greater order xs base c.loop-size.size i.1
     (at_read xs (λ y. order y ≡ Greater) base c.index-2.result.now (omega arith) c.index-2.ensures
     (sym n.0 ∙ c.in-Greater.is)))
+
+pub returns-in-Equal-clause-acts : goal.returns-in-Equal-clause-acts
+returns-in-Equal-clause-acts g c order acts =
+    returns-in-Equal-clause-position g c order (computes g.F.FnMut c.args.f order acts)
+
+pub returns-in-Less-clause-acts : goal.returns-in-Less-clause-acts
+returns-in-Less-clause-acts g c order acts =
+    returns-in-Less-clause-position g c order (computes g.F.FnMut c.args.f order acts)
+
+pub returns-clause-acts : goal.returns-clause-acts
+returns-clause-acts g c order acts =
+    returns-clause-position g c order (computes g.F.FnMut c.args.f order acts)
