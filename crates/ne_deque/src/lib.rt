@@ -4,6 +4,7 @@
 //! this list is not empty is the invariant of the type.
 #![tactic(auto)]
 
+pub mod laws;
 mod macros;
 pub mod vec_deque;
 

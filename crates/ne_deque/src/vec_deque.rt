@@ -554,7 +554,8 @@ impl<T> NEVecDeque<T> {
 
     /// Removes the item at `index` and returns it, or returns `None` if `index` is not less than
     /// the length, or if there is only one item, which then stays. The first item takes its place,
-    /// which then has the index `index - 1`.
+    /// at the index `index - 1` of what is left. At index 0 the first item itself is removed, as by
+    /// `pop_front`.
     ///
     /// ```
     /// let mut queue = nevd![alloc; 4, 6, 8]?;
@@ -573,6 +574,7 @@ impl<T> NEVecDeque<T> {
 
     /// Removes the item at `index` and returns it, or returns `None` if `index` is not less than
     /// the length, or if there is only one item, which then stays. The last item moves to `index`.
+    /// At the last index the last item itself is removed, as by `pop_back`.
     ///
     /// ```
     /// let mut queue = nevd![alloc; 4, 6, 8]?;

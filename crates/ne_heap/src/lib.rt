@@ -9,5 +9,6 @@
 #![tactic(auto)]
 
 pub mod binary_heap;
+pub mod laws;
 
 pub use binary_heap::NEBinaryHeap;

@@ -8,6 +8,7 @@
 //! `chars` of it is the list of its characters.
 #![tactic(auto)]
 
+pub mod laws;
 pub mod string;
 
 pub use string::NEString;

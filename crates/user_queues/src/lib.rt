@@ -2,5 +2,6 @@
 #![tactic(auto)]
 
 pub mod heaps;
+pub mod laws;
 pub mod names;
 pub mod queues;

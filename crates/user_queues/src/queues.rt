@@ -1,10 +1,12 @@
 //! Functions that a user writes first over a queue.
-ghost use Rattle.std.specs.Prelude.{◌≡◌, ◌-◌, ◌/◌, ◌≤◌, ◌==◌, ◌%◌, List, [], ◌∷◌, ◌++◌, All};
-ghost use Rattle.std.specs.Prelude.{Contains, IfOk, IfSome, MatchBool, MatchOption, OnOk};
-ghost use Rattle.std.specs.Prelude.{Some, drop, filter, ltb};
+ghost use Rattle.std.specs.Prelude.{◌≡◌, ◌-◌, ◌/◌, ◌<◌, ◌≤◌, ◌==◌, ◌%◌, List, [], ◌∷◌, ◌++◌};
+ghost use Rattle.std.specs.Prelude.{All, Contains, IfOk, IfSome, MatchBool, MatchOption, OnOk};
+ghost use Rattle.std.specs.Prelude.{Some, drop, false, filter, ltb, true};
 ghost use Rattle.std.specs.Prelude.{◌↔◌, IsPermutation, IsSorted, IsTrue, length, map, reverse};
 ghost use Rattle.std.specs.Prelude.{slice_get, slice_set};
 ghost use Rattle.std.specs.List.{enumerate_from};
+ghost use Rattle.std.specs.List.Sorted.{IsBinarySearchResult, IsPartitionPoint, IsPartitionedBy};
+ghost use Rattle.std.specs.List.Sorted.{IsSearchInRange};
 ghost use Rattle.std.specs.NonZero.{non_zero_usize_get};
 ghost use Rattle.std.specs.Ordering.{nat_cmp};
 
@@ -63,6 +65,53 @@ pub fn last_due(jobs: &mut NEVecDeque<u32>, now: u32) -> Option<u32>
         (λ job. (jobs.old ≡ jobs.new ++ job ∷ []) × (job ≤ now)) }
 {
     jobs.pop_back_if(|job| *job <= now)
+}
+
+/// Takes the first job if it goes into 100 more than three times. No job may be 0.
+pub fn small_first(jobs: &mut NEVecDeque<u32>) -> Option<u32>
+    requires { All (λ x. 0 < x) jobs.old }
+    ensures { MatchOption result (jobs.new ≡ jobs.old)
+        (λ job. (jobs.old ≡ job ∷ jobs.new) × (3 < 100 / job)) }
+{
+    jobs.pop_front_if(|job| 100 / *job > 3)
+}
+
+/// Takes the last job if it goes into 100 more than three times. No job may be 0.
+pub fn small_last(jobs: &mut NEVecDeque<u32>) -> Option<u32>
+    requires { All (λ x. 0 < x) jobs.old }
+    ensures { MatchOption result (jobs.new ≡ jobs.old)
+        (λ job. (jobs.old ≡ jobs.new ++ job ∷ []) × (3 < 100 / job)) }
+{
+    jobs.pop_back_if(|job| 100 / *job > 3)
+}
+
+/// Searches a quotient. No item may be 0.
+pub fn place_of_quotient(items: &NEVecDeque<u32>, wanted: u32) -> Result<usize, usize>
+    requires { All (λ x. 0 < x) items.now }
+    ensures bound { IsSearchInRange result (length items.now) }
+    ensures place { IsBinarySearchResult (λ k. nat_cmp k wanted) (map (λ x. 1000 / x) items.now)
+        result }
+{
+    items.binary_search_by_key(&wanted, |x| 1000 / *x)
+}
+
+/// Searches a quotient by a comparison.
+pub fn place_by_quotient(items: &NEVecDeque<u32>, wanted: u32) -> Result<usize, usize>
+    requires { All (λ x. 0 < x) items.now }
+    ensures bound { IsSearchInRange result (length items.now) }
+    ensures place { IsBinarySearchResult (λ x. nat_cmp (1000 / x) wanted) items.now result }
+{
+    items.binary_search_by(|x| (1000 / *x).cmp(&wanted))
+}
+
+/// Returns how many items go into `n` more than three times, if these come first.
+pub fn large_quotients(items: &NEVecDeque<u32>, n: u32) -> usize
+    requires { All (λ x. 0 < x) items.now }
+    ensures bound { result ≤ length items.now }
+    ensures point { IsPartitionedBy (λ x. ltb 3 (n / x)) items.now → IsPartitionPoint
+        (λ x. ltb 3 (n / x) ≡ true) (λ x. ltb 3 (n / x) ≡ false) items.now result }
+{
+    items.partition_point(|x| n / *x > 3)
 }
 
 /// The last `n` numbers that were seen: the oldest goes when there are too many.

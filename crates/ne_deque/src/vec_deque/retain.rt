@@ -1,10 +1,11 @@
 //! The methods of [`NEVecDeque`] that keep what meets a test, or remove an item that does. Those
 //! that keep are those of [`NEVec`], in the same memory: the items are first moved so that they are
 //! in one slice.
-ghost use Rattle.std.specs.Prelude.{◌≡◌, ◌<◌, ◌≤◌, ◌↔◌, Bool, [], None, IsErr, length, map};
+ghost use Rattle.std.specs.Prelude.{◌≡◌, ◌-◌, ◌<◌, ◌≤◌, ◌↔◌, Bool, [], None, IfSome, IsErr};
+ghost use Rattle.std.specs.Prelude.{length, map, slice_get};
 ghost use Rattle.std.specs.List.{filter};
 ghost use Rattle.std.specs.List.Retain.{IsFiltered, PopsFrontIf, PopsIf, RetainsInTurn};
-ghost use Rattle.std.specs.Fn.{CalledAt, CalledAtMut};
+ghost use Rattle.std.specs.Fn.{CalledAt, CalledAtMut, FnOnceTakesAtMut};
 ghost use Rattle.std.specs.Iterator.{ActsAsAt};
 ghost use Rattle.ne_vec.specs.Kept.{ActsAsAtMut};
 ghost use Rattle.ne_vec.specs.Kept as vector;
@@ -66,7 +67,8 @@ impl<T> NEVecDeque<T> {
     /// Removes the first item and returns it if `predicate` returns `true` for it. Returns `None`
     /// if not, or if it is the only item, which then stays, and `predicate` is not called.
     ///
-    /// The item has what `predicate` wrote, whether it stays or not.
+    /// `predicate` must be callable with the first item, unless that is the only one. The item has
+    /// what `predicate` wrote, whether it stays or not.
     ///
     /// ```
     /// let mut queue = nevd![alloc; 4, 6, 7]?;
@@ -74,13 +76,14 @@ impl<T> NEVecDeque<T> {
     /// let odd = queue.pop_front_if(|x| *x % 2 == 1); // None, and queue is [6, 7]
     /// ```
     pub fn pop_front_if<P: FnOnce(&mut T) -> bool>(&mut self, predicate: P) -> Option<T>
-        requires { P.IsAlwaysCallable predicate }
+        requires { 1 < length self.old
+            → IfSome (slice_get self.old 0) (FnOnceTakesAtMut P.FnOnce predicate) }
         ensures last { length self.old ≤ 1 → (result ≡ None) × (self.new ≡ self.old) }
         ensures popped { 1 < length self.old
             → PopsFrontIf P.FnOnce self.old self.new predicate result }
     {
-        if self.inner.len() > 1 {
-            self.inner.pop_front_if(predicate)
+        if self.inner.len() > 1 && predicate(&mut self.inner[0]) {
+            self.inner.pop_front()
         } else {
             None
         }
@@ -89,7 +92,8 @@ impl<T> NEVecDeque<T> {
     /// Removes the last item and returns it if `predicate` returns `true` for it. Returns `None`
     /// if not, or if it is the only item, which then stays, and `predicate` is not called.
     ///
-    /// The item has what `predicate` wrote, whether it stays or not.
+    /// `predicate` must be callable with the last item, unless that is the only one. The item has
+    /// what `predicate` wrote, whether it stays or not.
     ///
     /// ```
     /// let mut queue = nevd![alloc; 5, 4, 6]?;
@@ -97,13 +101,15 @@ impl<T> NEVecDeque<T> {
     /// let odd = queue.pop_back_if(|x| *x % 2 == 1); // None, and queue is [5, 4]
     /// ```
     pub fn pop_back_if<P: FnOnce(&mut T) -> bool>(&mut self, predicate: P) -> Option<T>
-        requires { P.IsAlwaysCallable predicate }
+        requires { 1 < length self.old → IfSome (slice_get self.old (length self.old - 1))
+            (FnOnceTakesAtMut P.FnOnce predicate) }
         ensures last { length self.old ≤ 1 → (result ≡ None) × (self.new ≡ self.old) }
         ensures popped { 1 < length self.old
             → PopsIf P.FnOnce self.old self.new predicate result }
     {
-        if self.inner.len() > 1 {
-            self.inner.pop_back_if(predicate)
+        let len = self.inner.len();
+        if len > 1 && predicate(&mut self.inner[len - 1]) {
+            self.inner.pop_back()
         } else {
             None
         }

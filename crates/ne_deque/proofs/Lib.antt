@@ -1,0 +1,4 @@
+pub mod AmongKeys
+pub mod Ends
+pub mod ItemCalls
+pub mod Parted
