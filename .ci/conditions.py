@@ -94,11 +94,11 @@ def keyed(place, lent, entries, kind):
     if kind in ("tree", "index") and not by_text:
         shown = ", ".join(f"({', '.join(it)})" if is_map else it[0] for it in pairs)
         return [f"says::{kind}_{'map' if is_map else 'set'}({lent}, &[{shown}]);"]
-    call, key = ("_by_text", "") if by_text else ("", "&")
+    key = "" if by_text else "&"
     found = [
-        f"prove!({place}.get{call}({key}{it[0]}) == Some(&{it[1]}));"
+        f"prove!({place}.get({key}{it[0]}) == Some(&{it[1]}));"
         if is_map
-        else f"prove!({place}.contains{call}({key}{it[0]}));"
+        else f"prove!({place}.contains({key}{it[0]}));"
         for it in pairs
     ]
     return [*found, f"prove!({place}.len(){'' if kind == 'std' else '.get()'} == {len(pairs)});"]

@@ -10,8 +10,9 @@ ghost use Rattle.std.specs.Prelude.{◌≡◌, ◌+◌, ◌<◌, ◌≤◌, ◌^
 ghost use Rattle.std.specs.Prelude.{false, filter, is_some, length, None, IfOk, IfSome, IsOk};
 ghost use Rattle.std.specs.Prelude.{MatchOption, OnErr, OnOk, Some, Bool, Contains, IsErr, IsTrue};
 ghost use Rattle.std.specs.Prelude.{IsSome};
-ghost use Rattle.std.specs.HashMap.{get, get_key, hash_map_len, hasher_of, keys, spare, values};
-ghost use Rattle.std.specs.HashMap.{IsEmpty, IsReordered, IsUnchanged, PutsEntry, IsClone, Updates};
+ghost use Rattle.std.specs.HashMap.{get, get_by, get_key_by, hash_map_len, hasher_of, keys, spare};
+ghost use Rattle.std.specs.HashMap.{values, IsEmpty, IsReordered, IsUnchanged, PutsEntry, IsClone};
+ghost use Rattle.std.specs.HashMap.{Updates, UpdatesBy};
 ghost use Rattle.std.specs.HashMap.IterMut.{iter_mut_name, iter_mut_rest, values_mut_name};
 ghost use Rattle.std.specs.HashMap.IterMut.{values_mut_rest, values_mut_steps, IterMutCanStep};
 ghost use Rattle.std.specs.HashMap.Lent.{KeepsKeys};
@@ -42,12 +43,12 @@ ghost use Rattle.ne_hash.specs.ValidHashMap.{IsValid};
 
 mod iter;
 mod serialized;
-mod texts;
 mod traits;
 
 pub use iter::{Held, IntoIter, IntoKeys, IntoValues, Iter, IterMut, Keys, Values, ValuesMut};
 use ne_iter::iter::{ItemSource, NonEmptyIter};
 use std::alloc::{AllocError, Global};
+use std::collections::hash_map::Equivalent;
 use std::collections::{HashMap, hash_map};
 use std::hash::{BuildHasher, BuildHasherDefault, FoldHasher, Hash};
 use std::marker::Model;
@@ -65,9 +66,13 @@ use std::num::NonZeroUsize;
 ///
 /// By `serde` a map is read with the default hasher, so read one of such keys as an `NEBTreeMap`.
 ///
+/// Lookups and removals take a `&K`, or a `&str` if the keys are `String`s, or a `&[T]` if they are
+/// `Vec<T>`s.
+///
 /// In contracts it is std's record of the map: `get K.eq m k` is the value of the key `k`,
-/// `m.entries` is the list of the pairs in the order of iteration, `IsValid K.eq m` says that there
-/// is a key and that no two keys are equal, and `hasher_of m` is the hasher.
+/// `get_by_text m bs` that of the `String` whose bytes are `bs`, `m.entries` is the list of the
+/// pairs in the order of iteration, `IsValid K.eq m` says that there is a key and that no two keys
+/// are equal, and `hasher_of m` is the hasher.
 ///
 /// Equality and hashing are lawful, as the laws of their traits require. That a clone equals its
 /// original is assumed only where a clause says so.
@@ -459,8 +464,8 @@ impl<K: Eq + Hash, V, S: BuildHasher> NEMap<K, V, S> {
     /// let map = nem![alloc; 2 => 24, 4 => 26]?;
     /// let (there, absent) = (map.contains_key(&2), map.contains_key(&8)); // true and false
     /// ```
-    pub fn contains_key(&self, k: &K) -> bool
-        ensures { result ≡ is_some (get K.eq self.now k.now) }
+    pub fn contains_key<Q: Equivalent<K>>(&self, k: Q) -> bool
+        ensures { result ≡ is_some (get_by (Q.equivalent k) self.now) }
     {
         self.inner.contains_key(k)
     }
@@ -470,9 +475,11 @@ impl<K: Eq + Hash, V, S: BuildHasher> NEMap<K, V, S> {
     /// ```
     /// let map = nem![alloc; 1 => 10, 2 => 20, 1 => 30]?;
     /// let (one, three) = (map.get(&1), map.get(&3)); // Some(&30) and None
+    /// let ages = nem![alloc; String::from_str(alloc, "Ada")? => 36]?;
+    /// let (ada, none) = (ages.get("Ada"), ages.get("Al")); // Some(&36) and None
     /// ```
-    pub fn get(&self, k: &K) -> Option<&V>
-        ensures value { option_copied result ≡ get K.eq self.now k.now }
+    pub fn get<Q: Equivalent<K>>(&self, k: Q) -> Option<&V>
+        ensures value { option_copied result ≡ get_by (Q.equivalent k) self.now }
         ensures member { IfSome result (λ v. IsAmong (values self.now) v.now) }
     {
         self.inner.get(k)
@@ -485,9 +492,9 @@ impl<K: Eq + Hash, V, S: BuildHasher> NEMap<K, V, S> {
     /// let map = NEMap::new(alloc, 4, 20)?;
     /// let pair = map.get_key_value(&4); // Some((&4, &20))
     /// ```
-    pub fn get_key_value(&self, k: &K) -> Option<(&K, &V)>
-        ensures key { option_map (λ p. p.0.now) result ≡ get_key K.eq self.now k.now }
-        ensures value { option_map (λ p. p.1.now) result ≡ get K.eq self.now k.now }
+    pub fn get_key_value<Q: Equivalent<K>>(&self, k: Q) -> Option<(&K, &V)>
+        ensures key { option_map (λ p. p.0.now) result ≡ get_key_by (Q.equivalent k) self.now }
+        ensures value { option_map (λ p. p.1.now) result ≡ get_by (Q.equivalent k) self.now }
     {
         self.inner.get_key_value(k)
     }
@@ -501,11 +508,11 @@ impl<K: Eq + Hash, V, S: BuildHasher> NEMap<K, V, S> {
     ///     *value = 27; // {2: 24, 4: 27}
     /// }
     /// ```
-    pub fn get_mut(&mut self, k: &K) -> Option<&mut V>
+    pub fn get_mut<Q: Equivalent<K>>(&mut self, k: Q) -> Option<&mut V>
         // Once the reference is gone, the key has the value last written.
         ensures* writes_back { sem 𝓛 (LendsValue K.row V.row S.row S.Hasher.row K.Hash
-            S.BuildHasher S.Hasher.Hasher self.entry k.now result) }
-        ensures value { option_copied_mut result ≡ get K.eq self.old k.now }
+            S.BuildHasher S.Hasher.Hasher self.entry (Q.equivalent k) result) }
+        ensures value { option_copied_mut result ≡ get_by (Q.equivalent k) self.old }
         ensures valid { IsValid K.eq self.old }
     {
         self.inner.get_mut(k)
@@ -551,14 +558,16 @@ impl<K: Eq + Hash, V, S: BuildHasher> NEMap<K, V, S> {
     /// let none = map.remove(&4); // None: the only key stays
     /// let stays = map.get(&4); // Some(&26)
     /// ```
-    pub fn remove(&mut self, k: &K) -> Option<V>
+    pub fn remove<Q: Equivalent<K>>(&mut self, k: Q) -> Option<V>
     where
         K: Drop,
         // `None` if and only if the key is absent or the only one; then nothing changes.
-        ensures entries { TakesFoundUnlessLast (get K.eq self.old k.now ≡ None) self.old.entries
-            self.new.entries result (λ v. (get K.eq self.old k.now ≡ Some v)
-            × IsPermutation (remove_entry (K.eq k.now) self.old.entries) self.new.entries) }
-        ensures updates { IfSome result (λ _. Updates K.eq self.old self.new k.now None) }
+        ensures entries { TakesFoundUnlessLast (get_by (Q.equivalent k) self.old ≡ None)
+            self.old.entries self.new.entries result
+            (λ v. (get_by (Q.equivalent k) self.old ≡ Some v)
+            × IsPermutation (remove_entry (Q.equivalent k) self.old.entries) self.new.entries) }
+        ensures updates { IfSome result (λ _.
+            UpdatesBy K.eq (Q.equivalent k) self.old self.new None) }
         ensures len { hash_map_len self.new + (if is_some result then 1 else 0)
             ≡ hash_map_len self.old }
         ensures hasher { hasher_of self.new ≡ hasher_of self.old }
@@ -581,14 +590,16 @@ impl<K: Eq + Hash, V, S: BuildHasher> NEMap<K, V, S> {
     /// let none = map.remove_entry(&2); // None: the only key stays
     /// let stays = map.contains_key(&2); // true
     /// ```
-    pub fn remove_entry(&mut self, k: &K) -> Option<(K, V)>
+    pub fn remove_entry<Q: Equivalent<K>>(&mut self, k: Q) -> Option<(K, V)>
         // `None` if and only if the key is absent or the only one; then nothing changes.
-        ensures entries { TakesFoundUnlessLast (get K.eq self.old k.now ≡ None) self.old.entries
-            self.new.entries result (λ p. (get_key K.eq self.old k.now ≡ Some p.0)
-            × (get K.eq self.old k.now ≡ Some p.1)
-            × IsPermutation (remove_entry (K.eq k.now) self.old.entries) self.new.entries) }
-        ensures same { IfSome result (λ p. IsTrue (K.eq k.now p.0)) }
-        ensures updates { IfSome result (λ _. Updates K.eq self.old self.new k.now None) }
+        ensures entries { TakesFoundUnlessLast (get_by (Q.equivalent k) self.old ≡ None)
+            self.old.entries self.new.entries result
+            (λ p. (get_key_by (Q.equivalent k) self.old ≡ Some p.0)
+            × (get_by (Q.equivalent k) self.old ≡ Some p.1)
+            × IsPermutation (remove_entry (Q.equivalent k) self.old.entries) self.new.entries) }
+        ensures same { IfSome result (λ p. IsTrue (Q.equivalent k p.0)) }
+        ensures updates { IfSome result (λ _.
+            UpdatesBy K.eq (Q.equivalent k) self.old self.new None) }
         ensures len { hash_map_len self.new + (if is_some result then 1 else 0)
             ≡ hash_map_len self.old }
         ensures hasher { hasher_of self.new ≡ hasher_of self.old }

@@ -9,10 +9,10 @@ ghost use Rattle.std.specs.Prelude.{◌≡◌, ◌+◌, ◌<◌, ◌≤◌, ◌^
 ghost use Rattle.std.specs.Prelude.{true, false, not, is_some, length, IfOk, IsOk, IsTrue};
 ghost use Rattle.std.specs.Prelude.{MatchOption, OnErr, OnOk, Bool, Some, IfSome, IsErr};
 ghost use Rattle.std.specs.Bool.{OnFalse, OnTrue};
-ghost use Rattle.std.specs.HashSet.{contains, get, hash_set_len, hasher_of, spare, AreKeysOf};
-ghost use Rattle.std.specs.HashSet.{IsDifference, IsDisjoint, IsEmpty, IsIntersection, IsReordered};
-ghost use Rattle.std.specs.HashSet.{IsSubset, IsUnchanged, IsUnion, IsClone, PutsKey, ReplacesKey};
-ghost use Rattle.std.specs.HashSet.{Updates};
+ghost use Rattle.std.specs.HashSet.{contains, contains_by, get, get_by, hash_set_len, hasher_of};
+ghost use Rattle.std.specs.HashSet.{spare, IsDifference, IsDisjoint, IsEmpty, IsIntersection};
+ghost use Rattle.std.specs.HashSet.{IsReordered, IsSubset, IsUnchanged, IsUnion, IsClone, PutsKey};
+ghost use Rattle.std.specs.HashSet.{ReplacesKey, AreKeysOf, Updates, UpdatesBy};
 ghost use Rattle.std.specs.Int.NonZero.{non_zero_usize_get};
 ghost use Rattle.std.specs.Iterator.{ExtendsWithItems, IsFiniteIterable, ActsAsAt};
 ghost use Rattle.std.specs.List.{filter, IsDistinct};
@@ -34,12 +34,12 @@ ghost use Rattle.ne_hash.specs.ValidHashSet.{IsValid};
 
 mod iter;
 mod serialized;
-mod texts;
 mod traits;
 
 pub use iter::{Held, IntoIter, Iter, Union};
 use ne_iter::iter::{ItemSource, NonEmptyIter};
 use std::alloc::{AllocError, Global};
+use std::collections::hash_map::Equivalent;
 use std::collections::{HashSet, hash_set};
 use std::hash::{BuildHasher, BuildHasherDefault, FoldHasher, Hash};
 use std::marker::Model;
@@ -57,10 +57,13 @@ use std::num::NonZeroUsize;
 ///
 /// By `serde` a set is read with the default hasher, so read one of such items as an `NEBTreeSet`.
 ///
+/// Lookups and removals take a `&T`, or a `&str` if the items are `String`s, or a `&[U]` if they
+/// are `Vec<U>`s.
+///
 /// In contracts it is std's record of the set: `contains T.eq s x` says whether an item equal to
-/// `x` is in the set, `s.keys` is the list of the items in the order of iteration,
-/// `IsValid T.eq s` says that there is an item and that no two items are equal, and `hasher_of s`
-/// is the hasher.
+/// `x` is in the set, `contains_text s bs` whether the `String` whose bytes are `bs` is, `s.keys`
+/// is the list of the items in the order of iteration, `IsValid T.eq s` says that there is an item
+/// and that no two items are equal, and `hasher_of s` is the hasher.
 ///
 /// ```
 /// let set = nes![alloc; 2, 1, 2]?;
@@ -287,9 +290,11 @@ impl<T: Eq + Hash, S: BuildHasher> NESet<T, S> {
     /// ```
     /// let set = nes![alloc; 2, 4]?;
     /// let (there, absent) = (set.contains(&4), set.contains(&8)); // true and false
+    /// let names = nes![alloc; String::from_str(alloc, "Ada")?]?;
+    /// let (ada, al) = (names.contains("Ada"), names.contains("Al")); // true and false
     /// ```
-    pub fn contains(&self, value: &T) -> bool
-        ensures { result ≡ contains T.eq self.now value.now }
+    pub fn contains<Q: Equivalent<T>>(&self, value: Q) -> bool
+        ensures { result ≡ contains_by (Q.equivalent value) self.now }
     {
         self.inner.contains(value)
     }
@@ -318,9 +323,9 @@ impl<T: Eq + Hash, S: BuildHasher> NESet<T, S> {
     /// let set = NESet::new(alloc, 8)?;
     /// let (eight, none) = (set.get(&8), set.get(&6)); // Some(&8) and None
     /// ```
-    pub fn get(&self, value: &T) -> Option<&T>
-        ensures item { option_copied result ≡ get T.eq self.now value.now }
-        ensures found { is_some result ≡ contains T.eq self.now value.now }
+    pub fn get<Q: Equivalent<T>>(&self, value: Q) -> Option<&T>
+        ensures item { option_copied result ≡ get_by (Q.equivalent value) self.now }
+        ensures found { is_some result ≡ contains_by (Q.equivalent value) self.now }
     {
         self.inner.get(value)
     }
@@ -363,14 +368,15 @@ impl<T: Eq + Hash, S: BuildHasher> NESet<T, S> {
     /// let only = set.remove(&4); // false: it is the only item
     /// let stays = set.contains(&4); // true
     /// ```
-    pub fn remove(&mut self, value: &T) -> bool
+    pub fn remove<Q: Equivalent<T>>(&mut self, value: Q) -> bool
     where
         T: Drop,
         // `false` if and only if the item is absent or the only one; then nothing changes.
-        ensures keys { RemovesFoundUnlessLast (contains T.eq self.old value.now ≡ false)
+        ensures keys { RemovesFoundUnlessLast (contains_by (Q.equivalent value) self.old ≡ false)
             self.old.keys self.new.keys result
-            (IsPermutation (remove_key (T.eq value.now) self.old.keys) self.new.keys) }
-        ensures updates { OnTrue result (Updates T.eq self.old self.new value.now false) }
+            (IsPermutation (remove_key (Q.equivalent value) self.old.keys) self.new.keys) }
+        ensures updates { OnTrue result
+            (UpdatesBy T.eq (Q.equivalent value) self.old self.new false) }
         ensures len { hash_set_len self.new + (if result then 1 else 0) ≡ hash_set_len self.old }
         ensures hasher { hasher_of self.new ≡ hasher_of self.old }
         ensures valid { IsValid T.eq self.new }
@@ -392,13 +398,15 @@ impl<T: Eq + Hash, S: BuildHasher> NESet<T, S> {
     /// let none = set.take(&2); // None: the only item stays
     /// let stays = set.contains(&2); // true
     /// ```
-    pub fn take(&mut self, value: &T) -> Option<T>
+    pub fn take<Q: Equivalent<T>>(&mut self, value: Q) -> Option<T>
         // `None` if and only if the item is absent or the only one; then nothing changes.
-        ensures keys { TakesFoundUnlessLast (contains T.eq self.old value.now ≡ false)
-            self.old.keys self.new.keys result (λ x. (get T.eq self.old value.now ≡ Some x)
-            × IsPermutation (remove_key (T.eq value.now) self.old.keys) self.new.keys) }
-        ensures same { IfSome result (λ x. IsTrue (T.eq value.now x)) }
-        ensures updates { IfSome result (λ _. Updates T.eq self.old self.new value.now false) }
+        ensures keys { TakesFoundUnlessLast (contains_by (Q.equivalent value) self.old ≡ false)
+            self.old.keys self.new.keys result
+            (λ x. (get_by (Q.equivalent value) self.old ≡ Some x)
+            × IsPermutation (remove_key (Q.equivalent value) self.old.keys) self.new.keys) }
+        ensures same { IfSome result (λ x. IsTrue (Q.equivalent value x)) }
+        ensures updates { IfSome result (λ _.
+            UpdatesBy T.eq (Q.equivalent value) self.old self.new false) }
         ensures len { hash_set_len self.new + (if is_some result then 1 else 0)
             ≡ hash_set_len self.old }
         ensures hasher { hasher_of self.new ≡ hasher_of self.old }

@@ -2,7 +2,7 @@
 -- them, such as `iter_mut` and `get_mut`.
 use Rattle.std.specs.declared.hash.BuildHasher as builder
 use Rattle.std.specs.declared.hash.Hasher as hasher
-use Rattle.std.specs.Prelude.{◌≡◌, ℕ, Option, Result, Some}
+use Rattle.std.specs.Prelude.{◌≡◌, ℕ, Bool, Option, Result, Some}
 use Rattle.std.specs.Borrow.{Array, Fml, GName, MutBor, RattleType, Lends, LendsSo, LendsSoOk}
 use Rattle.std.specs.Borrow.{follows}
 use Rattle.std.specs.HashMap.Lent.{HashMembers}
@@ -34,10 +34,11 @@ module _ (K V S H : RattleType) (key : HashMembers K.Denot)
   abbrev pub LendsValues : MutBor (IndexMap K.Denot V.Denot S.Denot) → GName → Fml
   LendsValues m r = follows map_row (Array V 0) m.ghost_name r (with_values m.now)
 
-  -- After the borrow, m has at k the value last written through r. If r is `None`, m is unchanged.
-  abbrev pub LendsValue : MutBor (IndexMap K.Denot V.Denot S.Denot) → K.Denot
+  -- After the borrow, m has at the key that passes the test the value last written through r. If r
+  -- is `None`, m is unchanged.
+  abbrev pub LendsValue : MutBor (IndexMap K.Denot V.Denot S.Denot) → (K.Denot → Bool)
       → Option (MutBor V.Denot) → Fml
-  LendsValue m k r = LendsSo map_row V m r (λ n w. WritesThrough key.eq (key.eq k) m.now w n)
+  LendsValue m test r = LendsSo map_row V m r (λ n w. WritesThrough key.eq test m.now w n)
       (λ n. n ≡ m.now)
 
   -- After the borrow, the entry of m at the index i has the value last written through r.

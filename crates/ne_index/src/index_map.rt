@@ -20,9 +20,9 @@ ghost use Rattle.std.specs.Map.Iter.{deref, deref_pair, LendsValuesInOrder, Show
 ghost use Rattle.std.specs.Map.Iter.{ShowsValuesInOrder};
 ghost use Rattle.std.specs.Option.{option_copied, option_copied_mut, option_map};
 ghost use Rattle.std.specs.Set.{is_member};
-ghost use Rattle.indexmap.specs.IndexMap.{get, get_key, hasher_of, index_map_len, index_of, keys};
-ghost use Rattle.indexmap.specs.IndexMap.{spare, values, with_value_at, IsEmpty, IsReordered};
-ghost use Rattle.indexmap.specs.IndexMap.{IsUnchanged, IsClone, Updates};
+ghost use Rattle.indexmap.specs.IndexMap.{get, get_by, get_key_by, hasher_of, index_map_len};
+ghost use Rattle.indexmap.specs.IndexMap.{index_of_by, keys, spare, values, with_value_at, IsEmpty};
+ghost use Rattle.indexmap.specs.IndexMap.{IsReordered, IsUnchanged, IsClone, Updates};
 ghost use Rattle.indexmap.specs.Iter.{iter_mut_name, iter_mut_rest, values_mut_name};
 ghost use Rattle.indexmap.specs.Iter.{values_mut_rest, values_mut_steps, IterMutCanStep};
 ghost use Rattle.ne_vec.specs.Lists.{itself};
@@ -39,10 +39,9 @@ ghost use Rattle.ne_index.specs.ValidIndexMap.{IsValid};
 mod iter;
 mod remove;
 mod serialized;
-mod texts;
 mod traits;
 
-use indexmap::{IndexMap, map};
+use indexmap::{Equivalent, IndexMap, map};
 pub use iter::{Held, IntoIter, Iter, IterMut, Keys, Values, ValuesMut};
 use ne_iter::iter::{ItemSource, NonEmptyIter};
 use std::alloc::{AllocError, Global};
@@ -52,9 +51,13 @@ use std::num::NonZeroUsize;
 
 /// An index map that holds at least one key. It wraps [`IndexMap`] of the crate `indexmap`.
 ///
+/// Lookups and removals take a `&K`, or a `&str` if the keys are `String`s, or a `&[T]` if they are
+/// `Vec<T>`s.
+///
 /// In contracts it is the record of the inner map: `m.entries` is the list of the pairs in the
-/// map's order, `get K.eq m k` is the value of the key `k`, `hasher_of m` is the hasher, and
-/// `IsValid K.eq m` says that there is a key and that no two keys are equal.
+/// map's order, `get K.eq m k` is the value of the key `k`, `get_by_text m bs` that of the `String`
+/// whose bytes are `bs`, `hasher_of m` is the hasher, and `IsValid K.eq m` says that there is a key
+/// and that no two keys are equal.
 ///
 /// The default hasher has a fixed seed; the Rust crate's default is `RandomState`. If untrusted
 /// users can choose the keys, create the map by `with_hasher` with `RandomState`.
@@ -491,8 +494,8 @@ impl<K: Eq + Hash, V, S: BuildHasher> NEIndexMap<K, V, S> {
     /// let map = neim![alloc; 4 => 26, 2 => 24]?;
     /// let (there, absent) = (map.contains_key(&2), map.contains_key(&8)); // true and false
     /// ```
-    pub fn contains_key(&self, k: &K) -> bool
-        ensures { result ≡ is_some (get K.eq self.now k.now) }
+    pub fn contains_key<Q: Equivalent<K>>(&self, k: Q) -> bool
+        ensures { result ≡ is_some (get_by (Q.equivalent k) self.now) }
     {
         self.inner.contains_key(k)
     }
@@ -502,9 +505,11 @@ impl<K: Eq + Hash, V, S: BuildHasher> NEIndexMap<K, V, S> {
     /// ```
     /// let map = neim![alloc; 1 => 10, 2 => 20, 1 => 30]?;
     /// let (one, three) = (map.get(&1), map.get(&3)); // Some(&30) and None
+    /// let ages = neim![alloc; String::from_str(alloc, "Ada")? => 36]?;
+    /// let (ada, none) = (ages.get("Ada"), ages.get("Al")); // Some(&36) and None
     /// ```
-    pub fn get(&self, k: &K) -> Option<&V>
-        ensures value { option_copied result ≡ get K.eq self.now k.now }
+    pub fn get<Q: Equivalent<K>>(&self, k: Q) -> Option<&V>
+        ensures value { option_copied result ≡ get_by (Q.equivalent k) self.now }
         ensures member { IfSome result (λ v. IsAmong (values self.now) v.now) }
     {
         self.inner.get(k)
@@ -517,9 +522,9 @@ impl<K: Eq + Hash, V, S: BuildHasher> NEIndexMap<K, V, S> {
     /// let map = neim![alloc; 0 => 3, 2 => 1]?;
     /// let pair = map.get_key_value(&2); // Some((&2, &1))
     /// ```
-    pub fn get_key_value(&self, k: &K) -> Option<(&K, &V)>
-        ensures key { option_map (λ p. p.0.now) result ≡ get_key K.eq self.now k.now }
-        ensures value { option_map (λ p. p.1.now) result ≡ get K.eq self.now k.now }
+    pub fn get_key_value<Q: Equivalent<K>>(&self, k: Q) -> Option<(&K, &V)>
+        ensures key { option_map (λ p. p.0.now) result ≡ get_key_by (Q.equivalent k) self.now }
+        ensures value { option_map (λ p. p.1.now) result ≡ get_by (Q.equivalent k) self.now }
     {
         self.inner.get_key_value(k)
     }
@@ -533,11 +538,11 @@ impl<K: Eq + Hash, V, S: BuildHasher> NEIndexMap<K, V, S> {
     ///     *value = 27; // {4: 27, 2: 24}
     /// }
     /// ```
-    pub fn get_mut(&mut self, k: &K) -> Option<&mut V>
+    pub fn get_mut<Q: Equivalent<K>>(&mut self, k: Q) -> Option<&mut V>
         // Once the reference is gone, the key has the value last written.
         ensures* writes_back { sem 𝓛 (LendsValue K.row V.row S.row S.Hasher.row K.Hash
-            S.BuildHasher S.Hasher.Hasher self.entry k.now result) }
-        ensures value { option_copied_mut result ≡ get K.eq self.old k.now }
+            S.BuildHasher S.Hasher.Hasher self.entry (Q.equivalent k) result) }
+        ensures value { option_copied_mut result ≡ get_by (Q.equivalent k) self.old }
         ensures valid { IsValid K.eq self.old }
     {
         self.inner.get_mut(k)
@@ -550,12 +555,12 @@ impl<K: Eq + Hash, V, S: BuildHasher> NEIndexMap<K, V, S> {
     /// let index = map.get_index_of(&2); // Some(1)
     /// let none = map.get_index_of(&4); // None
     /// ```
-    pub fn get_index_of(&self, k: &K) -> Option<usize>
-        ensures place { result ≡ index_of K.eq self.now k.now }
-        ensures found { is_some result ≡ is_some (get K.eq self.now k.now) }
+    pub fn get_index_of<Q: Equivalent<K>>(&self, k: Q) -> Option<usize>
+        ensures place { result ≡ index_of_by (Q.equivalent k) self.now }
+        ensures found { is_some result ≡ is_some (get_by (Q.equivalent k) self.now) }
         ensures within { IfSome result (λ i. i < index_map_len self.now) }
         ensures value { IfSome result (λ i. slice_get (values self.now) i
-            ≡ get K.eq self.now k.now) }
+            ≡ get_by (Q.equivalent k) self.now) }
         ensures valid { IsValid K.eq self.now }
     {
         self.inner.get_index_of(k)

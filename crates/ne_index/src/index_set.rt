@@ -18,10 +18,11 @@ ghost use Rattle.std.specs.Map.Iter.{deref, ShowsInOrder};
 ghost use Rattle.std.specs.Option.{option_copied};
 ghost use Rattle.std.specs.Fn.{CalledAt};
 ghost use Rattle.std.specs.List.Retain.{IsFiltered};
-ghost use Rattle.indexmap.specs.IndexSet.{contains, difference, get, hasher_of, index_set_len};
-ghost use Rattle.indexmap.specs.IndexSet.{intersection, spare, union, remove_key, swap_remove_by};
-ghost use Rattle.indexmap.specs.IndexSet.{IsDifference, IsDisjoint, IsEmpty, IsIntersection};
-ghost use Rattle.indexmap.specs.IndexSet.{IsSubset, IsUnchanged, IsUnion, IsClone, Updates};
+ghost use Rattle.indexmap.specs.IndexSet.{contains, contains_by, difference, get, get_by};
+ghost use Rattle.indexmap.specs.IndexSet.{hasher_of, index_set_len, intersection, remove_key};
+ghost use Rattle.indexmap.specs.IndexSet.{spare, swap_remove_by, union, IsDifference, IsDisjoint};
+ghost use Rattle.indexmap.specs.IndexSet.{IsEmpty, IsIntersection, IsSubset, IsUnchanged, IsUnion};
+ghost use Rattle.indexmap.specs.IndexSet.{IsClone, Updates, UpdatesBy};
 ghost use Rattle.ne_vec.specs.Lists.{itself};
 ghost use Rattle.ne_vec.specs.Taken.{RemovesFoundUnlessLast, TakesFoundUnlessLast, TakesUnlessLast};
 ghost use Rattle.ne_iter.specs.Keyed.Extends.{ExtendsByList};
@@ -35,10 +36,9 @@ ghost use Rattle.ne_index.specs.ValidIndexSet.{IsValid};
 
 mod iter;
 mod serialized;
-mod texts;
 mod traits;
 
-use indexmap::{IndexSet, set};
+use indexmap::{Equivalent, IndexSet, set};
 pub use iter::{Held, IntoIter, Iter, Union};
 use ne_iter::iter::{ItemSource, NonEmptyIter};
 use std::alloc::{AllocError, Global};
@@ -48,9 +48,13 @@ use std::num::NonZeroUsize;
 
 /// An index set that holds at least one item. It wraps [`IndexSet`] of the crate `indexmap`.
 ///
+/// Lookups and removals take a `&T`, or a `&str` if the items are `String`s, or a `&[U]` if they
+/// are `Vec<U>`s.
+///
 /// In contracts it is the record of the inner set: `s.keys` is the list of the items in the set's
-/// order, `contains T.eq s x` says whether an item equal to `x` is in the set, `hasher_of s` is the
-/// hasher, and `IsValid T.eq s` says that there is an item and that no two items are equal.
+/// order, `contains T.eq s x` says whether an item equal to `x` is in the set, `contains_text s bs`
+/// whether the `String` whose bytes are `bs` is, `hasher_of s` is the hasher, and `IsValid T.eq s`
+/// says that there is an item and that no two items are equal.
 ///
 /// The default hasher has a fixed seed; the Rust crate's default is `RandomState`. If untrusted
 /// users can choose the items, create the set by `with_hasher` with `RandomState`.
@@ -281,9 +285,11 @@ impl<T: Eq + Hash, S: BuildHasher> NEIndexSet<T, S> {
     /// ```
     /// let set = neis![alloc; 2, 4]?;
     /// let (there, absent) = (set.contains(&4), set.contains(&8)); // true and false
+    /// let names = neis![alloc; String::from_str(alloc, "Ada")?]?;
+    /// let (ada, al) = (names.contains("Ada"), names.contains("Al")); // true and false
     /// ```
-    pub fn contains(&self, value: &T) -> bool
-        ensures { result ≡ contains T.eq self.now value.now }
+    pub fn contains<Q: Equivalent<T>>(&self, value: Q) -> bool
+        ensures { result ≡ contains_by (Q.equivalent value) self.now }
     {
         self.inner.contains(value)
     }
@@ -311,9 +317,9 @@ impl<T: Eq + Hash, S: BuildHasher> NEIndexSet<T, S> {
     /// let set = NEIndexSet::new(alloc, 8)?;
     /// let (eight, none) = (set.get(&8), set.get(&6)); // Some(&8) and None
     /// ```
-    pub fn get(&self, value: &T) -> Option<&T>
-        ensures item { option_copied result ≡ get T.eq self.now value.now }
-        ensures found { is_some result ≡ contains T.eq self.now value.now }
+    pub fn get<Q: Equivalent<T>>(&self, value: Q) -> Option<&T>
+        ensures item { option_copied result ≡ get_by (Q.equivalent value) self.now }
+        ensures found { is_some result ≡ contains_by (Q.equivalent value) self.now }
     {
         self.inner.get(value)
     }
@@ -358,14 +364,15 @@ impl<T: Eq + Hash, S: BuildHasher> NEIndexSet<T, S> {
     /// let removed = set.swap_remove(&2); // true, and set is {6, 4}
     /// let absent = set.swap_remove(&8); // false: there is no such item
     /// ```
-    pub fn swap_remove(&mut self, value: &T) -> bool
+    pub fn swap_remove<Q: Equivalent<T>>(&mut self, value: Q) -> bool
     where
         T: Drop,
         // `false` if and only if the item is absent or the only one; then nothing changes.
-        ensures keys { RemovesFoundUnlessLast (contains T.eq self.old value.now ≡ false)
+        ensures keys { RemovesFoundUnlessLast (contains_by (Q.equivalent value) self.old ≡ false)
             self.old.keys self.new.keys result
-            (self.new.keys ≡ swap_remove_by (T.eq value.now) self.old.keys) }
-        ensures updates { OnTrue result (Updates T.eq self.old self.new value.now false) }
+            (self.new.keys ≡ swap_remove_by (Q.equivalent value) self.old.keys) }
+        ensures updates { OnTrue result
+            (UpdatesBy T.eq (Q.equivalent value) self.old self.new false) }
         ensures len { index_set_len self.new + (if result then 1 else 0)
             ≡ index_set_len self.old }
         ensures hasher { hasher_of self.new ≡ hasher_of self.old }
@@ -387,14 +394,15 @@ impl<T: Eq + Hash, S: BuildHasher> NEIndexSet<T, S> {
     /// let removed = set.shift_remove(&2); // true, and set is {4}
     /// let stays = set.shift_remove(&4); // false: the only item stays
     /// ```
-    pub fn shift_remove(&mut self, value: &T) -> bool
+    pub fn shift_remove<Q: Equivalent<T>>(&mut self, value: Q) -> bool
     where
         T: Drop,
         // `false` if and only if the item is absent or the only one; then nothing changes.
-        ensures keys { RemovesFoundUnlessLast (contains T.eq self.old value.now ≡ false)
+        ensures keys { RemovesFoundUnlessLast (contains_by (Q.equivalent value) self.old ≡ false)
             self.old.keys self.new.keys result
-            (self.new.keys ≡ remove_key (T.eq value.now) self.old.keys) }
-        ensures updates { OnTrue result (Updates T.eq self.old self.new value.now false) }
+            (self.new.keys ≡ remove_key (Q.equivalent value) self.old.keys) }
+        ensures updates { OnTrue result
+            (UpdatesBy T.eq (Q.equivalent value) self.old self.new false) }
         ensures len { index_set_len self.new + (if result then 1 else 0)
             ≡ index_set_len self.old }
         ensures hasher { hasher_of self.new ≡ hasher_of self.old }
@@ -416,13 +424,15 @@ impl<T: Eq + Hash, S: BuildHasher> NEIndexSet<T, S> {
     /// let taken = set.swap_take(&2); // Some(2), and set is {6, 4}
     /// let none = set.swap_take(&8); // None: there is no such item
     /// ```
-    pub fn swap_take(&mut self, value: &T) -> Option<T>
+    pub fn swap_take<Q: Equivalent<T>>(&mut self, value: Q) -> Option<T>
         // `None` if and only if the item is absent or the only one; then nothing changes.
-        ensures keys { TakesFoundUnlessLast (contains T.eq self.old value.now ≡ false)
-            self.old.keys self.new.keys result (λ x. (get T.eq self.old value.now ≡ Some x)
-            × (self.new.keys ≡ swap_remove_by (T.eq value.now) self.old.keys)) }
-        ensures same { IfSome result (λ x. IsTrue (T.eq value.now x)) }
-        ensures updates { IfSome result (λ _. Updates T.eq self.old self.new value.now false) }
+        ensures keys { TakesFoundUnlessLast (contains_by (Q.equivalent value) self.old ≡ false)
+            self.old.keys self.new.keys result
+            (λ x. (get_by (Q.equivalent value) self.old ≡ Some x)
+            × (self.new.keys ≡ swap_remove_by (Q.equivalent value) self.old.keys)) }
+        ensures same { IfSome result (λ x. IsTrue (Q.equivalent value x)) }
+        ensures updates { IfSome result (λ _.
+            UpdatesBy T.eq (Q.equivalent value) self.old self.new false) }
         ensures len { index_set_len self.new + (if is_some result then 1 else 0)
             ≡ index_set_len self.old }
         ensures hasher { hasher_of self.new ≡ hasher_of self.old }
@@ -444,13 +454,15 @@ impl<T: Eq + Hash, S: BuildHasher> NEIndexSet<T, S> {
     /// let taken = set.shift_take(&2); // Some(2), and set is {4}
     /// let none = set.shift_take(&4); // None: the only item stays
     /// ```
-    pub fn shift_take(&mut self, value: &T) -> Option<T>
+    pub fn shift_take<Q: Equivalent<T>>(&mut self, value: Q) -> Option<T>
         // `None` if and only if the item is absent or the only one; then nothing changes.
-        ensures keys { TakesFoundUnlessLast (contains T.eq self.old value.now ≡ false)
-            self.old.keys self.new.keys result (λ x. (get T.eq self.old value.now ≡ Some x)
-            × (self.new.keys ≡ remove_key (T.eq value.now) self.old.keys)) }
-        ensures same { IfSome result (λ x. IsTrue (T.eq value.now x)) }
-        ensures updates { IfSome result (λ _. Updates T.eq self.old self.new value.now false) }
+        ensures keys { TakesFoundUnlessLast (contains_by (Q.equivalent value) self.old ≡ false)
+            self.old.keys self.new.keys result
+            (λ x. (get_by (Q.equivalent value) self.old ≡ Some x)
+            × (self.new.keys ≡ remove_key (Q.equivalent value) self.old.keys)) }
+        ensures same { IfSome result (λ x. IsTrue (Q.equivalent value x)) }
+        ensures updates { IfSome result (λ _.
+            UpdatesBy T.eq (Q.equivalent value) self.old self.new false) }
         ensures len { index_set_len self.new + (if is_some result then 1 else 0)
             ≡ index_set_len self.old }
         ensures hasher { hasher_of self.new ≡ hasher_of self.old }

@@ -2,7 +2,8 @@
 //!
 //! Most methods have the names of std's `String` and `str`, with those that always have a value in
 //! place of those that return an `Option`, in the order of the methods of `NEVec`. `iter` has the
-//! non-empty iterators, `traits` the implementations of traits, and `serialized` those of serde.
+//! non-empty iterators, `traits` the implementations of traits, `lookups` those by which a `&str`
+//! looks up a text in a map or set, and `serialized` those of serde.
 //!
 //! A method that removes characters never removes the only one. A method that allocates returns
 //! `AllocError` if the allocation fails, and its comment says what holds after that. Indices and
@@ -24,6 +25,7 @@ ghost use Rattle.ne_string.specs.Characters.{ListsBytes, ListsChars, ReplacesUnl
 ghost use Rattle.ne_string.specs.Characters.{TakesUnlessLastChar, kept_text};
 
 mod iter;
+mod lookups;
 mod serialized;
 mod traits;
 
@@ -42,7 +44,7 @@ use std::slice;
 /// It takes the place of std's `String`, and grows at the end like it. Its first and last
 /// characters always exist. In contracts its value is the list of its bytes, as that of a `&str`,
 /// and `chars` of it is the list of its characters. Methods that don't mention allocation don't
-/// allocate.
+/// allocate. A map or set of texts looks up a `&str`, as in `map.get("Ada")`.
 ///
 /// ```
 /// let mut name = NEString::new(alloc, 'A', "da")?;

@@ -4,6 +4,7 @@ use Rattle.std.specs.contracts.alloc.Global as global
 use Rattle.std.specs.Prelude.{◌≡◌, Option}
 use Rattle.std.specs.Borrow.{Fml, GName, RattleType, MutBor, LendsSo, follows}
 use Rattle.std.specs.contracts.impls.GlobalAllocator.TheImpl.{ghosts}
+use Rattle.std.specs.declared.cmp.Ordering.{Ordering}
 use Rattle.std.specs.BTreeMap.{BTreeMap, WritesThrough, values}
 use Rattle.std.specs.BTreeMap.Lent.{OrdMembers, with_values, map_row as row_of}
 use Rattle.std_collections.specs.declared.btree_map.iter.lent.IterMut.{IterMut as StdIterMut}
@@ -39,8 +40,9 @@ module _ (K V : RattleType) (key : OrdMembers K.Denot) where
   LendsValuesInside m r = follows inner_row inner_row m.ghost_name r
       (λ n. with_values m.now 0 (values n))
 
-  -- After the borrow, m has at k the value last written through r. If r is `None`, m is unchanged.
-  abbrev pub LendsValue : MutBor (BTreeMap K.Denot V.Denot) → K.Denot → Option (MutBor V.Denot)
-      → Fml
-  LendsValue m k r = LendsSo map_row V m r (λ n w. WritesThrough key.cmp (key.cmp k) m.now w n)
+  -- After the borrow, m has at the key that compares as equal the value last written through r. If
+  -- r is `None`, m is unchanged.
+  abbrev pub LendsValue : MutBor (BTreeMap K.Denot V.Denot) → (K.Denot → Ordering)
+      → Option (MutBor V.Denot) → Fml
+  LendsValue m order r = LendsSo map_row V m r (λ n w. WritesThrough key.cmp order m.now w n)
       (λ n. n ≡ m.now)

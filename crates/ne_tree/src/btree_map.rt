@@ -10,9 +10,9 @@ ghost use Rattle.std.specs.Prelude.{◌≡◌, ◌+◌, ◌<◌, ◌^◌, ◌++�
 ghost use Rattle.std.specs.Prelude.{is_some, false, length, take, slice_get, None, Some, IfOk};
 ghost use Rattle.std.specs.Prelude.{IfSome, IsSome, MatchOption, OnErr, OnOk, Bool, IsErr};
 ghost use Rattle.std.specs.Prelude.{Contains, filter};
-ghost use Rattle.std.specs.BTreeMap.{btree_map_len, get, get_key, insert_entry, keys, values};
-ghost use Rattle.std.specs.BTreeMap.{is_at, IsClone, IsEmpty, IsUnchanged, Updates, IsLowerBound};
-ghost use Rattle.std.specs.BTreeMap.{IsRun, IsUpperBound};
+ghost use Rattle.std.specs.BTreeMap.{btree_map_len, get, get_by, get_key_by, insert_entry, is_at};
+ghost use Rattle.std.specs.BTreeMap.{keys, values, IsClone, IsEmpty, IsUnchanged, Updates};
+ghost use Rattle.std.specs.BTreeMap.{IsLowerBound, IsRun, IsUpperBound, UpdatesBy};
 ghost use Rattle.std.specs.BTreeMap.IterMut.{iter_mut_rest, values_mut_rest, values_mut_steps};
 ghost use Rattle.std.specs.BTreeMap.IterMut.{iter_mut_name, values_mut_name, IterMutCanStep};
 ghost use Rattle.std.specs.BTreeMap.Lent.{KeepsKeys};
@@ -46,12 +46,12 @@ ghost use Rattle.ne_tree.specs.ValidTreeMap.{IsValid};
 
 mod iter;
 mod serialized;
-mod texts;
 mod traits;
 
 pub use iter::{Held, IntoIter, IntoKeys, IntoValues, Iter, IterMut, Keys, Values, ValuesMut};
 use ne_iter::iter::{ItemSource, NonEmptyIter};
 use std::alloc::{AllocError, Global};
+use std::collections::btree_map::Comparable;
 use std::collections::{BTreeMap, btree_map};
 use std::marker::Model;
 use std::num::NonZeroUsize;
@@ -59,9 +59,13 @@ use std::ops::RangeBounds;
 
 /// A tree map that holds at least one key. It wraps std's [`BTreeMap`].
 ///
+/// Lookups and removals take a `&K`, or a `&str` if the keys are `String`s, or a `&[T]` if they are
+/// `Vec<T>`s.
+///
 /// In contracts it is std's record of the map: `get K.cmp m k` is the value of the key `k`,
-/// `m.entries` is the list of the pairs in ascending order of the keys, and `IsValid K.cmp m` says
-/// that there is a key and that the keys are in that order.
+/// `get_by_text m bs` that of the `String` whose bytes are `bs`, `m.entries` is the list of the
+/// pairs in ascending order of the keys, and `IsValid K.cmp m` says that there is a key and that
+/// the keys are in that order.
 ///
 /// Equality and order are lawful, as the laws of their traits require. That a clone equals its
 /// original is assumed only where a clause says so.
@@ -392,8 +396,8 @@ impl<K: Ord, V> NEBTreeMap<K, V> {
     /// let map = nebtm![alloc; 2 => 24, 4 => 26]?;
     /// let (there, absent) = (map.contains_key(&2), map.contains_key(&8)); // true and false
     /// ```
-    pub fn contains_key(&self, k: &K) -> bool
-        ensures { result ≡ is_some (get K.cmp self.now k.now) }
+    pub fn contains_key<Q: Comparable<K>>(&self, k: Q) -> bool
+        ensures { result ≡ is_some (get_by (Q.compare k) self.now) }
     {
         self.inner.contains_key(k)
     }
@@ -403,9 +407,11 @@ impl<K: Ord, V> NEBTreeMap<K, V> {
     /// ```
     /// let map = nebtm![alloc; 1 => 10, 2 => 20, 1 => 30]?;
     /// let (one, three) = (map.get(&1), map.get(&3)); // Some(&30) and None
+    /// let ages = nebtm![alloc; String::from_str(alloc, "Ada")? => 36]?;
+    /// let (ada, none) = (ages.get("Ada"), ages.get("Al")); // Some(&36) and None
     /// ```
-    pub fn get(&self, k: &K) -> Option<&V>
-        ensures value { option_copied result ≡ get K.cmp self.now k.now }
+    pub fn get<Q: Comparable<K>>(&self, k: Q) -> Option<&V>
+        ensures value { option_copied result ≡ get_by (Q.compare k) self.now }
         ensures member { IfSome result (λ v. IsAmong (values self.now) v.now) }
     {
         self.inner.get(k)
@@ -418,9 +424,9 @@ impl<K: Ord, V> NEBTreeMap<K, V> {
     /// let map = nebtm![alloc; 0 => 3, 2 => 1]?;
     /// let pair = map.get_key_value(&2); // Some((&2, &1))
     /// ```
-    pub fn get_key_value(&self, k: &K) -> Option<(&K, &V)>
-        ensures key { option_map (λ p. p.0.now) result ≡ get_key K.cmp self.now k.now }
-        ensures value { option_map (λ p. p.1.now) result ≡ get K.cmp self.now k.now }
+    pub fn get_key_value<Q: Comparable<K>>(&self, k: Q) -> Option<(&K, &V)>
+        ensures key { option_map (λ p. p.0.now) result ≡ get_key_by (Q.compare k) self.now }
+        ensures value { option_map (λ p. p.1.now) result ≡ get_by (Q.compare k) self.now }
     {
         self.inner.get_key_value(k)
     }
@@ -434,10 +440,11 @@ impl<K: Ord, V> NEBTreeMap<K, V> {
     ///     *value = 27; // {2: 24, 4: 27}
     /// }
     /// ```
-    pub fn get_mut(&mut self, k: &K) -> Option<&mut V>
+    pub fn get_mut<Q: Comparable<K>>(&mut self, k: Q) -> Option<&mut V>
         // Once the reference is gone, the key has the value last written.
-        ensures* writes_back { sem 𝓛 (LendsValue K.row V.row K.Ord self.entry k.now result) }
-        ensures value { option_copied_mut result ≡ get K.cmp self.old k.now }
+        ensures* writes_back { sem 𝓛 (LendsValue K.row V.row K.Ord self.entry (Q.compare k)
+            result) }
+        ensures value { option_copied_mut result ≡ get_by (Q.compare k) self.old }
         ensures valid { IsValid K.cmp self.old }
     {
         self.inner.get_mut(k)
@@ -514,14 +521,16 @@ impl<K: Ord, V> NEBTreeMap<K, V> {
     /// let removed = map.remove(&2); // Some(24), and map is {4: 26}
     /// let none = map.remove(&4); // None: the only key stays
     /// ```
-    pub fn remove(&mut self, k: &K) -> Option<V>
+    pub fn remove<Q: Comparable<K>>(&mut self, k: Q) -> Option<V>
     where
         K: Drop,
         // `None` if and only if the key is absent or the only one; then nothing changes.
-        ensures entries { TakesFoundUnlessLast (get K.cmp self.old k.now ≡ None) self.old.entries
-            self.new.entries result (λ v. (get K.cmp self.old k.now ≡ Some v)
-            × (self.new.entries ≡ remove_entry (is_at (K.cmp k.now)) self.old.entries)) }
-        ensures updates { IfSome result (λ _. Updates K.cmp self.old self.new k.now None) }
+        ensures entries { TakesFoundUnlessLast (get_by (Q.compare k) self.old ≡ None)
+            self.old.entries self.new.entries result
+            (λ v. (get_by (Q.compare k) self.old ≡ Some v)
+            × (self.new.entries ≡ remove_entry (is_at (Q.compare k)) self.old.entries)) }
+        ensures updates { IfSome result (λ _.
+            UpdatesBy K.cmp (Q.compare k) self.old self.new None) }
         ensures len { btree_map_len self.new + (if is_some result then 1 else 0)
             ≡ btree_map_len self.old }
         ensures valid { IsValid K.cmp self.new }
@@ -541,14 +550,16 @@ impl<K: Ord, V> NEBTreeMap<K, V> {
     /// let removed = map.remove_entry(&4); // Some((4, 26)), and map is {2: 24}
     /// let none = map.remove_entry(&2); // None: the only key stays
     /// ```
-    pub fn remove_entry(&mut self, k: &K) -> Option<(K, V)>
+    pub fn remove_entry<Q: Comparable<K>>(&mut self, k: Q) -> Option<(K, V)>
         // `None` if and only if the key is absent or the only one; then nothing changes.
-        ensures entries { TakesFoundUnlessLast (get K.cmp self.old k.now ≡ None) self.old.entries
-            self.new.entries result (λ p. (get_key K.cmp self.old k.now ≡ Some p.0)
-            × (get K.cmp self.old k.now ≡ Some p.1)
-            × (self.new.entries ≡ remove_entry (is_at (K.cmp k.now)) self.old.entries)) }
-        ensures same { IfSome result (λ p. K.cmp k.now p.0 ≡ Equal) }
-        ensures updates { IfSome result (λ _. Updates K.cmp self.old self.new k.now None) }
+        ensures entries { TakesFoundUnlessLast (get_by (Q.compare k) self.old ≡ None)
+            self.old.entries self.new.entries result
+            (λ p. (get_key_by (Q.compare k) self.old ≡ Some p.0)
+            × (get_by (Q.compare k) self.old ≡ Some p.1)
+            × (self.new.entries ≡ remove_entry (is_at (Q.compare k)) self.old.entries)) }
+        ensures same { IfSome result (λ p. Q.compare k p.0 ≡ Equal) }
+        ensures updates { IfSome result (λ _.
+            UpdatesBy K.cmp (Q.compare k) self.old self.new None) }
         ensures len { btree_map_len self.new + (if is_some result then 1 else 0)
             ≡ btree_map_len self.old }
         ensures valid { IsValid K.cmp self.new }

@@ -9,11 +9,11 @@ ghost use Rattle.std.specs.Prelude.{◌≡◌, ◌+◌, ◌<◌, ◌^◌, ◌↔
 ghost use Rattle.std.specs.Prelude.{true, false, not, is_some, length, take, slice_get, IfOk};
 ghost use Rattle.std.specs.Prelude.{IsTrue, MatchOption, OnErr, OnOk, Bool, Some, IfSome, IsErr};
 ghost use Rattle.std.specs.Bool.{OnFalse, OnTrue};
-ghost use Rattle.std.specs.BTreeSet.{btree_set_len, contains, difference, get, insert_key};
-ghost use Rattle.std.specs.BTreeSet.{intersection, replace_key, union, keys_between, IsDifference};
-ghost use Rattle.std.specs.BTreeSet.{IsDisjoint, IsEmpty, IsIntersection, IsSubset, IsClone};
-ghost use Rattle.std.specs.BTreeSet.{IsUnchanged, IsUnion, Updates, IsKeyRangeOf, IsLowerBound};
-ghost use Rattle.std.specs.BTreeSet.{IsRun, IsUpperBound};
+ghost use Rattle.std.specs.BTreeSet.{btree_set_len, contains, contains_by, difference, get, get_by};
+ghost use Rattle.std.specs.BTreeSet.{insert_key, intersection, keys_between, replace_key, union};
+ghost use Rattle.std.specs.BTreeSet.{IsDifference, IsDisjoint, IsEmpty, IsIntersection, IsSubset};
+ghost use Rattle.std.specs.BTreeSet.{IsClone, IsUnchanged, IsUnion, Updates, IsKeyRangeOf};
+ghost use Rattle.std.specs.BTreeSet.{IsLowerBound, IsRun, IsUpperBound, UpdatesBy};
 ghost use Rattle.std.specs.Int.NonZero.{non_zero_usize_get};
 ghost use Rattle.std.specs.Iterator.{ExtendsWithItems, IsFiniteIterable, ActsAsAt};
 ghost use Rattle.std.specs.List.Sorted.{IsStrictlySortedBy};
@@ -38,12 +38,12 @@ ghost use Rattle.ne_tree.specs.ValidTreeSet.{IsValid};
 
 mod iter;
 mod serialized;
-mod texts;
 mod traits;
 
 pub use iter::{Held, IntoIter, Iter, Union};
 use ne_iter::iter::{ItemSource, NonEmptyIter};
 use std::alloc::{AllocError, Global};
+use std::collections::btree_map::Comparable;
 use std::collections::{BTreeSet, btree_set};
 use std::marker::Model;
 use std::num::NonZeroUsize;
@@ -51,9 +51,13 @@ use std::ops::RangeBounds;
 
 /// A tree set that holds at least one item. It wraps std's [`BTreeSet`].
 ///
+/// Lookups and removals take a `&T`, or a `&str` if the items are `String`s, or a `&[U]` if they
+/// are `Vec<U>`s.
+///
 /// In contracts it is std's record of the set: `contains T.cmp s x` says whether an item equal to
-/// `x` is in the set, `s.keys` is the list of the items in ascending order, and `IsValid T.cmp s`
-/// says that there is an item and that they are in that order.
+/// `x` is in the set, `contains_text s bs` whether the `String` whose bytes are `bs` is, `s.keys`
+/// is the list of the items in ascending order, and `IsValid T.cmp s` says that there is an item
+/// and that they are in that order.
 ///
 /// ```
 /// let set = nebts![alloc; 2, 1, 2]?;
@@ -223,9 +227,11 @@ impl<T: Ord> NEBTreeSet<T> {
     /// ```
     /// let set = nebts![alloc; 2, 4]?;
     /// let (there, absent) = (set.contains(&4), set.contains(&8)); // true and false
+    /// let names = nebts![alloc; String::from_str(alloc, "Ada")?]?;
+    /// let (ada, al) = (names.contains("Ada"), names.contains("Al")); // true and false
     /// ```
-    pub fn contains(&self, value: &T) -> bool
-        ensures { result ≡ contains T.cmp self.now value.now }
+    pub fn contains<Q: Comparable<T>>(&self, value: Q) -> bool
+        ensures { result ≡ contains_by (Q.compare value) self.now }
     {
         self.inner.contains(value)
     }
@@ -253,9 +259,9 @@ impl<T: Ord> NEBTreeSet<T> {
     /// let set = nebts![alloc; 1, 2]?;
     /// let (two, none) = (set.get(&2), set.get(&0)); // Some(&2) and None
     /// ```
-    pub fn get(&self, value: &T) -> Option<&T>
-        ensures item { option_copied result ≡ get T.cmp self.now value.now }
-        ensures found { is_some result ≡ contains T.cmp self.now value.now }
+    pub fn get<Q: Comparable<T>>(&self, value: Q) -> Option<&T>
+        ensures item { option_copied result ≡ get_by (Q.compare value) self.now }
+        ensures found { is_some result ≡ contains_by (Q.compare value) self.now }
     {
         self.inner.get(value)
     }
@@ -323,14 +329,15 @@ impl<T: Ord> NEBTreeSet<T> {
     /// let removed = set.remove(&2); // true, and set is {4}
     /// let kept = set.remove(&4); // false: the only item stays
     /// ```
-    pub fn remove(&mut self, value: &T) -> bool
+    pub fn remove<Q: Comparable<T>>(&mut self, value: Q) -> bool
     where
         T: Drop,
         // `false` if and only if the item is absent or the only one; then nothing changes.
-        ensures keys { RemovesFoundUnlessLast (contains T.cmp self.old value.now ≡ false)
+        ensures keys { RemovesFoundUnlessLast (contains_by (Q.compare value) self.old ≡ false)
             self.old.keys self.new.keys result
-            (self.new.keys ≡ remove_key (is_at (T.cmp value.now)) self.old.keys) }
-        ensures updates { OnTrue result (Updates T.cmp self.old self.new value.now false) }
+            (self.new.keys ≡ remove_key (is_at (Q.compare value)) self.old.keys) }
+        ensures updates { OnTrue result
+            (UpdatesBy T.cmp (Q.compare value) self.old self.new false) }
         ensures len { btree_set_len self.new + (if result then 1 else 0)
             ≡ btree_set_len self.old }
         ensures valid { IsValid T.cmp self.new }
@@ -350,13 +357,15 @@ impl<T: Ord> NEBTreeSet<T> {
     /// let taken = set.take(&4); // Some(4), and set is {2}
     /// let none = set.take(&2); // None: the only item stays
     /// ```
-    pub fn take(&mut self, value: &T) -> Option<T>
+    pub fn take<Q: Comparable<T>>(&mut self, value: Q) -> Option<T>
         // `None` if and only if the item is absent or the only one; then nothing changes.
-        ensures keys { TakesFoundUnlessLast (contains T.cmp self.old value.now ≡ false)
-            self.old.keys self.new.keys result (λ x. (get T.cmp self.old value.now ≡ Some x)
-            × (self.new.keys ≡ remove_key (is_at (T.cmp value.now)) self.old.keys)) }
-        ensures same { IfSome result (λ x. T.cmp value.now x ≡ Equal) }
-        ensures updates { IfSome result (λ _. Updates T.cmp self.old self.new value.now false) }
+        ensures keys { TakesFoundUnlessLast (contains_by (Q.compare value) self.old ≡ false)
+            self.old.keys self.new.keys result
+            (λ x. (get_by (Q.compare value) self.old ≡ Some x)
+            × (self.new.keys ≡ remove_key (is_at (Q.compare value)) self.old.keys)) }
+        ensures same { IfSome result (λ x. Q.compare value x ≡ Equal) }
+        ensures updates { IfSome result (λ _.
+            UpdatesBy T.cmp (Q.compare value) self.old self.new false) }
         ensures len { btree_set_len self.new + (if is_some result then 1 else 0)
             ≡ btree_set_len self.old }
         ensures valid { IsValid T.cmp self.new }

@@ -1,19 +1,23 @@
 //! Hashed maps and sets.
 ghost use Rattle.std.specs.Prelude.{◌≡◌, ◌+◌, ◌++◌, ◌↔◌, [], ◌∷◌, map, nat_eq, IfOk, IsTrue};
 ghost use Rattle.std.specs.Prelude.{◌%◌, ◌⊎◌, filter, ltb, IfSome, MatchOption, None, Ok, OnOk};
-ghost use Rattle.std.specs.Prelude.{Some};
-ghost use Rattle.std.specs.HashMap.{get, get_by_text, IsUnchanged};
-ghost use Rattle.std.specs.HashSet.{contains, IsSameSet, IsUnion};
+ghost use Rattle.std.specs.Prelude.{Some, IsSome, false};
+ghost use Rattle.std.specs.HashMap.{get, get_by, get_by_text, IsUnchanged};
+ghost use Rattle.std.specs.HashSet.{contains, contains_text, IsSameSet, IsUnion};
+ghost use Rattle.std.specs.Str.{bytes_eq};
 ghost use Rattle.std.specs.String.{string_bytes};
 ghost use Rattle.nonempty_collections.specs.Collected.{IsMapOfPairs, IsSetOf};
 ghost use Rattle.nonempty_collections.specs.Pairs.{cartesian_product};
 ghost use Rattle.nonempty_collections.specs.SameMap.{IsSameMap};
 
 use crate::two;
+use ne_string::NEString;
 use nonempty_collections::{
     IntoNonEmptyIterator, NEMap, NESet, NEVec, NonEmptyIterator, NonEmptyItertools,
 };
 use std::alloc::{AllocError, Global};
+use std::collections::hash_map::Equivalent;
+use std::hash::Hash;
 
 /// Returns the sum of each key and its value, in the order of the map.
 pub fn sums(alloc: Global, m: NEMap<u16, u16>) -> Result<NEVec<u32>, AllocError>
@@ -106,7 +110,7 @@ pub fn removed_value(map: &mut NEMap<u32, u32>, k: u32) -> Option<u32>
 pub fn value_of_text(map: &NEMap<String, u32>, k: &str) -> Option<u32>
     ensures { result ≡ get_by_text map.now k.now }
 {
-    map.get_by_text(k).copied()
+    map.get(k).copied()
 }
 
 /// Inserts a key, which is then found as a text.
@@ -123,7 +127,43 @@ pub fn removed_text(map: &mut NEMap<String, u32>, k: &str) -> Option<u32>
     ensures new { IfSome result (λ _. get_by_text map.new k.now ≡ None) }
     ensures none { result ≡ None → IsUnchanged map.old map.new }
 {
-    map.remove_by_text(k)
+    map.remove(k)
+}
+
+/// Writes the value of a key that is a text, and returns whether the key is there.
+pub fn write_text(map: &mut NEMap<String, u32>, k: &str, v: u32) -> bool
+    ensures found { IsTrue result ↔ IsSome (get_by_text map.old k.now) }
+    ensures value { IsTrue result → get_by_text map.new k.now ≡ Some v }
+{
+    match map.get_mut(k) {
+        Some(value) => {
+            *value = v;
+            true
+        }
+        None => false,
+    }
+}
+
+/// Removes an item that is a text, and returns whether it was removed.
+pub fn removed_item(set: &mut NESet<String>, text: &str) -> bool
+    ensures old { IsTrue result → IsTrue (contains_text set.old text.now) }
+    ensures new { IsTrue result → contains_text set.new text.now ≡ false }
+{
+    set.remove(text)
+}
+
+/// Returns the value of a key that is a nonempty text.
+pub fn value_of_name(map: &NEMap<NEString, u32>, name: &str) -> Option<u32>
+    ensures { result ≡ get bytes_eq map.now name.now }
+{
+    map.get(name).copied()
+}
+
+/// Returns the value of the key that is equivalent to what is looked up.
+pub fn value_of<K: Eq + Hash, Q: Equivalent<K>>(map: &NEMap<K, u32>, k: Q) -> Option<u32>
+    ensures { result ≡ get_by (Q.equivalent k) map.now }
+{
+    map.get(k).copied()
 }
 
 /// Returns the entries with even values, or `None` if there are none.

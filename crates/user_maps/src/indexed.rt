@@ -1,19 +1,23 @@
 //! Index maps and sets.
 ghost use Rattle.std.specs.Prelude.{◌≡◌, ◌≤◌, ◌+◌, ◌/◌, ◌++◌, ◌↔◌, [], ◌∷◌, map, nat_eq, IfOk};
 ghost use Rattle.std.specs.Prelude.{All, IfSome, IsTrue, MatchOption, None, OnOk, Some, true};
-ghost use Rattle.std.specs.Prelude.{◌%◌, ◌⊎◌, ◌<◌, ◌^◌, filter, ltb, slice_get};
+ghost use Rattle.std.specs.Prelude.{◌%◌, ◌⊎◌, ◌<◌, ◌^◌, filter, ltb, slice_get, IsSome, false};
 ghost use Rattle.std.specs.Option.{unwrap_or};
+ghost use Rattle.std.specs.Str.{bytes_eq};
 ghost use Rattle.std.specs.String.{string_bytes};
-ghost use Rattle.indexmap.specs.IndexMap.{get, get_by_text, keys, values};
-ghost use Rattle.indexmap.specs.IndexSet.{contains, union, IsSameSet};
+ghost use Rattle.indexmap.specs.IndexMap.{get, get_by, get_by_text, keys, values};
+ghost use Rattle.indexmap.specs.IndexSet.{contains, contains_text, union, IsSameSet};
 ghost use Rattle.nonempty_collections.specs.KeyList.{key_list, IsKeyListMapOf};
 ghost use Rattle.nonempty_collections.specs.SameMap.{IsSameMap};
 
 use crate::two;
+use indexmap::Equivalent;
+use ne_string::NEString;
 use nonempty_collections::{
     IntoNonEmptyIterator, NEIndexMap, NEIndexSet, NEVec, NonEmptyIterator, neis,
 };
 use std::alloc::{AllocError, Global};
+use std::hash::Hash;
 
 /// Inserts a key, which is the last one if it is new, and returns whether it is.
 pub fn put_last(map: &mut NEIndexMap<u32, u32>, k: u32, v: u32) -> Result<bool, AllocError>
@@ -156,7 +160,7 @@ pub fn removed_value(map: &mut NEIndexMap<u32, u32>, k: u32) -> Option<u32>
 pub fn value_of_text(map: &NEIndexMap<String, u32>, k: &str) -> Option<u32>
     ensures { result ≡ get_by_text map.now k.now }
 {
-    map.get_by_text(k).copied()
+    map.get(k).copied()
 }
 
 /// Inserts a key, which is then found as a text.
@@ -173,7 +177,43 @@ pub fn removed_text(map: &mut NEIndexMap<String, u32>, k: &str) -> Option<u32>
     ensures new { IfSome result (λ _. get_by_text map.new k.now ≡ None) }
     ensures none { result ≡ None → map.new.entries ≡ map.old.entries }
 {
-    map.shift_remove_by_text(k)
+    map.shift_remove(k)
+}
+
+/// Writes the value of a key that is a text, and returns whether the key is there.
+pub fn write_text(map: &mut NEIndexMap<String, u32>, k: &str, v: u32) -> bool
+    ensures found { IsTrue result ↔ IsSome (get_by_text map.old k.now) }
+    ensures value { IsTrue result → get_by_text map.new k.now ≡ Some v }
+{
+    match map.get_mut(k) {
+        Some(value) => {
+            *value = v;
+            true
+        }
+        None => false,
+    }
+}
+
+/// Removes an item that is a text, and returns whether it was removed.
+pub fn removed_item(set: &mut NEIndexSet<String>, text: &str) -> bool
+    ensures old { IsTrue result → IsTrue (contains_text set.old text.now) }
+    ensures new { IsTrue result → contains_text set.new text.now ≡ false }
+{
+    set.shift_remove(text)
+}
+
+/// Returns the value of a key that is a nonempty text.
+pub fn value_of_name(map: &NEIndexMap<NEString, u32>, name: &str) -> Option<u32>
+    ensures { result ≡ get bytes_eq map.now name.now }
+{
+    map.get(name).copied()
+}
+
+/// Returns the value of the key that is equivalent to what is looked up.
+pub fn value_of<K: Eq + Hash, Q: Equivalent<K>>(map: &NEIndexMap<K, u32>, k: Q) -> Option<u32>
+    ensures { result ≡ get_by (Q.equivalent k) map.now }
+{
+    map.get(k).copied()
 }
 
 /// Returns the entries with even values, or `None` if there are none.

@@ -49,7 +49,7 @@ pub fn totals_by_customer(
     let (first, rest) = sales.split_first();
     let mut totals = NEBTreeMap::new(alloc, first.customer.clone()?, u64::from(first.amount))?;
     for sale in rest {
-        let so_far = totals.get_by_text(&sale.customer).copied().unwrap_or(0);
+        let so_far = totals.get(&sale.customer).copied().unwrap_or(0);
         let key = sale.customer.clone()?;
         totals.insert(key, so_far + u64::from(sale.amount))?;
     }

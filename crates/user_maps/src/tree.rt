@@ -1,9 +1,10 @@
 //! Tree maps and sets.
 ghost use Rattle.std.specs.Prelude.{◌≡◌, ◌+◌, ◌≤◌, ◌≢◌, ◌/◌, ◌++◌, ◌↔◌, [], ◌∷◌, ℕ, map, nat_eq};
 ghost use Rattle.std.specs.Prelude.{All, Contains, IfOk, IfSome, IsSome, IsTrue, None, OnOk, Some};
-ghost use Rattle.std.specs.Prelude.{◌%◌, ◌⊎◌, filter, ltb, MatchOption};
-ghost use Rattle.std.specs.BTreeMap.{get, get_by_text, keys, values, IsUnchanged};
-ghost use Rattle.std.specs.BTreeSet.{contains, union, IsSameSet};
+ghost use Rattle.std.specs.Prelude.{◌%◌, ◌⊎◌, false, filter, ltb, MatchOption};
+ghost use Rattle.std.specs.BTreeMap.{get, get_by, get_by_text, keys, values, IsUnchanged};
+ghost use Rattle.std.specs.BTreeSet.{contains, contains_text, union, IsSameSet};
+ghost use Rattle.std.specs.Cmp.Lexicographic.{slice_cmp};
 ghost use Rattle.std.specs.Ordering.{nat_cmp};
 ghost use Rattle.std.specs.String.{string_bytes};
 ghost use Rattle.nonempty_collections.specs.Collected.{IsMapOfPairs, IsSetOf};
@@ -11,8 +12,10 @@ ghost use Rattle.nonempty_collections.specs.KeptEntries.{kept_entries};
 ghost use Rattle.nonempty_collections.specs.SameMap.{IsSameMap};
 
 use crate::two;
+use ne_string::NEString;
 use nonempty_collections::{IntoNonEmptyIterator, NEBTreeMap, NEBTreeSet, NEVec, NonEmptyIterator};
 use std::alloc::{AllocError, Global};
+use std::collections::btree_map::Comparable;
 
 /// Returns the value of a key that was inserted.
 pub fn put_and_look_up(map: &mut NEBTreeMap<u32, u32>, k: u32, v: u32) -> Result<u32, AllocError>
@@ -141,7 +144,7 @@ pub fn removed_value(map: &mut NEBTreeMap<u32, u32>, k: u32) -> Option<u32>
 pub fn value_of_text(map: &NEBTreeMap<String, u32>, k: &str) -> Option<u32>
     ensures { result ≡ get_by_text map.now k.now }
 {
-    map.get_by_text(k).copied()
+    map.get(k).copied()
 }
 
 /// Inserts a key, which is then found as a text.
@@ -158,7 +161,43 @@ pub fn removed_text(map: &mut NEBTreeMap<String, u32>, k: &str) -> Option<u32>
     ensures new { IfSome result (λ _. get_by_text map.new k.now ≡ None) }
     ensures none { result ≡ None → IsUnchanged map.old map.new }
 {
-    map.remove_by_text(k)
+    map.remove(k)
+}
+
+/// Writes the value of a key that is a text, and returns whether the key is there.
+pub fn write_text(map: &mut NEBTreeMap<String, u32>, k: &str, v: u32) -> bool
+    ensures found { IsTrue result ↔ IsSome (get_by_text map.old k.now) }
+    ensures value { IsTrue result → get_by_text map.new k.now ≡ Some v }
+{
+    match map.get_mut(k) {
+        Some(value) => {
+            *value = v;
+            true
+        }
+        None => false,
+    }
+}
+
+/// Removes an item that is a text, and returns whether it was removed.
+pub fn removed_item(set: &mut NEBTreeSet<String>, text: &str) -> bool
+    ensures old { IsTrue result → IsTrue (contains_text set.old text.now) }
+    ensures new { IsTrue result → contains_text set.new text.now ≡ false }
+{
+    set.remove(text)
+}
+
+/// Returns the value of a key that is a nonempty text.
+pub fn value_of_name(map: &NEBTreeMap<NEString, u32>, name: &str) -> Option<u32>
+    ensures { result ≡ get (slice_cmp nat_cmp) map.now name.now }
+{
+    map.get(name).copied()
+}
+
+/// Returns the value of the key that compares as equal to what is looked up.
+pub fn value_of<K: Ord, Q: Comparable<K>>(map: &NEBTreeMap<K, u32>, k: Q) -> Option<u32>
+    ensures { result ≡ get_by (Q.compare k) map.now }
+{
+    map.get(k).copied()
 }
 
 /// Returns the entries with even values, or `None` if there are none.

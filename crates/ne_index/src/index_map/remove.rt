@@ -3,15 +3,16 @@
 ghost use Rattle.std.specs.Prelude.{◌≡◌, ◌+◌, ◌-◌, ◌++◌, [], ◌∷◌, if◌then◌else◌, ◌↔◌, is_some};
 ghost use Rattle.std.specs.Prelude.{filter, take, None, Some, IfSome, Bool, IsErr, IsTrue};
 ghost use Rattle.std.specs.Map.Calls.{CallableOnEachPair, CalledAtPair, RetainsPairs, TakesPair};
-ghost use Rattle.indexmap.specs.IndexMap.{get, get_key, hasher_of, index_map_len};
+ghost use Rattle.indexmap.specs.IndexMap.{get_by, get_key_by, hasher_of, index_map_len};
 ghost use Rattle.indexmap.specs.IndexMap.{shift_remove_entry, swap_remove_entry, Updates, IsEmpty};
+ghost use Rattle.indexmap.specs.IndexMap.{UpdatesBy};
 ghost use Rattle.ne_vec.specs.Taken.{TakesFoundUnlessLast, TakesUnlessLast};
 ghost use Rattle.ne_iter.specs.Keyed.KeptEntries.{either_way, kept_entries, ActsAsAtEntry};
 ghost use Rattle.ne_iter.specs.Keyed.KeptEntries.{TestsEntries};
 ghost use Rattle.ne_index.specs.ValidIndexMap.{IsValid};
 
 use super::NEIndexMap;
-use indexmap::IndexMap;
+use indexmap::{Equivalent, IndexMap};
 use std::hash::{BuildHasher, Hash};
 
 impl<K: Eq + Hash, V, S: BuildHasher> NEIndexMap<K, V, S> {
@@ -24,14 +25,16 @@ impl<K: Eq + Hash, V, S: BuildHasher> NEIndexMap<K, V, S> {
     /// let removed = map.swap_remove(&2); // Some(24), and map is {6: 23, 4: 26}
     /// let none = map.swap_remove(&8); // None: there is no such key
     /// ```
-    pub fn swap_remove(&mut self, k: &K) -> Option<V>
+    pub fn swap_remove<Q: Equivalent<K>>(&mut self, k: Q) -> Option<V>
     where
         K: Drop,
         // `None` if and only if the key is absent or the only one; then nothing changes.
-        ensures entries { TakesFoundUnlessLast (get K.eq self.old k.now ≡ None) self.old.entries
-            self.new.entries result (λ v. (get K.eq self.old k.now ≡ Some v)
-            × (self.new.entries ≡ swap_remove_entry (K.eq k.now) self.old.entries)) }
-        ensures updates { IfSome result (λ _. Updates K.eq self.old self.new k.now None) }
+        ensures entries { TakesFoundUnlessLast (get_by (Q.equivalent k) self.old ≡ None)
+            self.old.entries self.new.entries result
+            (λ v. (get_by (Q.equivalent k) self.old ≡ Some v)
+            × (self.new.entries ≡ swap_remove_entry (Q.equivalent k) self.old.entries)) }
+        ensures updates { IfSome result (λ _.
+            UpdatesBy K.eq (Q.equivalent k) self.old self.new None) }
         ensures len { index_map_len self.new + (if is_some result then 1 else 0)
             ≡ index_map_len self.old }
         ensures hasher { hasher_of self.new ≡ hasher_of self.old }
@@ -53,14 +56,16 @@ impl<K: Eq + Hash, V, S: BuildHasher> NEIndexMap<K, V, S> {
     /// let removed = map.shift_remove(&2); // Some(24), and map is {4: 26}
     /// let none = map.shift_remove(&4); // None: the only entry stays
     /// ```
-    pub fn shift_remove(&mut self, k: &K) -> Option<V>
+    pub fn shift_remove<Q: Equivalent<K>>(&mut self, k: Q) -> Option<V>
     where
         K: Drop,
         // `None` if and only if the key is absent or the only one; then nothing changes.
-        ensures entries { TakesFoundUnlessLast (get K.eq self.old k.now ≡ None) self.old.entries
-            self.new.entries result (λ v. (get K.eq self.old k.now ≡ Some v)
-            × (self.new.entries ≡ shift_remove_entry (K.eq k.now) self.old.entries)) }
-        ensures updates { IfSome result (λ _. Updates K.eq self.old self.new k.now None) }
+        ensures entries { TakesFoundUnlessLast (get_by (Q.equivalent k) self.old ≡ None)
+            self.old.entries self.new.entries result
+            (λ v. (get_by (Q.equivalent k) self.old ≡ Some v)
+            × (self.new.entries ≡ shift_remove_entry (Q.equivalent k) self.old.entries)) }
+        ensures updates { IfSome result (λ _.
+            UpdatesBy K.eq (Q.equivalent k) self.old self.new None) }
         ensures len { index_map_len self.new + (if is_some result then 1 else 0)
             ≡ index_map_len self.old }
         ensures hasher { hasher_of self.new ≡ hasher_of self.old }
@@ -82,14 +87,16 @@ impl<K: Eq + Hash, V, S: BuildHasher> NEIndexMap<K, V, S> {
     /// let removed = map.swap_remove_entry(&2); // Some((2, 24)), and map is {6: 23, 4: 26}
     /// let none = map.swap_remove_entry(&8); // None: there is no such key
     /// ```
-    pub fn swap_remove_entry(&mut self, k: &K) -> Option<(K, V)>
+    pub fn swap_remove_entry<Q: Equivalent<K>>(&mut self, k: Q) -> Option<(K, V)>
         // `None` if and only if the key is absent or the only one; then nothing changes.
-        ensures entries { TakesFoundUnlessLast (get K.eq self.old k.now ≡ None) self.old.entries
-            self.new.entries result (λ p. (get_key K.eq self.old k.now ≡ Some p.0)
-            × (get K.eq self.old k.now ≡ Some p.1)
-            × (self.new.entries ≡ swap_remove_entry (K.eq k.now) self.old.entries)) }
-        ensures same { IfSome result (λ p. IsTrue (K.eq k.now p.0)) }
-        ensures updates { IfSome result (λ _. Updates K.eq self.old self.new k.now None) }
+        ensures entries { TakesFoundUnlessLast (get_by (Q.equivalent k) self.old ≡ None)
+            self.old.entries self.new.entries result
+            (λ p. (get_key_by (Q.equivalent k) self.old ≡ Some p.0)
+            × (get_by (Q.equivalent k) self.old ≡ Some p.1)
+            × (self.new.entries ≡ swap_remove_entry (Q.equivalent k) self.old.entries)) }
+        ensures same { IfSome result (λ p. IsTrue (Q.equivalent k p.0)) }
+        ensures updates { IfSome result (λ _.
+            UpdatesBy K.eq (Q.equivalent k) self.old self.new None) }
         ensures len { index_map_len self.new + (if is_some result then 1 else 0)
             ≡ index_map_len self.old }
         ensures hasher { hasher_of self.new ≡ hasher_of self.old }
@@ -111,14 +118,16 @@ impl<K: Eq + Hash, V, S: BuildHasher> NEIndexMap<K, V, S> {
     /// let removed = map.shift_remove_entry(&2); // Some((2, 24)), and map is {4: 26}
     /// let none = map.shift_remove_entry(&4); // None: the only entry stays
     /// ```
-    pub fn shift_remove_entry(&mut self, k: &K) -> Option<(K, V)>
+    pub fn shift_remove_entry<Q: Equivalent<K>>(&mut self, k: Q) -> Option<(K, V)>
         // `None` if and only if the key is absent or the only one; then nothing changes.
-        ensures entries { TakesFoundUnlessLast (get K.eq self.old k.now ≡ None) self.old.entries
-            self.new.entries result (λ p. (get_key K.eq self.old k.now ≡ Some p.0)
-            × (get K.eq self.old k.now ≡ Some p.1)
-            × (self.new.entries ≡ shift_remove_entry (K.eq k.now) self.old.entries)) }
-        ensures same { IfSome result (λ p. IsTrue (K.eq k.now p.0)) }
-        ensures updates { IfSome result (λ _. Updates K.eq self.old self.new k.now None) }
+        ensures entries { TakesFoundUnlessLast (get_by (Q.equivalent k) self.old ≡ None)
+            self.old.entries self.new.entries result
+            (λ p. (get_key_by (Q.equivalent k) self.old ≡ Some p.0)
+            × (get_by (Q.equivalent k) self.old ≡ Some p.1)
+            × (self.new.entries ≡ shift_remove_entry (Q.equivalent k) self.old.entries)) }
+        ensures same { IfSome result (λ p. IsTrue (Q.equivalent k p.0)) }
+        ensures updates { IfSome result (λ _.
+            UpdatesBy K.eq (Q.equivalent k) self.old self.new None) }
         ensures len { index_map_len self.new + (if is_some result then 1 else 0)
             ≡ index_map_len self.old }
         ensures hasher { hasher_of self.new ≡ hasher_of self.old }
