@@ -35,11 +35,10 @@ EXCUSED = {
     *("KeyedMap::put", "KeyedMap::with_entry", "NonEmptySet::add", "NonEmptySet::put"),
     *("Reader::read", "read_map", "read_seq"),
 }
-# What is called by a sign, by std or by `indexmap`, writes to what it is given, or keeps its room if
-# it is refused less.
-BY_OTHERS = {"eq", "index", "index_mut", "deref", "hash", "fmt", "serialize", "shrink_to_fit"} | {
-    *("compare", "equivalent"),
-}
+# What is called by a sign, by std or by `indexmap`, writes to what it is given, or keeps its room
+# if it is refused less.
+BY_OTHERS = {"eq", "index", "index_mut", "deref", "hash", "fmt", "serialize", "shrink_to_fit"}
+BY_OTHERS |= {"compare", "equivalent"}
 # The files of `tests/library/no_memory` with the calls of each crate.
 FILES = dict.fromkeys(("ne_iter", "ne_products"), "chains") | dict.fromkeys(
     ("ne_deque", "ne_heap", "ne_string"), "queues"

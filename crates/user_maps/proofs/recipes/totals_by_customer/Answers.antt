@@ -1,8 +1,10 @@
-use Rattle.std.proofs.Common.{◌+◌, arith, cond, string_bytes}
+use Rattle.std.proofs.Common.{◌≡◌, ◌+◌, arith, cond, string_bytes}
 use mathlib.Core.Logic.{inl, inr}
 use Rattle.std.proofs.lemmas.List.Folds.{list_any_more}
 use Rattle.std.proofs.lemmas.List.Sums.{sum_by_more, sum_by_more_le_part}
 use Rattle.std.proofs.lemmas.Map.Text.{btree_map_text_after, is_eq-slice_cmp}
+use Rattle.std.specs.BTreeMap.{get_by_text}
+use Rattle.std.specs.Option.{option_copied}
 use Rattle.std.specs.Str.{bytes_eq}
 use Rattle.user_maps.proofs.recipes.totals_by_customer.Goals as goal
 
@@ -30,10 +32,13 @@ loop-sale-preserved c = λ name.
     sales so_far sale (grind arith) in
     let any = list_any_more (λ s. bytes_eq name (string_bytes s.customer))
     sales so_far sale (grind arith) in
-    let before = c.loop-sale.invariant name in
+    let was = c.loop-sale.invariant name in
+    -- what `get` returned, in the words of the invariant
+    let got : option_copied c.get.result
+    ≡ get_by_text c.loop-sale.totals (string_bytes sale.customer) = c.get.ensures.value in
     let found = btree_map_text_after c.in_ok-key.key name c.loop-sale.totals.entries
     c.insert.new.self.entries sets.3 in
     elim found.2 [
-      | inl same ↦ (grind (arith, same, any, sets.1), grind (arith, same, sum, sets.1, before.1))
-      | inr apart ↦ (grind (arith, apart, any, before.0), grind (arith, apart, sum, before.1))
+      | inl same ↦ (grind (arith, same, any, sets.1), grind (arith, same, sum, sets.1, was.1, got))
+      | inr apart ↦ (grind (arith, apart, any, was.0), grind (arith, apart, sum, was.1))
     ]
