@@ -2,7 +2,7 @@
 ghost use Rattle.std.specs.Prelude.{◌≡◌, ◌/◌, ◌%◌, ◌+◌, ◌++◌, ◌<◌, ◌≤◌, ◌^◌, map, sum, length, ℕ};
 ghost use Rattle.std.specs.Prelude.{Ok, Err, IfOk, IsPermutation, Some};
 ghost use Rattle.std.specs.Prelude.{from_bits, slice_get, take, MatchResult, nat_eq, ltb, cond};
-ghost use Rattle.std.specs.Prelude.{[], ◌∷◌, MatchOption};
+ghost use Rattle.std.specs.Prelude.{[], ◌∷◌, MatchOption, filter, not};
 ghost use Rattle.std.specs.List.{All, Contains, filter_map, fold, list_all};
 ghost use Rattle.std.specs.Result.{result_err};
 ghost use lib.Ieee as Ieee;
@@ -103,6 +103,17 @@ pub fn checked_as_vec(alloc: Global, items: NEVec<u32>) -> Result<Result<Vec<u32
 pub enum Fault {
     TooLong,
     TooGreat(u32),
+}
+
+/// Returns the items that are less than 10, and the others.
+pub fn parted_at_ten(
+    alloc: Global,
+    items: NEVec<u32>,
+) -> Result<(Vec<u32>, Vec<u32>), AllocError>
+    ensures { IfOk result (λ r. (r.0.items ≡ filter (λ x. ltb x 10) items)
+        × (r.1.items ≡ filter (λ x. not (ltb x 10)) items)) }
+{
+    items.into_nonempty_iter().partition(alloc, |x| *x < 10)
 }
 
 /// Returns the items if each is less than 10, and otherwise a fault for each that is not.

@@ -2,7 +2,7 @@
 ghost use Rattle.std.specs.Prelude.{◌≡◌, ◌/◌, ◌++◌, ◌∷◌, ◌<◌, ◌≤◌, ◌^◌, [], map, sum, take, drop};
 ghost use Rattle.std.specs.Prelude.{length, slice_get, Some, None, IfOk, OnOk, IsPermutation, ltb};
 ghost use Rattle.std.specs.Prelude.{string_bytes};
-ghost use Rattle.std.specs.Prelude.{cond, nat_eq, ℕ};
+ghost use Rattle.std.specs.Prelude.{cond, nat_eq, not, ℕ};
 ghost use Rattle.std.specs.List.{All, Contains, enumerate_from, filter, filter_map, find, flat_map};
 ghost use Rattle.std.specs.List.{fold, list_all, list_any, prefix_len, scan, take_while, zip};
 ghost use Rattle.std.specs.Option.{option_map};
@@ -24,6 +24,18 @@ use std::num::NonZeroUsize;
 pub struct Sale {
     pub buyer: u32,
     pub price: u32,
+}
+
+/// Returns references to the sales whose price is below 10, and to the others.
+pub fn cheap_and_others<'a>(
+    alloc: Global,
+    sales: &'a NEVec<Sale>,
+) -> Result<(Vec<&'a Sale>, Vec<&'a Sale>), AllocError>
+    ensures { IfOk result (λ r.
+        (map (λ s. s.now) r.0.items ≡ filter (λ s. ltb s.price 10) sales.now)
+        × (map (λ s. s.now) r.1.items ≡ filter (λ s. not (ltb s.price 10)) sales.now)) }
+{
+    sales.nonempty_iter().partition(alloc, |s| s.price < 10)
 }
 
 /// Returns whether any price is below 10.
