@@ -32,7 +32,7 @@ EXCUSED = {
     *("NESlice::clone", "Iter::clone", "NonEmptyIter::clone", "collect into ()"),
     *(f"FromNonEmptyIterator::from_drained of {it}" for it in DRAINED),
     *("FromNonEmptyIterator::from_nonempty_iter", "NonEmptyMap::put"),
-    *("KeyedMap::put", "KeyedMap::with_entry", "NonEmptySet::add", "NonEmptySet::put"),
+    *("KeyedMap::put_value", "KeyedMap::with_entry", "NonEmptySet::add", "NonEmptySet::put"),
     *("Reader::read", "read_map", "read_seq"),
 }
 # What is called by a sign, by std or by `indexmap`, writes to what it is given, or keeps its room

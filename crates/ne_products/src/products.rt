@@ -177,7 +177,7 @@ pub trait NonEmptyItertools: NonEmptyIterator {
             let k = key(&x);
             match folded.value_mut(&k) {
                 Some(value) => *value = f(*value, x),
-                None => folded.put(alloc, k, f(init, x))?,
+                None => folded.put_value(alloc, k, f(init, x))?,
             }
         }
         Ok(folded)
@@ -195,7 +195,8 @@ pub trait NonEmptyItertools: NonEmptyIterator {
     /// let words = nev![alloc; "tree", "leaf", "bud"]?;
     /// let groups: NEBTreeMap<usize, NEVec<&str>> =
     ///     words.into_nonempty_iter().into_group_map_by(alloc, |word| word.len())?;
-    /// // {3: ["bud"], 4: ["tree", "leaf"]}
+    /// let fours = groups.get(&4).map(|group| (*group.first(), *group.last()));
+    /// // Some(("tree", "leaf"))
     /// ```
     final fn into_group_map_by<
         M: KeyedMap<K, NEVec<Self::Item>> + Drop,
@@ -225,7 +226,7 @@ pub trait NonEmptyItertools: NonEmptyIterator {
             let k = key(&x);
             match groups.value_mut(&k) {
                 Some(group) => group.push(x)?,
-                None => groups.put(alloc, k, NEVec::new(alloc, x)?)?,
+                None => groups.put_value(alloc, k, NEVec::new(alloc, x)?)?,
             }
         }
         Ok(groups)
@@ -263,7 +264,7 @@ pub trait NonEmptyItertools: NonEmptyIterator {
             match counts.value_mut(&x) {
                 // All items fit, so no count wraps.
                 Some(count) => *count = count.wrapping_add(1),
-                None => counts.put(alloc, x, 1)?,
+                None => counts.put_value(alloc, x, 1)?,
             }
         }
         Ok(counts)

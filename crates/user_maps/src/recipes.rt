@@ -12,6 +12,7 @@ use nonempty_collections::{NEBTreeMap, NEBTreeSet, NEVec, NonEmptyIterator};
 use std::alloc::{AllocError, Global};
 
 /// A sale of an amount of an article to a customer.
+#[derive(Drop)]
 pub struct Sale {
     pub customer: String,
     pub article: u32,

@@ -160,7 +160,7 @@ impl<K: Eq + Hash + Drop, V: Drop> KeyedMap<K, V> for NEMap<K, V> {
         NEMap::new(alloc, k, v)
     }
 
-    fn put(&mut self, _alloc: Global, k: K, v: V) -> Result<(), AllocError> {
+    fn put_value(&mut self, _alloc: Global, k: K, v: V) -> Result<(), AllocError> {
         let _old = self.insert(k, v)?;
         Ok(())
     }
@@ -185,7 +185,7 @@ impl<V: Drop> KeyedMap<&str, V> for NEMap<String, V> {
         Ok(map)
     }
 
-    fn put(&mut self, alloc: Global, k: &str, v: V) -> Result<(), AllocError> {
+    fn put_value(&mut self, alloc: Global, k: &str, v: V) -> Result<(), AllocError> {
         let _old = self.insert(String::from_str(alloc, k)?, v)?;
         Ok(())
     }

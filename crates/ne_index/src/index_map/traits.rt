@@ -183,7 +183,7 @@ impl<K: Eq + Hash + Drop, V: Drop> KeyedMap<K, V> for NEIndexMap<K, V> {
         NEIndexMap::new(alloc, k, v)
     }
 
-    fn put(&mut self, _alloc: Global, k: K, v: V) -> Result<(), AllocError> {
+    fn put_value(&mut self, _alloc: Global, k: K, v: V) -> Result<(), AllocError> {
         let _old = self.insert(k, v)?;
         Ok(())
     }
@@ -208,7 +208,7 @@ impl<V: Drop> KeyedMap<&str, V> for NEIndexMap<String, V> {
         Ok(map)
     }
 
-    fn put(&mut self, alloc: Global, k: &str, v: V) -> Result<(), AllocError> {
+    fn put_value(&mut self, alloc: Global, k: &str, v: V) -> Result<(), AllocError> {
         let _old = self.insert(String::from_str(alloc, k)?, v)?;
         Ok(())
     }

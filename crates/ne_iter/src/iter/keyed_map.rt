@@ -18,7 +18,7 @@ use std::alloc::{AllocError, Global};
 ///
 /// ```
 /// let mut map: NEBTreeMap<String, u32> = KeyedMap::with_entry(alloc, "a", 10)?;
-/// map.put(alloc, "b", 20)?;
+/// map.put_value(alloc, "b", 20)?;
 /// if let Some(value) = map.value_mut(&"a") {
 ///     *value = 11; // {"a": 11, "b": 20}
 /// }
@@ -40,7 +40,7 @@ pub trait KeyedMap<K, V>: Sized {
     ///
     /// Returns `AllocError` if an allocation for the map or for the key fails; the pair is then
     /// dropped.
-    fn put(&mut self, alloc: Global, k: K, v: V) -> Result<(), AllocError>
+    fn put_value(&mut self, alloc: Global, k: K, v: V) -> Result<(), AllocError>
         ensures { OnOk result (PutsValue same (value self.old) (key_view.of k) v (value self.new)) };
 
     /// Returns a mutable reference to the value of the key `k`, or `None` if it is not there. It

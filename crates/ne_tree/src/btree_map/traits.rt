@@ -151,7 +151,7 @@ impl<K: Ord + Drop, V: Drop> KeyedMap<K, V> for NEBTreeMap<K, V> {
         NEBTreeMap::new(alloc, k, v)
     }
 
-    fn put(&mut self, _alloc: Global, k: K, v: V) -> Result<(), AllocError> {
+    fn put_value(&mut self, _alloc: Global, k: K, v: V) -> Result<(), AllocError> {
         let _old = self.insert(k, v)?;
         Ok(())
     }
@@ -176,7 +176,7 @@ impl<V: Drop> KeyedMap<&str, V> for NEBTreeMap<String, V> {
         Ok(map)
     }
 
-    fn put(&mut self, alloc: Global, k: &str, v: V) -> Result<(), AllocError> {
+    fn put_value(&mut self, alloc: Global, k: &str, v: V) -> Result<(), AllocError> {
         let _old = self.insert(String::from_str(alloc, k)?, v)?;
         Ok(())
     }

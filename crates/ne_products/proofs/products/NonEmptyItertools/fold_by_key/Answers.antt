@@ -115,8 +115,8 @@ loop-x-preserved g c =
     c.f-in-None-value_mut.result c.f-in-None-value_mut.new.self)
     (sym (ap (λ o. unwrap_or o c.args.init) absent)) c.f-in-None-value_mut.ensures in
     let put = subst (λ m. PutsValue g.M.KeyedMap.same (g.M.KeyedMap.value m) k
-    c.f-in-None-value_mut.result (g.M.KeyedMap.value c.put.new.self))
-    c.value_mut.follows.holds-at-none c.in_ok-put-in-None-value_mut.ensures in
+    c.f-in-None-value_mut.result (g.M.KeyedMap.value c.put_value.new.self))
+    c.value_mut.follows.holds-at-none c.in_ok-put_value-in-None-value_mut.ensures in
     FoldsTo-push (KeyTurn g.F.FnMut (AddsByCall g.G.FnMut) g.M.KeyedMap.key_view
     g.M.KeyedMap.same c.args.init) _
     c.loop-x.yielded _ c.in-Some.x _ c.loop-x.invariant (

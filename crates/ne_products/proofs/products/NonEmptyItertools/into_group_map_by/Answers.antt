@@ -56,8 +56,8 @@ loop-x-preserved g c =
     let absent : value k ≡ None
     = sym c.value_mut.ensures.value ∙ ap option_copied_mut c.in-None-value_mut.is in
     let put = subst (λ m. PutsValue g.M.KeyedMap.same (g.M.KeyedMap.value m) k group
-    (g.M.KeyedMap.value c.put.new.self))
-    c.value_mut.follows.holds-at-none c.in_ok-put-in-None-value_mut.ensures in
+    (g.M.KeyedMap.value c.put_value.new.self))
+    c.value_mut.follows.holds-at-none c.in_ok-put_value-in-None-value_mut.ensures in
     FoldsTo-push (KeyTurn g.F.FnMut AddsLast g.M.KeyedMap.key_view g.M.KeyedMap.same []) _ c.loop-x.yielded _ c.in-Some.x _
     c.loop-x.invariant (
       c.key-k-in-loop-x.result,

@@ -1,7 +1,7 @@
-use Rattle.ne_tree.proofs.btree_map.traits.NEBTreeMapStringKeyedMapRefStr.put.Goals as goal
+use Rattle.ne_hash.proofs.map.traits.NEMapStringKeyedMapRefStr.put_value.Goals as goal
 use Rattle.std.proofs.Common.{◌≡◌, Some, subst}
-use Rattle.std.proofs.lemmas.Map.Text.{btree_map_updates_text}
-use Rattle.std.specs.BTreeMap.{get_by_text}
+use Rattle.std.proofs.lemmas.Map.Text.{hash_map_updates_text}
+use Rattle.std.specs.HashMap.{get_by_text}
 use Rattle.std.specs.Map.{update}
 use Rattle.std.specs.Str.{bytes_eq}
 use Rattle.std.specs.String.{string_bytes}
@@ -13,4 +13,4 @@ returns g c = λ q.
     let k = c.in_ok-from_str.field-0 in
     subst (λ bs. get_by_text n q ≡ update bytes_eq (get_by_text m) bs (Some c.args.v) q)
     c.in_ok-from_str.ensures.ok
-    (btree_map_updates_text (string_bytes k) m n (Some c.args.v) c.in_ok-_old.ensures.updates q)
+    (hash_map_updates_text (string_bytes k) m n (Some c.args.v) c.in_ok-_old.ensures.updates q)

@@ -1,7 +1,7 @@
-use Rattle.ne_hash.proofs.map.traits.NEMapStringKeyedMapRefStr.put.Goals as goal
+use Rattle.ne_index.proofs.index_map.traits.NEIndexMapStringKeyedMapRefStr.put_value.Goals as goal
 use Rattle.std.proofs.Common.{◌≡◌, Some, subst}
 use Rattle.std.proofs.lemmas.Map.Text.{hash_map_updates_text}
-use Rattle.std.specs.HashMap.{get_by_text}
+use Rattle.indexmap.specs.IndexMap.{get_by_text}
 use Rattle.std.specs.Map.{update}
 use Rattle.std.specs.Str.{bytes_eq}
 use Rattle.std.specs.String.{string_bytes}
