@@ -106,10 +106,7 @@ pub enum Fault {
 }
 
 /// Returns the items that are less than 10, and the others.
-pub fn parted_at_ten(
-    alloc: Global,
-    items: NEVec<u32>,
-) -> Result<(Vec<u32>, Vec<u32>), AllocError>
+pub fn parted_at_ten(alloc: Global, items: NEVec<u32>) -> Result<(Vec<u32>, Vec<u32>), AllocError>
     ensures { IfOk result (λ r. (r.0.items ≡ filter (λ x. ltb x 10) items)
         × (r.1.items ≡ filter (λ x. not (ltb x 10)) items)) }
 {

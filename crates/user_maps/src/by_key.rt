@@ -12,8 +12,7 @@ ghost use Rattle.user_maps.specs.Totals.{plus};
 
 use crate::recipes::Sale;
 use nonempty_collections::{
-    IntoNonEmptyIterator, NEBTreeMap, NEIndexMap, NEMap, NEVec, NonEmptyItertools,
-    NonEmptyIterator,
+    IntoNonEmptyIterator, NEBTreeMap, NEIndexMap, NEMap, NEVec, NonEmptyIterator, NonEmptyItertools,
 };
 use std::alloc::{AllocError, Global};
 
