@@ -1,5 +1,5 @@
 use Rattle.ne_index.proofs.index_map.traits.NEIndexMapStringKeyedMapRefStr.with_entry.Goals as goal
-use Rattle.std.proofs.Common.{None, Some, ap, cond, sym, ◌∙◌}
+use Rattle.std.proofs.Common.{None, Some, ap, cond, ◌∙◌}
 use Rattle.std.specs.Cmp.Lexicographic.{nat_list_eq_equiv}
 use Rattle.std.specs.Map.{lookup}
 use Rattle.std.specs.Str.{bytes_eq}

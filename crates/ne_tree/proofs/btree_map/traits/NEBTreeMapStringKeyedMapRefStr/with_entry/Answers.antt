@@ -1,5 +1,5 @@
 use Rattle.ne_tree.proofs.btree_map.traits.NEBTreeMapStringKeyedMapRefStr.with_entry.Goals as goal
-use Rattle.std.proofs.Common.{None, Some, ap, cond, sym, ◌∙◌}
+use Rattle.std.proofs.Common.{None, Some, ap, cond, ◌∙◌}
 use Rattle.std.proofs.lemmas.Map.Text.{is_eq-slice_cmp}
 use Rattle.std.specs.Cmp.Lexicographic.{nat_list_eq_equiv, slice_cmp}
 use Rattle.std.specs.Ordering.{is_eq, nat_cmp}
