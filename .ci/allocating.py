@@ -108,7 +108,9 @@ def untried():
         name = "maps" if "Map" in it.owner else "sets" if "Set" in it.owner else "vectors"
         if it.trait == "Iterator" or it.is_law() or call_of(it) in due | EXCUSED:
             continue
-        if it.name not in calls[FILES.get(crate, name)] | BY_OTHERS:
+        # those of all maps are declared beside the chains
+        name = "maps" if it.owner == "KeyedMap" else FILES.get(crate, name)
+        if it.name not in calls[name] | BY_OTHERS:
             lacking.add(it.path())
     # it is for the crates of the collections
     return sorted(lacking - {"NonEmptyIter::new"})
