@@ -8,7 +8,7 @@ use Rattle.ne_products.specs.Restarts.{ClonesAgain, NeverRefuses}
 pub returns : goal.returns
 returns g c = IfOk-weaker c.collect.result _ _ (λ v h xs ys first second.
     let product = c.cartesian_product-product in
-    let same = sym product.ensures.holds.1 in
+    let same = sym product.ensures.holds.1.0 in
     let again = subst (λ u. ClonesAgain g.U.IntoIterator.into_iter_gives
     g.U.IntoIter.Iterator.remaining g.U.IntoIter.Clone.is_clone u) same c.requires.again in
     let certain = subst (λ u. NeverRefuses g.U.IntoIterator.into_iter_gives
