@@ -1,6 +1,7 @@
 //! Laws of queues. Each law is the contract of a function that does nothing. A caller calls the
 //! function to use what it ensures.
-ghost use Rattle.std.specs.Prelude.{◌≡◌, ◌↔◌, List, [], true, MatchOption, Ok, Option, Result, Some};
+ghost use Rattle.std.specs.Prelude.{◌≡◌, ◌↔◌, List, [], true, MatchOption, Option, Some};
+ghost use Rattle.std.specs.Prelude.{Ok, Result};
 ghost use Rattle.std.specs.Cmp.Lexicographic.{pointwise, slice_cmp, slice_partial_cmp};
 ghost use Rattle.ne_vec.specs.declared.Error.{Error};
 

@@ -1,4 +1,4 @@
--- What the turns by key make of the items: after the first item, after one more, and of all of them.
+-- What the turns by key make of the items: after the first, after one more, and of all of them.
 use Rattle.std.proofs.Common.{ap, append-nil, append_assoc, refl, subst, sym, ◌∙◌}
 use Rattle.std.proofs.lemmas.List.Elements.{filter-append}
 use Rattle.std.proofs.lemmas.List.Sums.{fold-append}
@@ -14,7 +14,8 @@ use Rattle.ne_vec.specs.Lists.{View}
 use Rattle.ne_iter.specs.KeyedMap.{PutsValue}
 use Rattle.ne_iter.specs.LoopLaws.{Yields-first}
 use Rattle.ne_products.specs.ByKey.{AddsByCall, AddsLast, CallableByKey, IsFoldedByKey}
-use Rattle.ne_products.specs.ByKey.{IsGroupedByKey, KeyTurn, NamesKeys, and_last, fold_some, of_some}
+use Rattle.ne_products.specs.ByKey.{IsGroupedByKey, KeyTurn, NamesKeys, and_last, fold_some}
+use Rattle.ne_products.specs.ByKey.{of_some}
 use mathlib.Core.Path.{fun_ext}
 
 -- items seen through v
@@ -89,7 +90,8 @@ module _ {A K B F G : Type 0} (view : View K) {eq : view.Target → view.Target 
       → IsFoldedByKey end eq h f init (done ++ xs)
   turns_fold done [] value end key' g' folded turns =
       subst (λ l. IsFoldedByKey end eq h f init l) (sym (append-nil done))
-      (subst (λ (s : F × (G × (view.Target → Option B))). IsFoldedByKey s.1.1 eq h f init done) turns folded)
+      (subst (λ (s : F × (G × (view.Target → Option B))). IsFoldedByKey s.1.1 eq h f init done)
+      turns folded)
   turns_fold done (x ∷ xs) value end key' g' folded (s, (k, v, called, added, puts), turns) =
       let asked = acts x k s.0 called in
       let made = adding (unwrap_or (value (view.of k)) init) x v s.1.0 added in
@@ -116,7 +118,8 @@ pub folded_view : {A K B F G : Type 0} (names : View K)
 folded_view names laws init keys calls key g ys value key' g' turns view h acts f adds =
     folded-viewed laws init h f view.of ys value
     (turns_fold names laws init keys (AddsByCall calls) key g (λ x. h (view.of x))
-    (λ b x. f b (view.of x)) acts (λ b x v j called. adds b x v j called) [] ys (λ _. None) value key'
+    (λ b x. f b (view.of x)) acts (λ b x v j called. adds b x v j called) [] ys
+    (λ _. None) value key'
     g' (λ q. refl) turns)
 
 -- at an item of the loop after the first one, the closures may be called
@@ -125,7 +128,8 @@ pub callable_later : {S A K B F G : Type 0} (steps : S → Option A → S → Ty
     (names : View K) (eq : names.Target → names.Target → Bool) (it : S) (key : F) (init : B) (f : G)
     (xs : List A) (t : F × (G × (names.Target → Option B))) {first : A} {left begun : S}
     {s : F × (G × (names.Target → Option B))} {now after : S} {x : A}
-    → CallableByKey steps keys calls names eq it key init f → steps it (Some first) left → begun ≡ left
+    → CallableByKey steps keys calls names eq it key init f → steps it (Some first) left
+    → begun ≡ left
     → Yields steps begun xs now
     → KeyTurn keys (AddsByCall calls) names eq init (key, (f, λ _. None)) first s
     → FoldsTo (KeyTurn keys (AddsByCall calls) names eq init) s xs t → steps now (Some x) after
@@ -170,7 +174,8 @@ pub grouped_view : {A K F : Type 0} (names : View K)
     (value : names.Target → Option (List A)) (key' : F)
     → FoldsTo (KeyTurn keys AddsLast names eq []) (key, (tt, λ _. None)) ys (key', (tt, value))
     → (view : View A) (h : view.Target → names.Target)
-    → NamesKeys keys names key (λ x. h (view.of x)) → IsGroupedByKey value eq view h (map view.of ys)
+    → NamesKeys keys names key (λ x. h (view.of x))
+    → IsGroupedByKey value eq view h (map view.of ys)
 grouped_view names {eq = eq} laws keys key ys value key' turns view h acts q =
     let folded = turns_fold names laws [] keys AddsLast key tt (λ x. h (view.of x)) and_last acts
     (λ b x v j added. (refl, added)) [] ys (λ _. None) value key' tt (λ q. refl) turns in

@@ -1,8 +1,10 @@
 -- Counts of items, as folds that add one and would wrap, and that do not since all items fit.
-use Rattle.std.proofs.Common.{ap, append_assoc, arith, false, inl, inr, refl, subst, sym, true≢false}
+use Rattle.std.proofs.Common.{ap, append_assoc, arith, false, inl, inr, refl, subst, sym}
+use Rattle.std.proofs.Common.{true≢false}
 use Rattle.std.proofs.Common.{◌∙◌}
 use Rattle.std.proofs.iter.runs.Made.{fits_after, run, seen}
-use Rattle.std.specs.Prelude.{◌≡◌, ◌≤◌, ◌<◌, ◌+◌, ◌%◌, ◌^◌, ℕ, Bool, true, cond, List, [], ◌∷◌, length}
+use Rattle.std.specs.Prelude.{◌≡◌, ◌≤◌, ◌<◌, ◌+◌, ◌%◌, ◌^◌, ℕ, Bool, true, cond, List, []}
+use Rattle.std.specs.Prelude.{◌∷◌, length}
 use Rattle.std.specs.Prelude.{Option, Some, ◌++◌, map}
 use Rattle.std.proofs.lemmas.List.{length-map, length_push}
 use Rattle.std.specs.Cmp.{IsEquivalence}
@@ -19,7 +21,8 @@ abbrev pub one_more : {A : Type 0} → ℕ → A → ℕ
 one_more n x = (n + 1) % 2 ^ 64
 
 -- a count that fits is below the range
-pub fits_below : {S A : Type 0} (steps : S → Option A → S → Type 0) (left : S → Count) (n : ℕ) (s : S)
+pub fits_below : {S A : Type 0} (steps : S → Option A → S → Type 0) (left : S → Count)
+    (n : ℕ) (s : S)
     → CountFits steps left n s → n < 2 ^ 64
 fits_below steps left n s (inl h) = omega (arith, h)
 fits_below steps left n s (inr h) =
@@ -33,7 +36,8 @@ pub fits_push : {S A : Type 0} (steps : S → Option A → S → Type 0) (can : 
     → MakesProgress can left s (Some x) t → CountFits steps left m t × can t × IsFinite (left t)
 fits_push steps can left n m s x t next (fits, ready, ends) step goes =
     let p = goes.on ends in (
-      subst (λ k. CountFits steps left k t) (sym next) (fits_after steps left n s x t fits step p.2),
+      subst (λ k. CountFits steps left k t) (sym next)
+      (fits_after steps left n s x t fits step p.2),
       p.0,
       p.1,
     )
@@ -94,6 +98,7 @@ module _ {S A N : Type 0} {eq : N → N → Bool} (laws : IsEquivalence eq) (nam
         (omega (arith, length_push xs x)) so_far.0 step goes,
     λ before folded. subst (λ l. IsFoldedByKey new eq name one_more 0 l)
         (append_assoc before xs (x ∷ [])) (folded-more laws 0 name one_more
-        (before ++ xs) x value new (subst (λ o. PutsValue eq value (name x) (one_more (unwrap_or o 0) x) new)
+        (before ++ xs) x value new
+        (subst (λ o. PutsValue eq value (name x) (one_more (unwrap_or o 0) x) new)
         (sym here) puts) (so_far.1 before folded)),
   )

@@ -46,7 +46,8 @@ abbrev pub NamesKeys : {A K F : Type 0} → Mut F (Bor A × Unit {0}) K → (vie
 NamesKeys {A} {K} {F} keys view f h = (x : A) (k : K) (g : F) → CalledAt keys f x k g
     → (g ≡ f) × (view.of k ≡ h x)
 
-module _ {A K B F G : Type 0} (keys : Mut F (Bor A × Unit {0}) K) (adds : G → B → A → B → G → Type 0)
+module _ {A K B F G : Type 0} (keys : Mut F (Bor A × Unit {0}) K)
+    (adds : G → B → A → B → G → Type 0)
     (view : View K) (eq : view.Target → view.Target → Bool) (init : B) where
   -- The closure for keys, what adds, and the value of each key so far.
   abbrev State : Type 0

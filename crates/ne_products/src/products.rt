@@ -188,8 +188,9 @@ pub trait NonEmptyItertools: NonEmptyIterator {
     ///
     /// `key` is called once for each item, in order.
     ///
-    /// Returns `AllocError` if an allocation for the map or a vector fails; the items taken are then
-    /// dropped. The Rust crate lacks this method; that of `itertools` returns a `HashMap` of `Vec`s.
+    /// Returns `AllocError` if an allocation for the map or a vector fails; the items taken are
+    /// then dropped. The Rust crate lacks this method; that of `itertools` returns a `HashMap` of
+    /// `Vec`s.
     ///
     /// ```
     /// let words = nev![alloc; "tree", "leaf", "bud"]?;

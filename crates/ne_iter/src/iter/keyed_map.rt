@@ -1,5 +1,5 @@
 //! Maps whose values are made one key at a time.
-ghost use Rattle.std.specs.Prelude.{◌≡◌, Bool, Option, None, IsSome, IfOk, OnOk};
+ghost use Rattle.std.specs.Prelude.{◌≡◌, Bool, Option, None, IsSome, IfOk, OnErr, OnOk};
 ghost use Rattle.std.specs.Borrow.{LendsSo, sem};
 ghost use Rattle.std.specs.Cmp.{IsEquivalence};
 ghost use Rattle.std.specs.Option.{option_copied_mut};
@@ -13,8 +13,8 @@ use std::alloc::{AllocError, Global};
 ///
 /// `K` is what keys are given by: the type of the map's keys, or `&str` for keys that are a
 /// `String`, which is then made for a new key only. In contracts a key is seen through `key_view`:
-/// `value m k` is the value of the key `k` in `m`, or `None` if it is not there, and `same j k` says
-/// whether `j` and `k` are one key.
+/// `value m k` is the value of the key `k` in `m`, or `None` if it is not there, and `same j k`
+/// says whether `j` and `k` are one key.
 ///
 /// ```
 /// let mut map: NEBTreeMap<String, u32> = KeyedMap::with_entry(alloc, "a", 10)?;
@@ -39,9 +39,12 @@ pub trait KeyedMap<K, V>: Sized {
     /// Gives the key the value `v`, and drops its old value if it has one.
     ///
     /// Returns `AllocError` if an allocation for the map or for the key fails; the pair is then
-    /// dropped.
+    /// dropped, and the map is as before.
     fn put_value(&mut self, alloc: Global, k: K, v: V) -> Result<(), AllocError>
-        ensures { OnOk result (PutsValue same (value self.old) (key_view.of k) v (value self.new)) };
+        ensures value { OnOk result (PutsValue same (value self.old) (key_view.of k) v
+            (value self.new)) }
+        ensures unchanged { OnErr result ((q : key_view.Target) → value self.new q
+            ≡ value self.old q) };
 
     /// Returns a mutable reference to the value of the key `k`, or `None` if it is not there. It
     /// does not allocate.
@@ -49,7 +52,8 @@ pub trait KeyedMap<K, V>: Sized {
         // Once the reference is gone, the key has the value last written.
         ensures* writes_back { sem 𝓛 (LendsSo Self.row V.row self.entry result
             (λ n v. IsSome (value self.old (key_view.of k.now))
-            → PutsValue same (value self.old) (key_view.of k.now) v (value n)) (λ n. n ≡ self.old)) }
+            → PutsValue same (value self.old) (key_view.of k.now) v (value n))
+            (λ n. n ≡ self.old)) }
         ensures value { option_copied_mut result ≡ value self.old (key_view.of k.now) };
 
     ghost equivalence: { IsEquivalence same };

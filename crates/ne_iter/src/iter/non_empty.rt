@@ -399,14 +399,15 @@ pub trait NonEmptyIterator: IntoIterator {
         self.into_iter().filter(predicate)
     }
 
-    /// Returns the items for which `predicate` returns `true`, and the others, each in order. Either
-    /// vector may be empty.
+    /// Returns the items for which `predicate` returns `true`, and the others, each in order.
+    /// Either vector may be empty.
     ///
     /// `predicate` is called once for each item, in order. Returns `AllocError` if an allocation
     /// fails; the items taken are then dropped. The Rust crate lacks this method.
     ///
     /// ```
-    /// let (small, great) = nev![alloc; 4, 9, 6]?.into_nonempty_iter().partition(alloc, |x| *x < 7)?;
+    /// let costs = nev![alloc; 4, 9, 6]?;
+    /// let (small, great) = costs.into_nonempty_iter().partition(alloc, |x| *x < 7)?;
     /// // [4, 6] and [9]
     /// ```
     final fn partition<P: FnMut(&Self::Item) -> bool>(

@@ -4,7 +4,10 @@ use Rattle.std.proofs.Common.{subst, ◌∙◌, arith}
 use Rattle.std.proofs.lemmas.List.{get_or-set_same, take-set}
 use Rattle.std.specs.Fn.{FnOnceReturnsAtMut}
 use Rattle.ne_deque.proofs.Ends.{by_last}
-use Rattle.ne_deque.proofs.vec_deque.NEVecDeque.pop_back_if.Goals.{else-len-gt1-via-then-len-gt1+else-predicate, else-len-gt1-via-else-len-gt1}
+use Rattle.ne_deque.proofs.vec_deque.NEVecDeque.pop_back_if.Goals.{
+  else-len-gt1-via-then-len-gt1+else-predicate,
+  else-len-gt1-via-else-len-gt1,
+}
 
 pub returns-then-predicate-clause-popped : goal.returns-then-predicate-clause-popped
 returns-then-predicate-clause-popped g c more =
@@ -42,7 +45,8 @@ returns-else-len-gt1-clause-popped g c more =
             false,
             y,
             was.0,
-            subst (λ b. FnOnceReturnsAtMut g.P.FnOnce c.args.predicate x b y) w.if-predicate.false called,
+            subst (λ b. FnOnceReturnsAtMut g.P.FnOnce c.args.predicate x b y)
+            w.if-predicate.false called,
             refl,
             w.self-is ∙ was.1,
           ))

@@ -3,7 +3,10 @@ use Rattle.std.proofs.Common.{inr, true, false, Some, drop, refl, ap, subst, ◌
 use Rattle.std.proofs.Common.{◌<◌, length, slice_index_or}
 use Rattle.std.specs.Fn.{FnOnceReturnsAtMut}
 use Rattle.ne_deque.proofs.Ends.{by_first}
-use Rattle.ne_deque.proofs.vec_deque.NEVecDeque.pop_front_if.Goals.{else-len-gt1-via-then-len-gt1+else-predicate, else-len-gt1-via-else-len-gt1}
+use Rattle.ne_deque.proofs.vec_deque.NEVecDeque.pop_front_if.Goals.{
+  else-len-gt1-via-then-len-gt1+else-predicate,
+  else-len-gt1-via-else-len-gt1,
+}
 
 pub returns-then-predicate-clause-popped : goal.returns-then-predicate-clause-popped
 returns-then-predicate-clause-popped g c more =
@@ -41,7 +44,8 @@ returns-else-len-gt1-clause-popped g c more =
             false,
             y,
             was.0,
-            subst (λ b. FnOnceReturnsAtMut g.P.FnOnce c.args.predicate x b y) w.if-predicate.false called,
+            subst (λ b. FnOnceReturnsAtMut g.P.FnOnce c.args.predicate x b y)
+            w.if-predicate.false called,
             refl,
             w.self-is ∙ was.1,
           ))

@@ -48,8 +48,9 @@ loop-x-preserved g c =
     (value c.in_ok-counts.counts) c.loop-x.yielded c.loop-x.x-iterator (value c.loop-x.counts)
     c.in-Some.x c.next.new.self (value c.put_value.new.self) None c.loop-x.invariant
     c.in-Some.ensures.steps c.in-Some.ensures.goes absent
-    (subst (λ m. PutsValue g.M.KeyedMap.same (value m) (g.M.KeyedMap.key_view.of c.in-Some.x) 1 (value c.put_value.new.self))
-    c.value_mut.follows.holds-at-none c.in_ok-put_value-in-None-value_mut.ensures)
+    (subst (λ m. PutsValue g.M.KeyedMap.same (value m) (g.M.KeyedMap.key_view.of c.in-Some.x)
+    1 (value c.put_value.new.self))
+    c.value_mut.follows.holds-at-none c.in_ok-put_value-in-None-value_mut.ensures.value)
 
 pub returns-clause-gives : goal.returns-clause-gives
 returns-clause-gives g c =

@@ -5,4 +5,5 @@ use Rattle.ne_products.proofs.Counted.{CountsSoFar}
 abbrev pub invariant-loop-x : goal.invariant-loop-x
 invariant-loop-x g l = let it = g.Self.IntoIter.Iterator in
     CountsSoFar g.met.M.KeyedMap.equivalence g.M.KeyedMap.key_view.of it.next_gives it.can_next
-    it.remaining (g.M.KeyedMap.value l.initial.counts) l.yielded l.x-iterator (g.M.KeyedMap.value l.counts)
+    it.remaining (g.M.KeyedMap.value l.initial.counts) l.yielded l.x-iterator
+    (g.M.KeyedMap.value l.counts)

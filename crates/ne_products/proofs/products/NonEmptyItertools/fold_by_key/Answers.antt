@@ -31,7 +31,8 @@ key-k-requires-in-loop-x g c =
     (callable_later g.Self.IntoIter.Iterator.next_gives g.F.FnMut g.G.FnMut
     g.M.KeyedMap.key_view g.M.KeyedMap.same from.0
     c.args.key c.args.init c.args.f c.loop-x.yielded
-    (c.loop-x.key, (c.loop-x.f, g.M.KeyedMap.value c.loop-x.folded)) (c.requires.callable from.0 from.1) from.2
+    (c.loop-x.key, (c.loop-x.f, g.M.KeyedMap.value c.loop-x.folded))
+    (c.requires.callable from.0 from.1) from.2
     c.into_iter-x-iterator.ensures.into_iter_gives c.loop-x.yielded_by (
       c.key-k.result,
       c.f.result,
@@ -68,7 +69,8 @@ pub f-requires-in-None-value_mut : goal.f-requires-in-None-value_mut
 f-requires-in-None-value_mut g c =
     let from = c.next-first.ensures.first in
     let value = g.M.KeyedMap.value c.loop-x.folded in
-    let absent : unwrap_or (value (g.M.KeyedMap.key_view.of c.key-k-in-loop-x.result)) c.args.init ≡ c.args.init
+    let absent : unwrap_or (value (g.M.KeyedMap.key_view.of c.key-k-in-loop-x.result))
+        c.args.init ≡ c.args.init
     = ap (λ o. unwrap_or o c.args.init) (sym c.value_mut.ensures.value
     ∙ ap option_copied_mut c.in-None-value_mut.is) in
     subst (λ b. g.G.FnMut.pre c.loop-x.f (b, (c.in-Some.x, tt))) absent
@@ -116,7 +118,7 @@ loop-x-preserved g c =
     (sym (ap (λ o. unwrap_or o c.args.init) absent)) c.f-in-None-value_mut.ensures in
     let put = subst (λ m. PutsValue g.M.KeyedMap.same (g.M.KeyedMap.value m) k
     c.f-in-None-value_mut.result (g.M.KeyedMap.value c.put_value.new.self))
-    c.value_mut.follows.holds-at-none c.in_ok-put_value-in-None-value_mut.ensures in
+    c.value_mut.follows.holds-at-none c.in_ok-put_value-in-None-value_mut.ensures.value in
     FoldsTo-push (KeyTurn g.F.FnMut (AddsByCall g.G.FnMut) g.M.KeyedMap.key_view
     g.M.KeyedMap.same c.args.init) _
     c.loop-x.yielded _ c.in-Some.x _ c.loop-x.invariant (
@@ -168,5 +170,6 @@ returns-clause-lists g c =
     → IsFoldedByKey value g.M.KeyedMap.same h f c.args.init xs) g.Self.NonEmptyIterator.item_view
     given.2.0 (Reads-loop from.0 c.loop-x.x-iterator c.next.new.self from.1 from.2
     c.into_iter-x-iterator.ensures.into_iter_gives c.loop-x.yielded_by c.in-None.ensures.steps)
-    (folded_view g.M.KeyedMap.key_view g.met.M.KeyedMap.equivalence c.args.init g.F.FnMut g.G.FnMut c.args.key c.args.f given.2.0
+    (folded_view g.M.KeyedMap.key_view g.met.M.KeyedMap.equivalence c.args.init
+    g.F.FnMut g.G.FnMut c.args.key c.args.f given.2.0
     value c.loop-x.key c.loop-x.f given.2.4)

@@ -27,7 +27,8 @@ key-k-requires-in-loop-x g c =
     c.loop-x.yielded_by) (
       _,
       (c.key-k.result, called_at g.F.FnMut c.key-k.ensures refl),
-      turns_calls g.F.FnMut AddsLast g.M.KeyedMap.key_view g.M.KeyedMap.same [] _ c.loop-x.yielded _ c.loop-x.invariant,
+      turns_calls g.F.FnMut AddsLast g.M.KeyedMap.key_view g.M.KeyedMap.same []
+      _ c.loop-x.yielded _ c.loop-x.invariant,
     )
     c.in-Some.ensures.steps _ refl
 
@@ -38,7 +39,8 @@ loop-x-preserved-in-Some-value_mut g c =
     let group = c.push.new.self in
     let here : value k ≡ Some c.in-Some-value_mut.group.now
     = sym c.value_mut.ensures.value ∙ ap option_copied_mut c.in-Some-value_mut.is in
-    FoldsTo-push (KeyTurn g.F.FnMut AddsLast g.M.KeyedMap.key_view g.M.KeyedMap.same []) _ c.loop-x.yielded _ c.in-Some.x _
+    FoldsTo-push (KeyTurn g.F.FnMut AddsLast g.M.KeyedMap.key_view g.M.KeyedMap.same [])
+    _ c.loop-x.yielded _ c.in-Some.x _
     c.loop-x.invariant (
       c.key-k-in-loop-x.result,
       group,
@@ -57,8 +59,9 @@ loop-x-preserved g c =
     = sym c.value_mut.ensures.value ∙ ap option_copied_mut c.in-None-value_mut.is in
     let put = subst (λ m. PutsValue g.M.KeyedMap.same (g.M.KeyedMap.value m) k group
     (g.M.KeyedMap.value c.put_value.new.self))
-    c.value_mut.follows.holds-at-none c.in_ok-put_value-in-None-value_mut.ensures in
-    FoldsTo-push (KeyTurn g.F.FnMut AddsLast g.M.KeyedMap.key_view g.M.KeyedMap.same []) _ c.loop-x.yielded _ c.in-Some.x _
+    c.value_mut.follows.holds-at-none c.in_ok-put_value-in-None-value_mut.ensures.value in
+    FoldsTo-push (KeyTurn g.F.FnMut AddsLast g.M.KeyedMap.key_view g.M.KeyedMap.same [])
+    _ c.loop-x.yielded _ c.in-Some.x _
     c.loop-x.invariant (
       c.key-k-in-loop-x.result,
       group,
@@ -107,4 +110,5 @@ returns-clause-lists g c =
     → IsGroupedByKey value g.M.KeyedMap.same view h xs) g.Self.NonEmptyIterator.item_view
     given.2.0 (Reads-loop from.0 c.loop-x.x-iterator c.next.new.self from.1 from.2
     c.into_iter-x-iterator.ensures.into_iter_gives c.loop-x.yielded_by c.in-None.ensures.steps)
-    (grouped_view g.M.KeyedMap.key_view g.met.M.KeyedMap.equivalence g.F.FnMut c.args.key given.2.0 value c.loop-x.key given.2.4)
+    (grouped_view g.M.KeyedMap.key_view g.met.M.KeyedMap.equivalence g.F.FnMut
+    c.args.key given.2.0 value c.loop-x.key given.2.4)

@@ -6,8 +6,8 @@ use Rattle.std.specs.Map.{update}
 use Rattle.std.specs.Str.{bytes_eq}
 use Rattle.std.specs.String.{string_bytes}
 
-pub returns : goal.returns
-returns g c = λ q.
+pub returns-clause-value : goal.returns-clause-value
+returns-clause-value g c = λ q.
     let m = c.args.self.now in
     let n = c.insert.new.self in
     let k = c.in_ok-from_str.field-0 in
