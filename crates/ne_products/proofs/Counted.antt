@@ -37,7 +37,7 @@ pub fits_push : {S A : Type 0} (steps : S → Option A → S → Type 0) (can : 
 fits_push steps can left n m s x t next (fits, ready, ends) step goes =
     let p = goes.on ends in (
       subst (λ k. CountFits steps left k t) (sym next)
-      (fits_after steps left n s x t fits step p.2),
+          (fits_after steps left n s x t fits step p.2),
       p.0,
       p.1,
     )

@@ -10,3 +10,4 @@ pub mod SideRuns
 pub mod Uniques
 pub mod ByKey
 pub mod Counted
+pub mod Joined

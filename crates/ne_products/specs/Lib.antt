@@ -6,3 +6,4 @@ pub mod Sides
 pub mod SideLaws
 pub mod Unique
 pub mod ByKey
+pub mod Joined

@@ -1,14 +1,18 @@
-//! Products of two non-empty iterators, and whether the items of one are distinct.
+//! Products of two non-empty iterators, and what is made of the items of one: whether they are
+//! distinct, their texts joined, and maps by key.
 ghost use Rattle.std.specs.Prelude.{◌≡◌, IfOk, List, MatchOption, None, [], map, true};
+ghost use Rattle.std.specs.Prelude.{string_bytes};
 ghost use Rattle.std.specs.HashSet.{contains};
 ghost use Rattle.std.specs.Iterator.{ActsAsOnTwo, CallableOnAllAt, IsFinite};
 ghost use Rattle.std.specs.Iterator.{MakesProgress};
 ghost use Rattle.std.specs.Iterator.Runs.{CountFits};
+ghost use Rattle.std.specs.List.{join_by};
 ghost use Rattle.ne_vec.specs.Lists.{EachList, EachView, itself};
-ghost use Rattle.ne_iter.specs.Sources.{Becomes};
+ghost use Rattle.ne_iter.specs.Sources.{Becomes, RunsWhole};
 ghost use Rattle.ne_iter.specs.SourceLists.{BecomesList};
 ghost use Rattle.ne_products.specs.ByKey.{AddsByCall, AddsLast, CallableByKey, FoldsByKey};
 ghost use Rattle.ne_products.specs.ByKey.{IsCounted, IsFoldedByKey, IsGroupedByKey, NamesKeys};
+ghost use Rattle.ne_products.specs.Joined.{HasTexts, IsJoined, text_of};
 ghost use Rattle.ne_products.specs.Pairs.{CanRefuse};
 ghost use Rattle.ne_products.specs.Product.{product_first, product_second, restart_of, PairsItems};
 ghost use Rattle.ne_products.specs.Product.{PairsNext, TriesRestart, IsRowItem, is_exhausted};
@@ -17,11 +21,13 @@ ghost use Rattle.ne_products.specs.Restarts.{ClonesAgain, HasExactClones};
 ghost use Rattle.ne_products.specs.Restarts.{NeverRefuses, PairsListed, PairsLists, YieldsPairs};
 ghost use Rattle.ne_products.specs.Unique.{ChecksDistinct, ChecksUnique};
 
+use itertools::Itertools;
 use ne_iter::iter::{ItemSource, KeyedMap};
 use ne_iter::{IntoNonEmptyIterator, NonEmptyIterator};
 use ne_vec::NEVec;
 use std::alloc::{AllocError, Global};
 use std::collections::HashSet;
+use std::fmt::Display;
 use std::hash::Hash;
 
 /// Further methods of non-empty iterators. Every [`NonEmptyIterator`] has them.
@@ -126,6 +132,36 @@ pub trait NonEmptyItertools: NonEmptyIterator {
             }
         }
         Ok(true)
+    }
+
+    /// Returns the texts of the items, as `{}` shows them, with `separator` between each two. The
+    /// items must come to an end.
+    ///
+    /// Returns `AllocError` if an allocation fails, or if an item's own `fmt` does; the items taken
+    /// are then dropped. The Rust crate lacks this method; that of `itertools` cannot fail.
+    ///
+    /// ```
+    /// let names = nev![alloc; "tree", "leaf", "bud"]?;
+    /// let text = names.nonempty_iter().join(alloc, ", ")?; // "tree, leaf, bud"
+    /// let numbers = nev![alloc; 4, 9]?.into_nonempty_iter().join(alloc, "")?; // "49"
+    /// ```
+    final fn join(self, alloc: Global, separator: &str) -> Result<String, AllocError>
+    where
+        Self: Sized,
+        Self::Item: Display + Drop,
+        requires { ⟦<Self as ItemSource>⟧.ends self }
+        ensures gives { IfOk result (λ text. (xs : List Self.Item)
+            × ⟦<Self as ItemSource>⟧.reads true self xs
+            × IsJoined Self.Item.output itself separator.now xs (string_bytes text)) }
+        ensures lists { IfOk result (λ text. EachView Self.item_view
+            (⟦<Self as ItemSource>⟧.lists) self (λ view xs.
+            IsJoined Self.Item.output view separator.now xs (string_bytes text))) }
+        ensures runs { IfOk result (λ text.
+            RunsWhole Self.into_iter_gives Self.IntoIter.next_gives self (λ p.
+            HasTexts Self.Item.output → string_bytes text
+            ≡ join_by (text_of Self.Item.output) separator.now p.items)) }
+    {
+        self.into_iter().join(alloc, separator)
     }
 
     /// Returns, for each key, the fold of the items with that key, in their order: `init` and the

@@ -3,6 +3,7 @@
 //! `join_by` is std's function for what `join` of a slice returns.
 ghost use Rattle.std.specs.Prelude.{◌≡◌, ◌+◌, ◌*◌, ◌++◌, take, map, nat_eq, cond, IfOk};
 ghost use Rattle.std.specs.Prelude.{codes, length, string_bytes};
+ghost use Rattle.std.specs.Fmt.{decimal};
 ghost use Rattle.std.specs.Int.NonZero.{non_zero_usize_get};
 ghost use Rattle.std.specs.List.{flat_map, join_by};
 ghost use Rattle.std.specs.String.{string_eq};
@@ -11,6 +12,7 @@ ghost use Rattle.ne_iter.specs.Intersperse.{interspersed};
 
 use crate::nested::Order;
 use ne_iter::{IntoNonEmptyIterator, NonEmptyIterator};
+use ne_products::NonEmptyItertools;
 use ne_vec::NEVec;
 use std::alloc::{AllocError, Global};
 use std::num::NonZeroUsize;
@@ -142,4 +144,52 @@ pub fn customers_of_runs(alloc: Global, orders: NEVec<Order>) -> Result<String, 
     let mut first_ones = orders;
     first_ones.dedup_by(|a, b| a.customer == b.customer);
     customers(alloc, &first_ones)
+}
+
+/// Returns the names of a vector, which is passed by value, with the separator between each two.
+pub fn into_joined(
+    alloc: Global,
+    names: NEVec<String>,
+    separator: &str,
+) -> Result<String, AllocError>
+    ensures { IfOk result (λ text.
+        string_bytes text ≡ join_by string_bytes separator.now names) }
+{
+    names.into_nonempty_iter().join(alloc, separator)
+}
+
+/// Returns the names of the customers of two vectors of orders, with a comma between each two.
+pub fn customers_of_both(
+    alloc: Global,
+    orders: &NEVec<Order>,
+    others: &NEVec<Order>,
+) -> Result<String, AllocError>
+    ensures { IfOk result (λ text. string_bytes text
+        ≡ join_by (λ o. string_bytes o.customer) (codes ", ") (orders.now ++ others.now)) }
+{
+    orders
+        .nonempty_iter()
+        .chain(others)
+        .map(|o| o.customer.as_str())
+        .join(alloc, ", ")
+}
+
+/// Returns for each number whether it is zero, in words, with a comma between each two.
+pub fn zeros_named(alloc: Global, numbers: &NEVec<u64>) -> Result<String, AllocError>
+    ensures { IfOk result (λ text. string_bytes text
+        ≡ join_by (λ n. cond (nat_eq n 0) (codes "zero") (codes "more")) (codes ", ")
+        numbers.now) }
+{
+    numbers
+        .nonempty_iter()
+        .map(|n| if *n == 0 { "zero" } else { "more" })
+        .join(alloc, ", ")
+}
+
+/// Returns the numbers as a text, with a comma between each two.
+pub fn numbers_joined(alloc: Global, numbers: &NEVec<u64>) -> Result<String, AllocError>
+    ensures { IfOk result (λ text.
+        string_bytes text ≡ join_by decimal (codes ", ") numbers.now) }
+{
+    numbers.nonempty_iter().join(alloc, ", ")
 }

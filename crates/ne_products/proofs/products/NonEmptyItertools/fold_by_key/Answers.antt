@@ -70,7 +70,7 @@ f-requires-in-None-value_mut g c =
     let from = c.next-first.ensures.first in
     let value = g.M.KeyedMap.value c.loop-x.folded in
     let absent : unwrap_or (value (g.M.KeyedMap.key_view.of c.key-k-in-loop-x.result))
-        c.args.init ≡ c.args.init
+    c.args.init ≡ c.args.init
     = ap (λ o. unwrap_or o c.args.init) (sym c.value_mut.ensures.value
     ∙ ap option_copied_mut c.in-None-value_mut.is) in
     subst (λ b. g.G.FnMut.pre c.loop-x.f (b, (c.in-Some.x, tt))) absent

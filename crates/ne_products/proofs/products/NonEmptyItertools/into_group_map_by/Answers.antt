@@ -28,7 +28,7 @@ key-k-requires-in-loop-x g c =
       _,
       (c.key-k.result, called_at g.F.FnMut c.key-k.ensures refl),
       turns_calls g.F.FnMut AddsLast g.M.KeyedMap.key_view g.M.KeyedMap.same []
-      _ c.loop-x.yielded _ c.loop-x.invariant,
+          _ c.loop-x.yielded _ c.loop-x.invariant,
     )
     c.in-Some.ensures.steps _ refl
 
