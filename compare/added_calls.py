@@ -96,6 +96,10 @@ ROWS = [
     ("split_off", VECTOR, NONE, "size", CHANGES),
     ("sort_unstable", VECTOR, NONE, "", CHANGES),
     ("sort_unstable_by sort_unstable_by_key", VECTOR, PURE, "", CHANGES),
+    ("join counts", VECTOR, NONE, "", READS),
+    ("partition", VECTOR, ANY, "", READS),
+    ("into_group_map_by", VECTOR, ANY, "", READS),
+    ("fold_by_key", VECTOR, ANY, "item", READS),
     ("remove remove_entry", MAPS[:2], NONE, "key", CHANGES),
     ("remove take", SETS[:2], NONE, "key", CHANGES),
     ("swap_remove shift_remove", [MAPS[2], SETS[2]], NONE, "key", CHANGES),
@@ -547,6 +551,11 @@ vector 20000*7919
 extend_from_slice 20000*1
 split_off 20000
 sort_unstable
+join
+counts
+partition half
+fold_by_key tens 7
+into_group_map_by digit
 iter
 tree_map 2
 run_map 60000*1

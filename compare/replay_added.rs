@@ -348,6 +348,44 @@ fn vector(items: &mut Vec<u32>, call: &Call, out: &mut Transcript) {
         "push" => items.push(call.first),
         "pop" => out.told(unless_last(len, || items.pop())),
         "iter" => out.yielded(items),
+        _ => consumed(items, call, out),
+    }
+}
+
+// Consumers of the vector's items.
+fn consumed(items: &[u32], call: &Call, out: &mut Transcript) {
+    let key = |x: &u32| call.closure.of(*x);
+    match call.name {
+        "partition" => {
+            let parts: (Vec<u32>, Vec<u32>) = items.iter().partition(|x| call.closure.holds(**x));
+            out.told(parts)
+        }
+        "join" => out.told(items.iter().map(u32::to_string).collect::<Vec<_>>().join(", ")),
+        "counts" => {
+            let mut counts = IndexedMap::new();
+            for x in items.iter().map(|x| Key::new(*x)) {
+                match place_of(&counts, x) {
+                    Some(place) => counts[place].1 += 1,
+                    None => counts.push((x, 1)),
+                }
+            }
+            out.yielded(counts)
+        }
+        "fold_by_key" => {
+            let mut folds = HashMap::new();
+            for x in items {
+                let fold = folds.entry(key(x)).or_insert(7u32);
+                *fold = fold.wrapping_mul(31).wrapping_add(*x);
+            }
+            out.told((folds.len(), folds.get(&call.first).copied()))
+        }
+        "into_group_map_by" => {
+            let mut groups: BTreeMap<u32, Vec<u32>> = BTreeMap::new();
+            for x in items {
+                groups.entry(key(x)).or_default().push(*x);
+            }
+            out.told(groups)
+        }
         _ => out.said("no such call"),
     }
 }

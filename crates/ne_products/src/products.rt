@@ -142,8 +142,8 @@ pub trait NonEmptyItertools: NonEmptyIterator {
     ///
     /// ```
     /// let names = nev![alloc; "tree", "leaf", "bud"]?;
-    /// let text = names.nonempty_iter().join(alloc, ", ")?; // "tree, leaf, bud"
-    /// let numbers = nev![alloc; 4, 9]?.into_nonempty_iter().join(alloc, "")?; // "49"
+    /// let text: String = names.nonempty_iter().join(alloc, ", ")?; // "tree, leaf, bud"
+    /// let digits: String = nev![alloc; 4, 9]?.into_nonempty_iter().join(alloc, "")?; // "49"
     /// ```
     final fn join(self, alloc: Global, separator: &str) -> Result<String, AllocError>
     where
