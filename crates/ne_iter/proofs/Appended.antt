@@ -10,7 +10,7 @@ use Rattle.ne_vec.specs.Lists.{EachList, Lists}
 use Rattle.ne_iter.specs.Collected.{AppendsRead}
 use Rattle.ne_iter.specs.Sources.{Reads}
 use Rattle.ne_iter.specs.LoopLaws.{whole_prefix}
-use Rattle.ne_iter.proofs.SourceLists.{lists_read}
+use Rattle.ne_iter.specs.LoopLaws.{lists_read}
 
 not_ok : {V E : Type 0} (r : Result V E) → IsErr r → is_ok r ≡ true → ⊥
 not_ok (Ok v) is ok = absurd cc

@@ -16,7 +16,8 @@ use Rattle.ne_iter.specs.SourceLists.{BecomesList}
 use Rattle.ne_iter.proofs.Flatten.{joined_prefixes}
 use Rattle.ne_iter.proofs.Divided.{joined_mapped}
 use Rattle.ne_iter.specs.LoopLaws.{reads_through}
-use Rattle.ne_iter.proofs.SourceLists.{lists_read, read_lists, becomes_read}
+use Rattle.ne_iter.proofs.SourceLists.{read_lists}
+use Rattle.ne_iter.specs.LoopLaws.{lists_read, becomes_read}
 use Rattle.ne_iter.proofs.SourceLists.{through_reads, becomes_read_through}
 
 -- the sources that f returns yield the lists that belong to the items, one after another

@@ -20,7 +20,8 @@ use Rattle.ne_iter.specs.Sources.{Reads, SameLists, EachReading, ReadsList}
 use Rattle.ne_iter.specs.Flatten.{ReadsEach, IsFlattened, FlattensLists}
 use Rattle.ne_iter.specs.SourceLists.{BecomesList}
 use Rattle.ne_iter.specs.LoopLaws.{Yields-append}
-use Rattle.ne_iter.proofs.SourceLists.{lists_read, read_lists, becomes_read}
+use Rattle.ne_iter.proofs.SourceLists.{read_lists}
+use Rattle.ne_iter.specs.LoopLaws.{lists_read, becomes_read}
 
 module _ {S U J A : Type 0} (steps : S → Option U → S → Type 0) (becomes : U → J → Type 0)
     (inner : J → Option A → J → Type 0) where

@@ -15,7 +15,7 @@ use Rattle.ne_vec.specs.Lists.{IsPrefix, Lists, YieldsItems, YieldsThrough, Yiel
 use Rattle.ne_vec.specs.Lists.{EachView, View, itself}
 use Rattle.ne_vec.specs.ListLaws.{lists_of, of_lists, triggered}
 use Rattle.ne_vec.specs.RunLaws.{yields_items, yields_through, run_drains}
-use Rattle.ne_iter.specs.LoopLaws.{reads_through, whole_prefix}
+use Rattle.ne_iter.specs.LoopLaws.{lists_read, reads_through, whole_prefix}
 use Rattle.ne_iter.specs.Sources.{ReadsList, ReadsListThrough, Reads, SameLists}
 use Rattle.ne_iter.specs.SourceLists.{BecomesList, MeetsList, EachKept, StdYields}
 
@@ -60,11 +60,6 @@ module _ {U A : Type 0} (reads : Bool → U → List A → Type 0) (u : U) (xs :
 
 module _ {U S A : Type 0} (becomes : U → S → Type 0) (steps : S → Option A → S → Type 0) (u : U)
   where
-    pub lists_read : (xs : List A) → Lists becomes steps (λ x. x) u xs
-        → ReadsList (Reads becomes steps) u xs
-    lists_read xs lists whole ys read =
-        of_lists becomes steps u xs lists read.it read.made whole ys read.given
-
     pub read_lists : (xs : List A) → ReadsList (Reads becomes steps) u xs
         → YieldsItems becomes steps u xs
     read_lists xs list = yields_items becomes steps u xs (lists_of becomes steps u xs
@@ -96,7 +91,8 @@ module _ {U S A : Type 0} (becomes : U → S → Type 0) (steps : S → Option A
     module _ (xs : List A) (lists : Lists becomes steps (λ x. x) u xs) (P : List A → Type 0) where
       -- what holds for a list that was read to its end holds for the list that is yielded
       pub of_read : (ys : List A) → Reads becomes steps true u ys → P ys → P xs
-      of_read ys read = subst P (whole_prefix xs ys (lists_read xs lists true ys read))
+      of_read ys read =
+          subst P (whole_prefix xs ys (lists_read becomes steps u xs lists true ys read))
 
       pub of_drained : (it : S) (ys : List A) → becomes u it → Drains steps it ys → P ys → P xs
       of_drained it ys made drains =
@@ -113,12 +109,6 @@ module _ {U S A : Type 0} (becomes : U → S → Type 0) (steps : S → Option A
 module _ {W R V T A : Type 0} (meets : W → R → Type 0) (other : R → Option A → R → Type 0)
     (makes : W → V → Type 0) (becomes : V → T → Type 0) (steps : T → Option A → T → Type 0)
     (same : SameLists meets other makes becomes steps) (w : W) where
-  pub becomes_read : (xs : List A) → BecomesList makes becomes steps itself w xs
-      → ReadsList (Reads meets other) w xs
-  becomes_read xs lists whole ys read =
-      let there = (same w whole ys).0 read in
-      lists_read becomes steps there.0 xs (lists there.0 there.1) whole ys there.2
-
   pub becomes_read_through : (view : View A) (xs : List view.Target)
       → BecomesList makes becomes steps view w xs → ReadsListThrough (Reads meets other) view.of w
       xs

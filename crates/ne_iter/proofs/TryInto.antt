@@ -13,7 +13,8 @@ use Rattle.ne_iter.specs.Peeked.{HasFirst-peeked, is_item, has_peeked}
 use Rattle.ne_iter.specs.TryInto.{PeeksWhole, EachMet, PeeksLists}
 use Rattle.ne_iter.specs.Sources.{ReadsList, Reads}
 use Rattle.ne_iter.specs.SourceLists.{MeetsList}
-use Rattle.ne_iter.proofs.SourceLists.{as_items, lists_read, meets_read, read_lists}
+use Rattle.ne_iter.proofs.SourceLists.{as_items, meets_read, read_lists}
+use Rattle.ne_iter.specs.LoopLaws.{lists_read}
 
 at_none : {B : Type 0} (p : Option B) (P : Type 0) (Q : B → Type 0) → p ≡ None → MatchOption p P Q
     → P

@@ -5,8 +5,9 @@ use Rattle.std.proofs.lemmas.Bool.{OnFalse_from}
 use Rattle.std.specs.Prelude.{◌≡◌, true, false, List, [], ◌∷◌, ◌++◌, Option, Some, None, map, refl}
 use Rattle.std.specs.Iterator.{Yields}
 use Rattle.ne_vec.specs.Lists.{EachView, IsPrefix, Lists, View, itself}
-use Rattle.ne_vec.specs.ListLaws.{triggered}
-use Rattle.ne_iter.specs.Sources.{Reads, ReadsListThrough}
+use Rattle.ne_vec.specs.ListLaws.{of_lists, triggered}
+use Rattle.ne_iter.specs.Sources.{Reads, ReadsList, ReadsListThrough, SameLists}
+use Rattle.ne_iter.specs.SourceLists.{BecomesList}
 
 -- the items of two runs of an iterator, one after the other
 pub Yields-append : {S A : Type 0} (steps : S → Option A → S → Type 0) (xs ys : List A) (s t u : S)
@@ -76,6 +77,21 @@ pub reads_through : {U S A B : Type 0} (becomes : U → S → Type 0)
 unfolding Lists
 reads_through becomes steps u view xs shows whole ys read =
     shows read.it read.made whole ys read.given
+
+-- so is it of the items themselves
+pub lists_read : {U S A : Type 0} (becomes : U → S → Type 0) (steps : S → Option A → S → Type 0)
+    (u : U) (xs : List A) → Lists becomes steps (λ x. x) u xs → ReadsList (Reads becomes steps) u xs
+lists_read becomes steps u xs lists whole ys read =
+    of_lists becomes steps u xs lists read.it read.made whole ys read.given
+
+-- a value that becomes a source may read each list that the source may read
+pub becomes_read : {W R V T A : Type 0} (meets : W → R → Type 0) (other : R → Option A → R → Type 0)
+    (makes : W → V → Type 0) (becomes : V → T → Type 0) (steps : T → Option A → T → Type 0)
+    → SameLists meets other makes becomes steps → (w : W) (xs : List A)
+    → BecomesList makes becomes steps itself w xs → ReadsList (Reads meets other) w xs
+becomes_read meets other makes becomes steps same w xs lists whole ys read =
+    let there = (same w whole ys).0 read in
+    lists_read becomes steps there.0 xs (lists there.0 there.1) whole ys there.2
 
 -- what holds of the items read to the end, through each view, holds of the list of that view
 pub each_view_read : {U S A : Type 0} {becomes : U → S → Type 0}

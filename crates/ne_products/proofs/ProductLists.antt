@@ -4,7 +4,8 @@ use Rattle.std.specs.Prelude.{◌≡◌, Bool, true, List, Ok, Option, Result, m
 use Rattle.std.specs.Iterator.{Count, DrainsIf}
 use Rattle.std.specs.declared.alloc.AllocError.{AllocError}
 use Rattle.ne_vec.specs.Lists.{Lists, itself}
-use Rattle.ne_vec.specs.ListLaws.{lists_of, of_lists, triggered}
+use Rattle.ne_vec.specs.ListLaws.{lists_of, triggered}
+use Rattle.ne_iter.specs.LoopLaws.{becomes_read, lists_read}
 use Rattle.ne_iter.specs.Sources.{ReadsList, Reads, SameLists}
 use Rattle.ne_iter.specs.SourceLists.{BecomesList}
 use Rattle.ne_products.specs.Pairs.{cartesian_product, pairs_by_row, CanRefuse, ClonedPairs}
@@ -12,19 +13,6 @@ use Rattle.ne_products.specs.Restarts.{ClonesAgain, HasExactClones, NeverRefuses
 use Rattle.ne_products.specs.Restarts.{PairsListed, PairsLists, YieldsPairs}
 use Rattle.ne_products.proofs.ProductPrefixes.{all_values, product_prefix}
 use Rattle.ne_products.proofs.ProductRows.{cloned_longer, equal_rows}
-
-module _ {U S A : Type 0} (becomes : U → S → Type 0) (steps : S → Option A → S → Type 0) where
-  pub lists_read : (u : U) (xs : List A) → Lists becomes steps (λ x. x) u xs
-      → ReadsList (Reads becomes steps) u xs
-  lists_read u xs lists whole ys read =
-      of_lists becomes steps u xs lists read.it read.made whole ys read.given
-
-  becomes_read : {W R : Type 0} (meets : W → R → Type 0) (other : R → Option A → R → Type 0)
-      (makes : W → U → Type 0) → SameLists meets other makes becomes steps → (w : W) (xs : List A)
-      → BecomesList makes becomes steps itself w xs → ReadsList (Reads meets other) w xs
-  becomes_read meets other makes same w xs lists whole ys read =
-      let there = (same w whole ys).0 read in
-      lists_read there.0 xs (lists there.0 there.1) whole ys there.2
 
 -- The iterator, as a source, yields the list.
 abbrev Yields : {J B : Type 0} → (J → Option B → J → Type 0) → J → List B → Type 0
@@ -121,6 +109,6 @@ module _ {U V W R X S T J A B : Type 0} (becomes : U → S → Type 0)
     λ xs ys. (
       refl,
       λ first second. listed xs ys (lists_read becomes steps u xs first)
-          (becomes_read begins others meets other makes same w ys second),
+          (becomes_read meets other makes begins others same w ys second),
     ),
   )

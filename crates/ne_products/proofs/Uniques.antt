@@ -12,7 +12,7 @@ use Rattle.ne_vec.specs.Lists.{Lists, EachList}
 use Rattle.ne_vec.specs.ListLaws.{triggered}
 use Rattle.ne_iter.specs.Sources.{ReadsList, Reads}
 use Rattle.ne_products.specs.Unique.{are_unique, ChecksDistinct, ChecksUnique}
-use Rattle.ne_products.proofs.ProductLists.{lists_read}
+use Rattle.ne_iter.specs.LoopLaws.{Yields-append, lists_read}
 
 pub was_there : (b n : Bool) → n ≡ not b → n ≡ false → b ≡ true
 was_there true n e f = refl
@@ -28,13 +28,6 @@ put true b false e = rw (sym e) refl
 put false b true e = refl
 put false b false e = rw (sym e) refl
 
-yields_more : {S A : Type 0} (steps : S → Option A → S → Type 0) (xs : List A) (x : A) (s t u : S)
-    → Yields steps s xs t → steps t (Some x) u → Yields steps s (xs ++ x ∷ []) u
-yields_more steps [] x s t u run last =
-    subst (λ q. Yields steps q (x ∷ []) u) (sym run) (u, last, refl)
-yields_more steps (y ∷ xs) x s t u run last =
-    (run.0, run.1, yields_more steps xs x run.0 t u run.2 last)
-
 pub Reads-up_to : {U S A : Type 0} {becomes : U → S → Type 0} {steps : S → Option A → S → Type 0}
     {source : U} (it : S) (xs : List A) (t : S) (x : A) (u : S) → becomes source it
     → Yields steps it xs t → steps t (Some x) u → Reads becomes steps false source (xs ++ x ∷ [])
@@ -42,7 +35,7 @@ Reads-up_to {steps = steps} it xs t x u made run last =
     record {
       it = it;
       made = made;
-      given = (u, yields_more steps xs x it t u run last, λ w. absurd (true≢false (sym w)));
+      given = (u, Yields-append steps xs (x ∷ []) it t u run (u, last, refl), λ w. absurd (true≢false (sym w)));
     }
 
 or_false : (a b : Bool) → (a || b) ≡ false → (a ≡ false) × (b ≡ false)

@@ -3,7 +3,7 @@ use Rattle.std.proofs.lemmas.Result.{IfOk-weaker}
 use Rattle.ne_vec.specs.ListLaws.{triggered}
 use Rattle.ne_iter.proofs.Traced.{run_of}
 use Rattle.ne_iter.proofs.PrefixesMade.{prefix_makes}
-use Rattle.ne_iter.proofs.SourceLists.{lists_read}
+use Rattle.ne_iter.specs.LoopLaws.{lists_read}
 
 pub returns-clause-runs : goal.returns-clause-runs
 returns-clause-runs g c = IfOk-weaker c.from_nonempty_iter.result _ _

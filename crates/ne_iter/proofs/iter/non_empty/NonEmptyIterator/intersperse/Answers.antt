@@ -10,7 +10,8 @@ use Rattle.ne_iter.specs.Intersperse.{interspersed, JoinsLists}
 use Rattle.ne_iter.proofs.Intersperse.{joins_lists, only_its_values, DrainsIf-interspersed}
 use Rattle.ne_iter.proofs.Intersperse.{intersperse_list}
 use Rattle.ne_iter.proofs.Traced.{begins}
-use Rattle.ne_iter.proofs.SourceLists.{lists_read, read_lists}
+use Rattle.ne_iter.proofs.SourceLists.{read_lists}
+use Rattle.ne_iter.specs.LoopLaws.{lists_read}
 
 pub returns-clause-gives : goal.returns-clause-gives
 returns-clause-gives g c whole zs h =

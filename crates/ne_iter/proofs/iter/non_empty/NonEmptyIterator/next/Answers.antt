@@ -1,7 +1,8 @@
 use Rattle.ne_iter.proofs.iter.non_empty.NonEmptyIterator.next.Goals as goal
 use Rattle.std.proofs.Common.{rules}
 use Rattle.ne_vec.specs.ListLaws.{triggered}
-use Rattle.ne_iter.proofs.SourceLists.{begins_list, lists_read}
+use Rattle.ne_iter.proofs.SourceLists.{begins_list}
+use Rattle.ne_iter.specs.LoopLaws.{lists_read}
 
 pub returns-clause-first : goal.returns-clause-first
 returns-clause-first g c = search rules

@@ -5,7 +5,8 @@ use Rattle.ne_vec.specs.ListLaws.{triggered}
 use Rattle.ne_iter.proofs.Peekable.{DrainsIf-headed, peekable_list, yields_rest}
 use Rattle.ne_iter.proofs.Peekable.{yields_peeked}
 use Rattle.ne_iter.specs.LoopLaws.{reads_through}
-use Rattle.ne_iter.proofs.SourceLists.{lists_read, read_lists}
+use Rattle.ne_iter.proofs.SourceLists.{read_lists}
+use Rattle.ne_iter.specs.LoopLaws.{lists_read}
 
 pub returns-clause-gives : goal.returns-clause-gives
 returns-clause-gives g c w whole zs h =
