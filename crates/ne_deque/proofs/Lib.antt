@@ -1,4 +1,2 @@
 pub mod AmongKeys
 pub mod Ends
-pub mod ItemCalls
-pub mod Parted

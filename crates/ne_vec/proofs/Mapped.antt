@@ -9,7 +9,7 @@ use Rattle.std.specs.Fn.{Mut, Called, Takes}
 use Rattle.std.specs.Iterator.{ActsAs}
 use Rattle.ne_vec.specs.Calls.{Calls}
 use Rattle.ne_vec.specs.Searches.{CallableOnItems}
-use Rattle.ne_vec.proofs.Halving.{all_cons}
+use Rattle.std.proofs.lemmas.List.Elements.{All-cons}
 
 module _ {F A : Type 0} (calls : Mut F (A × Unit {0}) A) where
   -- f may be called with the items of xs in turn
@@ -27,7 +27,7 @@ module _ {F A : Type 0} (calls : Mut F (A × Unit {0}) A) where
             (callable.at [] f (λ k d h. absurd (omega arith)) refl here.0 x here.1),
         λ y g called. part_in_turn all xs g (λ k d h. among (suc k) d (omega arith)) (record {
           at = λ shown h inside folds. callable.at (x ∷ shown) h
-              (all_cons (Contains all) x shown here inside) (g, (y, called), folds);
+              (All-cons (Contains all) x shown here inside) (g, (y, called), folds);
         }),
       )
 

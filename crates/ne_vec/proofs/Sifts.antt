@@ -14,7 +14,7 @@ use Rattle.std.specs.Fn.{Mut, CalledAt, CalledAtMut, TakesAt}
 use Rattle.std.specs.List.{items_where_true, FoldsTo}
 use Rattle.std.specs.List.Retain.{RetainsInTurn, IsFiltered}
 use Rattle.ne_vec.specs.Searches.{CallableAtItems, CallableAtItemsMut, TakesAtMut}
-use Rattle.ne_vec.proofs.Halving.{all_cons}
+use Rattle.std.proofs.lemmas.List.Elements.{All-cons}
 use denote.Param.Always.{always_mut, mut_next}
 
 -- a swap of k and i leaves the first k items, and those past i
@@ -81,7 +81,7 @@ module _ {F A R : Type 0} (calls : Mut F (MutBor A × Unit {0}) (R × (MutBor A 
         λ r g y called. part_in_turn all xs g (λ k d h. among (suc k) d (omega arith))
             (record {
               at = λ shown h inside folds. callable.at (x ∷ shown) h
-                  (all_cons (Contains all) x shown here inside) (g, (r, y, called), folds);
+                  (All-cons (Contains all) x shown here inside) (g, (r, y, called), folds);
             }),
       )
 

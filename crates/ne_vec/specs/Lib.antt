@@ -7,6 +7,7 @@ pub mod KeyOrder
 pub mod Orders
 pub mod Taken
 pub mod Searches
+pub mod SearchLaws
 pub mod Chunks
 pub mod Lists
 pub mod ListLaws

@@ -5,7 +5,7 @@ use Rattle.std.specs.Ordering.{is_gt}
 use Rattle.std.specs.declared.cmp.Ordering.TheVariants.{Less, Equal, Greater}
 use Rattle.core.proofs.slice.Orders.{answers_next}
 use Rattle.core.proofs.slice.Searches.{lower, upper, after_Less, at_Greater, at_read}
-use Rattle.ne_deque.proofs.ItemCalls.{computes, items_next, items_take}
+use Rattle.ne_vec.specs.SearchLaws.{computes, items_next, items_take}
 use Rattle.ne_deque.proofs.vec_deque.NEVecDeque.binary_search_by.Goals.{then-not-is_gt}
 use Rattle.ne_deque.proofs.vec_deque.NEVecDeque.binary_search_by.Goals.{else-not-is_gt}
 

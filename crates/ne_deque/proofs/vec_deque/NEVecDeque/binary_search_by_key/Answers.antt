@@ -1,7 +1,7 @@
 use Rattle.ne_deque.proofs.vec_deque.NEVecDeque.binary_search_by_key.Goals as goal
 use Rattle.std.proofs.Common.{◌≡◌, refl, rules}
 use Rattle.ne_deque.proofs.AmongKeys.{among_keys}
-use Rattle.ne_deque.proofs.ItemCalls.{callable_under, computes, computes_under}
+use Rattle.ne_vec.specs.SearchLaws.{callable_under, computes, computes_under}
 
 pub binary_search_by-requires : goal.binary_search_by-requires
 binary_search_by-requires g c =

@@ -1,8 +1,8 @@
 use Rattle.ne_deque.proofs.vec_deque.NEVecDeque.partition_point.Goals as goal
 use Rattle.std.proofs.Common.{rules}
 use Rattle.std.specs.Prelude.{⊤}
-use Rattle.ne_deque.proofs.ItemCalls.{callable_under, computes, computes_under}
-use Rattle.ne_deque.proofs.Parted.{partition_of, side}
+use Rattle.ne_vec.specs.SearchLaws.{callable_under, computes, computes_under, partition_of}
+use Rattle.ne_vec.specs.SearchLaws.{side}
 use Rattle.ne_deque.proofs.vec_deque.NEVecDeque.partition_point.Goals.{in-Ok, in-Ok-2}
 
 pub binary_search_by-found-requires : goal.binary_search_by-found-requires

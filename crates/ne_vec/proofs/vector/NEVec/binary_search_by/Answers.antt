@@ -4,8 +4,9 @@ use Rattle.std.proofs.lemmas.Fn.{called_at}
 use Rattle.std.proofs.lemmas.List.Elements.{at_read}
 use Rattle.std.specs.Ordering.{is_gt}
 use Rattle.std.specs.declared.cmp.Ordering.TheVariants.{Less, Equal, Greater}
-use Rattle.ne_vec.proofs.Halving.{items_next, items_take, answers_next, lower, upper, after_less}
-use Rattle.ne_vec.proofs.Halving.{at_greater}
+use Rattle.core.proofs.slice.Orders.{answers_next}
+use Rattle.ne_vec.specs.SearchLaws.{items_next, items_take}
+use Rattle.ne_vec.proofs.Halving.{lower, upper, after_less, at_greater}
 use Rattle.ne_vec.proofs.vector.NEVec.binary_search_by.Goals.{then-not-is_gt, else-not-is_gt}
 
 pub loop-size-init : goal.loop-size-init

@@ -1,6 +1,7 @@
 use Rattle.ne_vec.proofs.vector.NEVec.binary_search_by_key.Goals as goal
 use Rattle.std.proofs.Common.{◌≡◌, refl, rules}
-use Rattle.ne_vec.proofs.Halving.{callable_under, computes_under, items_of, keys_of}
+use Rattle.ne_vec.specs.SearchLaws.{callable_under, computes_under}
+use Rattle.ne_vec.proofs.Halving.{items_of, keys_of}
 use Rattle.ne_vec.proofs.SortedKeys.{computes}
 
 pub binary_search_by-requires : goal.binary_search_by-requires

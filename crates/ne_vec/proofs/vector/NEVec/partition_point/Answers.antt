@@ -2,7 +2,7 @@ use Rattle.ne_vec.proofs.vector.NEVec.partition_point.Goals as goal
 use Rattle.std.proofs.Common.{cond, rules}
 use Rattle.std.specs.Prelude.{⊤}
 use Rattle.std.specs.declared.cmp.Ordering.TheVariants.{Less, Greater}
-use Rattle.ne_vec.proofs.Halving.{callable_under, computes_under, partition_of}
+use Rattle.ne_vec.specs.SearchLaws.{callable_under, computes_under, partition_of}
 use Rattle.ne_vec.proofs.vector.NEVec.partition_point.Goals.{in-Ok, in-Ok-2}
 
 pub binary_search_by-found-requires : goal.binary_search_by-found-requires

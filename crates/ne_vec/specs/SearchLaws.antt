@@ -1,14 +1,18 @@
--- The calls that a search makes of its closure, with items of the queue, and of a closure that
--- calls another one with the same item.
-use Rattle.std.proofs.Common.{◌≡◌, ℕ, ◌<◌, List, [], ◌∷◌, length, refl, sym, ap, ◌∙◌}
-use Rattle.std.proofs.Common.{arith}
+-- Laws for who searches a list: the calls that a search makes of its closure, also of one that calls
+-- another with the same item, and what a search by whether an item meets a test finds.
+use Rattle.std.proofs.Common.{◌≡◌, ◌⊎◌, inl, inr, ℕ, ◌<◌, Bool, true, false, List, [], ◌∷◌, length}
+use Rattle.std.proofs.Common.{refl, sym, ap, subst, ◌∙◌, arith}
 use Rattle.std.proofs.lemmas.Fn.{always_returns_same, answers_by}
 use Rattle.std.proofs.lemmas.List.Elements.{All-cons}
-use Rattle.std.specs.Prelude.{slice_index_or, Contains}
+use Rattle.std.specs.Prelude.{cond, slice_index_or, ◌≤◌, Contains, Result, Ok, Err}
 use Rattle.std.specs.Borrow.{Bor}
 use Rattle.std.specs.Fn.{Mut, CalledAt, TakesAt, ComputesKey}
 use Rattle.std.specs.Iterator.{ActsAsAt}
 use Rattle.std.specs.List.{FoldsTo}
+use Rattle.std.specs.List.Sorted.{IsBinarySearchResult, IsPartitionedBy, IsPartitionPoint}
+use Rattle.std.specs.Ordering.{ordering_index}
+use Rattle.std.specs.declared.cmp.Ordering.{Ordering}
+use Rattle.std.specs.declared.cmp.Ordering.TheVariants.{Less, Equal, Greater}
 use Rattle.core.proofs.slice.Orders.{answers_next}
 use Rattle.ne_vec.specs.Searches.{CallableAtItems}
 
@@ -68,3 +72,31 @@ module _ {F G A K R : Type 0} (inner : Mut F (Bor A × Unit {0}) K)
       let t = s.2 i.0 in
       (t.0 ∙ ap of (n.0 ∙ ap key s.1.shows), (t.1, n.1)))
       g (fix, computes)
+
+-- how a test is searched by: items that meet it are less
+abbrev pub side : Bool → Ordering
+side met = cond met Less Greater
+
+side_is : (b : Bool) → (side b ≡ Less → b ≡ true) × (side b ≡ Greater → b ≡ false)
+    × (side b ≡ Equal → ⊥)
+side_is true = (λ e. refl, λ e. absurd cc, λ e. cc)
+side_is false = (λ e. absurd cc, λ e. refl, λ e. cc)
+
+rises : (p q : Bool) → (q ≡ true → p ≡ true)
+    → ordering_index (side p) ≤ ordering_index (side q)
+rises true q h = omega arith
+rises false true h = let e = h refl in absurd cc
+rises false false h = omega arith
+
+-- from such a search to the place between the items that meet the test and the others
+pub partition_of : {A : Type 0} (meets : A → Bool) (xs : List A) (r : Result ℕ ℕ) (i : ℕ)
+    → IsPartitionedBy meets xs → IsBinarySearchResult (λ y. side (meets y)) xs r
+    → (r ≡ Ok i) ⊎ (r ≡ Err i)
+    → IsPartitionPoint (λ y. meets y ≡ true) (λ y. meets y ≡ false) xs i
+partition_of meets xs r i parted found (inl e) =
+    let equal = subst (IsBinarySearchResult (λ y. side (meets y)) xs) e found in
+    (λ k d a b. absurd ((side_is _).2 (equal d)), λ k d a b. absurd ((side_is _).2 (equal d)))
+partition_of meets xs r i parted found (inr e) =
+    let sides = subst (IsBinarySearchResult (λ y. side (meets y)) xs) e found
+    (λ k j d a b. rises _ _ (parted k j d a b)) in
+    (λ k d a b. (side_is _).0 (sides.0 k d a b), λ k d a b. (side_is _).1 (sides.1 k d a b))
