@@ -294,6 +294,9 @@ pub trait NonEmptyItertools: NonEmptyIterator {
             × IsCounted (M.value m) M.same (map M.key_view.of xs)) }
         ensures lists { IfOk result (λ m. EachList (⟦<Self as ItemSource>⟧.lists M.key_view) self
             (λ keys. IsCounted (M.value m) M.same keys)) }
+        ensures runs { IfOk result (λ m.
+            RunsWhole Self.into_iter_gives Self.IntoIter.next_gives self (λ p.
+            IsCounted (M.value m) M.same (map M.key_view.of p.items))) }
     {
         let (first, rest) = self.next();
         let mut counts = M::with_entry(alloc, first, 1)?;

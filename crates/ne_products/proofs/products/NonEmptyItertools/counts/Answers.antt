@@ -1,6 +1,7 @@
 use Rattle.ne_products.proofs.products.NonEmptyItertools.counts.Goals as goal
 use Rattle.std.proofs.Common.{◌+◌, [], ◌∷◌, ◌∙◌, None, Some, ap, append-nil, arith}
 use Rattle.std.proofs.Common.{length, refl, rules, map, subst, sym, true}
+use Rattle.std.proofs.iter.runs.Made.{run}
 use Rattle.std.specs.Iterator.{IsFinite}
 use Rattle.std.specs.Iterator.Runs.{CountFits}
 use Rattle.std.specs.Option.{option_copied_mut}
@@ -81,3 +82,10 @@ returns-clause-lists g c = λ names lists.
           (reads_through g.Self.IntoIterator.into_iter_gives g.Self.IntoIter.Iterator.next_gives
           c.args.self g.M.KeyedMap.key_view.of names lists true given.0 given.1)) given.2,
     )
+
+pub returns-clause-runs : goal.returns-clause-runs
+returns-clause-runs g c =
+    let given = returns-clause-gives g c in
+    let read = given.1 in
+    let ran = run g.Self.IntoIter.Iterator.next_gives read.it given.0 true read.given in
+    (read.it, read.made, (ran, refl, refl, given.2))
