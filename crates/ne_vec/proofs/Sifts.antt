@@ -19,7 +19,7 @@ use denote.Param.Always.{always_mut, mut_next}
 
 -- a swap of k and i leaves the first k items, and those past i
 module _ {X : Type 0} (ys : List X) (k i : ℕ) (y : X) (le : k ≤ i) (lt : i < length ys) where
-  front_swap : take k ys ≡ take k (swap ys k i)
+  pub front_swap : take k ys ≡ take k (swap ys k i)
   front_swap =
       rw (← swap_is ys k i y (omega arith) lt)
       (sym (take-set-le k _ i _ le ∙ take-set-le k ys k _ (omega arith)))
@@ -55,11 +55,14 @@ module _ {S X : Type 0} (R : S → X → Bool → S → X → Type 0) (s₀ : S)
       let next = sift_on R s₀ xs s t ys k i x y le lt is h true called in
       (sym past ∙ next.0, rw (← copied) next.1)
 
-  pub passed_over : R s x false t y → RetainMutInvariant R s₀ xs t (swap written k i) k (i + 1)
-  passed_over called =
+  -- an item that goes may stand anywhere behind those that are kept, up to i
+  pub passed_over : (ws : List X) → take k ws ≡ take k written
+      → drop (i + 1) ws ≡ drop (i + 1) written → R s x false t y
+      → RetainMutInvariant R s₀ xs t ws k (i + 1)
+  passed_over ws front back called =
       let next = sift_on R s₀ xs s t ys k i x y le lt is h false called in (
-        sym past ∙ next.0,
-        rw (← front_swap written k i y le long, ← take-set written k y) next.1,
+        back ∙ sym (drop-set-lt (i + 1) written k y (omega arith)) ∙ next.0,
+        rw (front, ← take-set written k y) next.1,
       )
 
 -- ---- calls with the items in turn

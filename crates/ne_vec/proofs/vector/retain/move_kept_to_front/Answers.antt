@@ -1,10 +1,11 @@
 use Rattle.ne_vec.proofs.vector.retain.move_kept_to_front.Goals as goal
-use Rattle.std.proofs.Common.{◌<◌, ◌+◌, length, set, subst, sym, refl, arith, length-set}
+use Rattle.std.proofs.Common.{◌<◌, ◌+◌, length, subst, sym, refl, arith}
 use Rattle.std.proofs.Common.{◌∙◌, drop-set-lt}
 use Rattle.std.specs.Fn.{CalledAtMut}
 use Rattle.std.proofs.lemmas.List.{get_or_default}
 use Rattle.std.proofs.RetainMut.{Called-Mut, retain_mut_end}
-use Rattle.ne_vec.proofs.Sifts.{InTurn, retained, passed_over, items_in_turn, next_turn, after_swap}
+use Rattle.std.proofs.lemmas.Bool.{OnTrue_at}
+use Rattle.ne_vec.proofs.Sifts.{InTurn, retained, passed_over, items_in_turn, next_turn}
 use Rattle.ne_vec.proofs.vector.retain.move_kept_to_front.Goals.{then-stays, else-stays}
 
 pub f-stays-requires : goal.f-stays-requires
@@ -29,24 +30,24 @@ loop-i-preserved g c =
     let within : at.i < length at.items = omega arith in
     let there = get_or_default at.items at.i _ _ within in
     let y = c.f-stays.new.arg2 in
-    let long : at.i < length (set at.items at.i y) =
-    omega (arith, length-set {A = g.row.T.Denot}) in
     let after = subst (InTurn g.F.FnMut c.f-stays.new.self)
     (sym (drop-set-lt (at.i + 1) at.items at.i y (omega arith))
-    ∙ after_swap (set at.items at.i y) at.kept at.i y at.invariant.low long)
+    ∙ sym c.sift.ensures.past)
     ((next_turn g.F.FnMut at.f at.items at.i _ within there at.invariant.turns).1 _ _ _ called) in
     elim c.if-stays.branch [
-      | then-stays w ↦ rw (w.kept-is, c.swap.ensures.after) record {
+      | then-stays w ↦ rw w.kept-is record {
         low = omega arith;
         turns = after;
-        sifted = retained R c.args.f c.args.items.now at.f _ at.items at.kept at.i _ _
-            at.invariant.low within there at.invariant.sifted (rw w.if-stays.true at called);
+        sifted = rw (OnTrue_at w.if-stays.true c.sift.ensures.after) (retained R c.args.f
+            c.args.items.now at.f _ at.items at.kept at.i _ _ at.invariant.low within there
+            at.invariant.sifted (rw w.if-stays.true at called));
       }
-      | else-stays w ↦ rw (w.kept-is, c.swap.ensures.after) record {
+      | else-stays w ↦ rw w.kept-is record {
         low = omega arith;
         turns = after;
         sifted = passed_over R c.args.f c.args.items.now at.f _ at.items at.kept at.i _ _
-            at.invariant.low within there at.invariant.sifted (rw w.if-stays.false at called);
+            at.invariant.low within there at.invariant.sifted c.sift.new.items
+            c.sift.ensures.front c.sift.ensures.past (rw w.if-stays.false at called);
       }
     ]
 
