@@ -140,8 +140,10 @@ impl<T: Drop, E: Drop, V: FromNonEmptyIterator<T>> FromNonEmptyIterator<Result<T
 }
 
 // Collects the values of the first item and of those that are left, up to the first `Err`, which is
-// returned beside what is left then.
-pub(super) fn values_until_err<T: Drop, E: Drop, I: Iterator<Item = Result<T, E>>>(
+// returned beside what is left then. It is inlined for the sake of a vector's own iterator: see
+// `append`.
+#[inline(always)]
+fn values_until_err<T: Drop, E: Drop, I: Iterator<Item = Result<T, E>>>(
     alloc: Global,
     first: Result<T, E>,
     rest: I,
@@ -173,6 +175,7 @@ pub(super) fn values_until_err<T: Drop, E: Drop, I: Iterator<Item = Result<T, E>
 
 // Moves values into the places of `values` that are left. Returns the item that found no place, or
 // the first `Err`, if one came.
+#[inline(always)]
 fn fill_with_ok<T: Drop, E: Drop, I: Iterator<Item = Result<T, E>>>(
     mut values: Vec<T>,
     mut rest: I,
@@ -198,6 +201,7 @@ fn fill_with_ok<T: Drop, E: Drop, I: Iterator<Item = Result<T, E>>>(
 
 // Returns all values of the first item and of those that are left, or all errors. The values are
 // dropped at the first error, and those after it as they come.
+#[inline(always)]
 pub(super) fn all_or_errors<T: Drop, E: Drop, I: Iterator<Item = Result<T, E>>>(
     alloc: Global,
     first: Result<T, E>,
