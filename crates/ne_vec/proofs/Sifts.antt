@@ -1,10 +1,12 @@
 -- The loop of `retain_mut`: what each turn keeps, and that the closure may be called; and `retain`,
 -- whose closure calls another one.
 use Rattle.std.proofs.Common.{◌≡◌, ℕ, suc, ◌+◌, ◌<◌, ◌≤◌, Bool, true, false, cond, List, [], ◌∷◌}
+use Rattle.std.proofs.Common.{◌++◌}
 use Rattle.std.proofs.Common.{length, get_or, take, drop, set, swap, refl, sym, ap, subst, ◌∙◌}
 use Rattle.std.proofs.Common.{arith, rules, length-set, drop-set-lt, drop-cons}
 use Rattle.std.proofs.lemmas.List.{same_lists, places, get_or-set_same, take-set, get_or_default}
-use Rattle.std.proofs.lemmas.List.{take-set-le}
+use Rattle.std.proofs.lemmas.List.{get_or_append_left, length-append, set-append_left, take-set-le}
+use Rattle.std.proofs.Math.Seq.{get_or-append_seam, set-append_seam}
 use Rattle.std.proofs.lemmas.List.Edits.{swap_is}
 use Rattle.std.proofs.lemmas.Bool.{cases_eq}
 use Rattle.std.proofs.RetainMut.{RetainMutInvariant, sift_on}
@@ -28,6 +30,23 @@ module _ {X : Type 0} (ys : List X) (k i : ℕ) (y : X) (le : k ≤ i) (lt : i <
   after_swap =
       rw (← swap_is ys k i y (omega arith) lt)
       (sym (drop-set-lt (i + 1) _ i _ (omega arith) ∙ drop-set-lt (i + 1) ys k _ (omega arith)))
+
+-- a swap between two parts of a list
+pub parts_swapped : {X : Type 0} (fs bs : List X) (k : ℕ) (x z : X) → k < length fs
+    → 0 < length bs → x ≡ get_or bs 0 x → z ≡ get_or fs k z
+    → set fs k x ++ set bs 0 z ≡ swap (fs ++ bs) k (length fs)
+parts_swapped fs [] k x z lt some first second = absurd (omega arith)
+parts_swapped fs (b ∷ bs) k x z lt some first second =
+    let long = length-append fs (b ∷ bs) in
+    subst (λ q. set fs k q ++ z ∷ bs ≡ swap (fs ++ b ∷ bs) k (length fs)) (sym first)
+    (rw (
+      ← swap_is (fs ++ b ∷ bs) k (length fs) z (omega (arith, long)) (omega (arith, long)),
+      get_or-append_seam fs b bs z,
+      get_or_append_left fs (b ∷ bs) z k lt,
+      ← second,
+      set-append_left fs (b ∷ bs) k b lt,
+    ) (subst (λ n. set fs k b ++ z ∷ bs ≡ set (set fs k b ++ b ∷ bs) n z) (length-set fs k b)
+    (sym (set-append_seam (set fs k b) b bs z))))
 
 -- a turn at i, with k items kept so far, where the call left y
 module _ {S X : Type 0} (R : S → X → Bool → S → X → Type 0) (s₀ : S) (xs : List X) (s t : S)
@@ -54,6 +73,15 @@ module _ {S X : Type 0} (R : S → X → Bool → S → X → Type 0) (s₀ : S)
   retained called =
       let next = sift_on R s₀ xs s t ys k i x y le lt is h true called in
       (sym past ∙ next.0, rw (← copied) next.1)
+
+  unmoved : k ≡ i → set written k y ≡ written
+  unmoved same = same_lists _ _ (length-set written k y) (λ j d h.
+      grind (arith, places, get_or-set_same, cases_eq j k, same, lt, length-set ys i y))
+
+  -- an item that stays where it is, as all before it
+  pub stayed : k ≡ i → R s x true t y → RetainMutInvariant R s₀ xs t written (k + 1) (i + 1)
+  stayed same called = subst (λ l. RetainMutInvariant R s₀ xs t l (k + 1) (i + 1)) (unmoved same)
+      (sift_on R s₀ xs s t ys k i x y le lt is h true called)
 
   -- an item that goes may stand anywhere behind those that are kept, up to i
   pub passed_over : (ws : List X) → take k ws ≡ take k written
