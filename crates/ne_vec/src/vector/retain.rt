@@ -3,7 +3,8 @@
 //! They move the items that stay to the front, and then drop the others together; std's drop each
 //! after its call. Their loop is written out here because std's need a closure that can be called
 //! with any value, while these need only one that can be called with the vector's items.
-ghost use Rattle.std.specs.Prelude.{◌≡◌, ◌<◌, ◌≤◌, ◌+◌, ◌↔◌, Bool, [], IsErr, drop, length, map, take};
+ghost use Rattle.std.specs.Prelude.{◌≡◌, ◌<◌, ◌≤◌, ◌+◌, ◌↔◌, Bool, [], IsErr, drop, length, map};
+ghost use Rattle.std.specs.Prelude.{take};
 ghost use Rattle.std.specs.Bool.{OnTrue};
 ghost use Rattle.std.specs.List.{filter, swap as list_swap};
 ghost use Rattle.std.specs.List.Retain.{IsFiltered, RetainsInTurn};

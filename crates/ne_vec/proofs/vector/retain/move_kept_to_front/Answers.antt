@@ -7,9 +7,11 @@ use Rattle.std.proofs.lemmas.List.{get_or_default}
 use Rattle.std.proofs.RetainMut.{Called-Mut, retain_mut_end}
 use Rattle.ne_vec.proofs.Sifts.{InTurn, retained, passed_over, stayed, items_in_turn}
 use Rattle.ne_vec.proofs.Sifts.{next_turn}
-use Rattle.ne_vec.proofs.vector.retain.move_kept_to_front.Goals.{then-f, else-f, then-stays, else-stays}
-use Rattle.ne_vec.proofs.vector.retain.move_kept_to_front.Goals.{else-loop-kept-test}
-use Rattle.ne_vec.proofs.vector.retain.move_kept_to_front.Goals.{then-loop-kept-test+else-seen-items}
+use Rattle.ne_vec.proofs.vector.retain.move_kept_to_front.Goals.{else-f, else-loop-kept-test}
+use Rattle.ne_vec.proofs.vector.retain.move_kept_to_front.Goals.{else-stays, then-f, then-stays}
+use Rattle.ne_vec.proofs.vector.retain.move_kept_to_front.Goals.{
+  then-loop-kept-test+else-seen-items,
+}
 
 pub loop-kept-init : goal.loop-kept-init
 loop-kept-init g c = record {
