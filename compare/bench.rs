@@ -1,8 +1,9 @@
 // The workloads on the Rust crate `nonempty-collections`, with which the port's speed is compared.
 // The steps and the numbers are those of the port. Further adapters and collecting are in
-// `bench_chains`, consumers in `bench_passes`.
+// `bench_chains`, consumers in `bench_passes`, texts and large items in `bench_texts`.
 mod bench_chains;
 mod bench_passes;
+mod bench_texts;
 
 use indexmap::{IndexMap, IndexSet};
 use nonempty_collections::{
@@ -133,6 +134,7 @@ fn checksum(name: &str, n: NonZeroUsize) -> Option<u64> {
                 .or_else(|| listed(name, n))
                 .or_else(|| keyed(name, n))
                 .or_else(|| bench_passes::checksum(name, n))
+                .or_else(|| bench_texts::checksum(name, n))
         }
     })
 }

@@ -10,6 +10,8 @@ pub fn checksum(name: &str, n: NonZeroUsize) -> Option<u64> {
         "map" => map(n),
         "map_references" => map_references(n),
         "map_result" => map_result(n),
+        "all_or_errors" => all_or_errors(n, 0),
+        "all_or_errors_some" => all_or_errors(n, 1),
         "cloned" => cloned(n),
         "chain_collect" => chain_collect(n),
         "zip" => zip(n),
@@ -62,6 +64,23 @@ fn map_result(n: NonZeroUsize) -> u64 {
         Ok(items) => combined(&items),
         Err(_) => 0,
     }
+}
+
+fn all_or_errors(n: NonZeroUsize, refused: u64) -> u64 {
+    let items = scrambled(n).into_iter();
+    let checked = items.map(|x| if x % 128 < refused { Err(x) } else { Ok(x) });
+    let (mut values, mut errors) = (Vec::with_capacity(checked.size_hint().0), Vec::new());
+    for item in checked {
+        match item {
+            Ok(value) if errors.is_empty() => values.push(value),
+            Ok(_) => {}
+            Err(e) => {
+                values = Vec::new();
+                errors.push(e);
+            }
+        }
+    }
+    combined(if errors.is_empty() { &values } else { &errors })
 }
 
 fn cloned(n: NonZeroUsize) -> u64 {

@@ -7,6 +7,12 @@ use Rattle.std.proofs.lemmas.List.{append-nil}
 use Rattle.std.proofs.lemmas.List.Elements.{filter_map-append}
 
 module _ {T E : Type 0} where
+  -- the errors of values, of an error after them, and of what follows it
+  pub errors_after : (values : List T) (e : E) (rs : List (Result T E))
+      → filter_map result_err ((map Ok values ++ Err e ∷ []) ++ rs) ≡ e ∷ filter_map result_err rs
+  errors_after [] e rs = refl
+  errors_after (x ∷ xs) e rs = errors_after xs e rs
+
   pub no_error : (values : List T) → filter_map (result_err {T = T} {E = E}) (map Ok values) ≡ []
   no_error [] = refl
   no_error (x ∷ xs) = no_error xs

@@ -1,6 +1,6 @@
 -- The values made of a prefix of a list, and of a list of `Result`s.
-use Rattle.std.proofs.Common.{refl, sym, ap, subst, ◌∙◌, append_assoc}
-use Rattle.std.proofs.lemmas.List.{map-append}
+use Rattle.std.proofs.Common.{refl, sym, ap, subst, arith, ◌∙◌, ◌<◌, append_assoc, length}
+use Rattle.std.proofs.lemmas.List.{length-map, map-append}
 use Rattle.std.specs.Prelude.{◌≡◌, Bool, true, false, List, [], ◌∷◌, ◌++◌, map, Result, Ok, Err}
 use Rattle.std.specs.Bool.{MatchBool}
 use Rattle.std.specs.Result.{result_map_both}
@@ -58,6 +58,13 @@ module _ {T E : Type 0} where
       → map Ok values ≡ map Ok begun ++ yielded → first ∷ yielded ≡ map Ok values
   are_values first value empty begun values yielded is none one same = ap (λ r. r ∷ yielded) is
       ∙ sym (same ∙ ap (λ l. map Ok l ++ yielded) (one ∙ ap (λ l. l ++ value ∷ []) none))
+
+  -- items that are values, the first one among them
+  pub some_value : (first : Result T E) (yielded : List (Result T E)) (values : List T)
+      → first ∷ yielded ≡ map Ok values → 0 < length values
+  some_value first yielded values are =
+      let long : length (map {B = Result T E} Ok values) ≡ length values = length-map values _ in
+      omega (arith, ap length are, long)
 
   -- the values so far, if an `Err` was yielded after them
   pub up_to_err : (items : List (Result T E)) (item : Result T E) (e : E) (values : List T)

@@ -1,10 +1,12 @@
 -- The loop of `retain_mut`: what each turn keeps, and that the closure may be called; and `retain`,
 -- whose closure calls another one.
 use Rattle.std.proofs.Common.{◌≡◌, ℕ, suc, ◌+◌, ◌<◌, ◌≤◌, Bool, true, false, cond, List, [], ◌∷◌}
+use Rattle.std.proofs.Common.{◌++◌}
 use Rattle.std.proofs.Common.{length, get_or, take, drop, set, swap, refl, sym, ap, subst, ◌∙◌}
 use Rattle.std.proofs.Common.{arith, rules, length-set, drop-set-lt, drop-cons}
 use Rattle.std.proofs.lemmas.List.{same_lists, places, get_or-set_same, take-set, get_or_default}
-use Rattle.std.proofs.lemmas.List.{take-set-le}
+use Rattle.std.proofs.lemmas.List.{get_or_append_left, length-append, set-append_left, take-set-le}
+use Rattle.std.proofs.Math.Seq.{get_or-append_seam, set-append_seam}
 use Rattle.std.proofs.lemmas.List.Edits.{swap_is}
 use Rattle.std.proofs.lemmas.Bool.{cases_eq}
 use Rattle.std.proofs.RetainMut.{RetainMutInvariant, sift_on}
@@ -19,7 +21,7 @@ use denote.Param.Always.{always_mut, mut_next}
 
 -- a swap of k and i leaves the first k items, and those past i
 module _ {X : Type 0} (ys : List X) (k i : ℕ) (y : X) (le : k ≤ i) (lt : i < length ys) where
-  front_swap : take k ys ≡ take k (swap ys k i)
+  pub front_swap : take k ys ≡ take k (swap ys k i)
   front_swap =
       rw (← swap_is ys k i y (omega arith) lt)
       (sym (take-set-le k _ i _ le ∙ take-set-le k ys k _ (omega arith)))
@@ -28,6 +30,23 @@ module _ {X : Type 0} (ys : List X) (k i : ℕ) (y : X) (le : k ≤ i) (lt : i <
   after_swap =
       rw (← swap_is ys k i y (omega arith) lt)
       (sym (drop-set-lt (i + 1) _ i _ (omega arith) ∙ drop-set-lt (i + 1) ys k _ (omega arith)))
+
+-- a swap between two parts of a list
+pub parts_swapped : {X : Type 0} (fs bs : List X) (k : ℕ) (x z : X) → k < length fs
+    → 0 < length bs → x ≡ get_or bs 0 x → z ≡ get_or fs k z
+    → set fs k x ++ set bs 0 z ≡ swap (fs ++ bs) k (length fs)
+parts_swapped fs [] k x z lt some first second = absurd (omega arith)
+parts_swapped fs (b ∷ bs) k x z lt some first second =
+    let long = length-append fs (b ∷ bs) in
+    subst (λ q. set fs k q ++ z ∷ bs ≡ swap (fs ++ b ∷ bs) k (length fs)) (sym first)
+    (rw (
+      ← swap_is (fs ++ b ∷ bs) k (length fs) z (omega (arith, long)) (omega (arith, long)),
+      get_or-append_seam fs b bs z,
+      get_or_append_left fs (b ∷ bs) z k lt,
+      ← second,
+      set-append_left fs (b ∷ bs) k b lt,
+    ) (subst (λ n. set fs k b ++ z ∷ bs ≡ set (set fs k b ++ b ∷ bs) n z) (length-set fs k b)
+    (sym (set-append_seam (set fs k b) b bs z))))
 
 -- a turn at i, with k items kept so far, where the call left y
 module _ {S X : Type 0} (R : S → X → Bool → S → X → Type 0) (s₀ : S) (xs : List X) (s t : S)
@@ -55,11 +74,23 @@ module _ {S X : Type 0} (R : S → X → Bool → S → X → Type 0) (s₀ : S)
       let next = sift_on R s₀ xs s t ys k i x y le lt is h true called in
       (sym past ∙ next.0, rw (← copied) next.1)
 
-  pub passed_over : R s x false t y → RetainMutInvariant R s₀ xs t (swap written k i) k (i + 1)
-  passed_over called =
+  unmoved : k ≡ i → set written k y ≡ written
+  unmoved same = same_lists _ _ (length-set written k y) (λ j d h.
+      grind (arith, places, get_or-set_same, cases_eq j k, same, lt, length-set ys i y))
+
+  -- an item that stays where it is, as all before it
+  pub stayed : k ≡ i → R s x true t y → RetainMutInvariant R s₀ xs t written (k + 1) (i + 1)
+  stayed same called = subst (λ l. RetainMutInvariant R s₀ xs t l (k + 1) (i + 1)) (unmoved same)
+      (sift_on R s₀ xs s t ys k i x y le lt is h true called)
+
+  -- an item that goes may stand anywhere behind those that are kept, up to i
+  pub passed_over : (ws : List X) → take k ws ≡ take k written
+      → drop (i + 1) ws ≡ drop (i + 1) written → R s x false t y
+      → RetainMutInvariant R s₀ xs t ws k (i + 1)
+  passed_over ws front back called =
       let next = sift_on R s₀ xs s t ys k i x y le lt is h false called in (
-        sym past ∙ next.0,
-        rw (← front_swap written k i y le long, ← take-set written k y) next.1,
+        back ∙ sym (drop-set-lt (i + 1) written k y (omega arith)) ∙ next.0,
+        rw (front, ← take-set written k y) next.1,
       )
 
 -- ---- calls with the items in turn

@@ -2,8 +2,9 @@
 //! it: `()`, vectors and results here, texts and paths in `texts`, and maps and sets in the crate's
 //! module `keys`.
 ghost use Rattle.std.specs.Prelude.{◌≡◌, ◌<◌, ◌++◌, Bool, true, List, [], IfOk, vec_len, map, Ok};
-ghost use Rattle.std.specs.Prelude.{Result, MatchResult, OnOk, OnSome, ◌∷◌};
-ghost use Rattle.std.specs.Iterator.{DrainsIf, IsFinite, IsFiniteIterable, IsNearerEnd, YieldsThen};
+ghost use Rattle.std.specs.Prelude.{Result, Err, MatchOption, MatchResult, None, OnOk, OnSome, ◌∷◌};
+ghost use Rattle.std.specs.Iterator.{DrainsIf, IsFinite, IsFiniteIterable, IsNearerEnd, Yields};
+ghost use Rattle.std.specs.Iterator.{YieldsThen};
 ghost use Rattle.std.specs.Result.{is_ok};
 ghost use Rattle.ne_iter.specs.Collected.{AppendsRead, IsAllOrErrors, PrefixMakes, ResultsMake};
 
@@ -130,28 +131,51 @@ impl<T: Drop, E: Drop, V: FromNonEmptyIterator<T>> FromNonEmptyIterator<Result<T
         iter: I,
     ) -> Result<Result<V, E>, AllocError> {
         let (first, rest) = iter.into_nonempty_iter().next();
-        let first = match first {
-            Ok(value) => value,
-            Err(e) => return Ok(Err(e)),
-        };
-        let mut values = Vec::new(alloc);
-        push_first(&mut values, first, rest.size_hint().0)?;
-        let mut rest = rest;
-        loop {
-            let (filled, left, over) = fill_with_ok(values, rest);
-            values = filled;
-            rest = left;
-            match over {
-                Some(Ok(value)) => values.push(value)?,
-                Some(Err(e)) => return Ok(Err(e)),
-                None => return Ok(Ok(V::from_drained(alloc, &mut values)?)),
-            }
+        let (mut values, _rest, err) = values_until_err(alloc, first, rest)?;
+        match err {
+            Some(e) => Ok(Err(e)),
+            None => Ok(Ok(V::from_drained(alloc, &mut values)?)),
+        }
+    }
+}
+
+// Collects the values of the first item and of those that are left, up to the first `Err`, which is
+// returned beside what is left then. It is inlined for the sake of a vector's own iterator: see
+// `append`.
+#[inline(always)]
+fn values_until_err<T: Drop, E: Drop, I: Iterator<Item = Result<T, E>>>(
+    alloc: Global,
+    first: Result<T, E>,
+    rest: I,
+) -> Result<(Vec<T>, I, Option<E>), AllocError>
+    requires { I.can_next rest × IsFinite (I.remaining rest) }
+    ensures { IfOk result (λ r. (taken : List (Result T E)) × MatchOption r.2
+        (YieldsThen I.next_gives rest taken None r.1 × (first ∷ taken ≡ map Ok r.0.items)
+        × (0 < vec_len r.0))
+        (λ e. Yields I.next_gives rest taken r.1 × I.can_next r.1 × IsFinite (I.remaining r.1)
+        × (first ∷ taken ≡ map Ok r.0.items ++ Err e ∷ []))) }
+{
+    let mut values = Vec::new(alloc);
+    match first {
+        Ok(value) => push_first(&mut values, value, rest.size_hint().0)?,
+        Err(e) => return Ok((values, rest, Some(e))),
+    }
+    let mut rest = rest;
+    loop {
+        let (filled, left, over) = fill_with_ok(values, rest);
+        values = filled;
+        rest = left;
+        match over {
+            Some(Ok(value)) => values.push(value)?,
+            Some(Err(e)) => return Ok((values, rest, Some(e))),
+            None => return Ok((values, rest, None)),
         }
     }
 }
 
 // Moves values into the places of `values` that are left. Returns the item that found no place, or
 // the first `Err`, if one came.
+#[inline(always)]
 fn fill_with_ok<T: Drop, E: Drop, I: Iterator<Item = Result<T, E>>>(
     mut values: Vec<T>,
     mut rest: I,
@@ -175,40 +199,31 @@ fn fill_with_ok<T: Drop, E: Drop, I: Iterator<Item = Result<T, E>>>(
     (values, rest, None)
 }
 
-// Returns what one item makes: its value, or its error.
-pub(super) fn one_value_or_error<T: Drop, E: Drop>(
+// Returns all values of the first item and of those that are left, or all errors. The values are
+// dropped at the first error, and those after it as they come.
+#[inline(always)]
+pub(super) fn all_or_errors<T: Drop, E: Drop, I: Iterator<Item = Result<T, E>>>(
     alloc: Global,
-    item: Result<T, E>,
+    first: Result<T, E>,
+    rest: I,
 ) -> Result<Result<NEVec<T>, NEVec<E>>, AllocError>
-    ensures { IfOk result (IsAllOrErrors (item ∷ [])) }
+    requires { I.can_next rest × IsFinite (I.remaining rest) }
+    ensures { IfOk result (λ valid. (rs : List (Result T E)) × (end : I)
+        × YieldsThen I.next_gives rest rs None end × IsAllOrErrors (first ∷ rs) valid) }
 {
-    match item {
-        Ok(value) => Ok(Ok(NEVec::new(alloc, value)?)),
-        Err(e) => Ok(Err(NEVec::new(alloc, e)?)),
+    let (values, rest, err) = values_until_err(alloc, first, rest)?;
+    let Some(e) = err else {
+        return Ok(Ok(NEVec::try_from_vec(values).unwrap()));
+    };
+    drop(values);
+    let mut errors = NEVec::new(alloc, e)?;
+    for item in rest {
+        match item {
+            Ok(_value) => {}
+            Err(e) => errors.push(e)?,
+        }
     }
-}
-
-// Adds an item to all values, or to all errors, of the items before it.
-#[tactic(auto, using(crate::proofs::Errors::value_more, crate::proofs::Errors::error_more))]
-pub(super) fn add_value_or_error<T: Drop, E: Drop>(
-    alloc: Global,
-    made: &mut Result<NEVec<T>, NEVec<E>>,
-    item: Result<T, E>,
-) -> Result<(), AllocError>
-    ensures { OnOk result ((rs : List (Result T E)) → IsAllOrErrors rs made.old
-        → IsAllOrErrors (rs ++ item ∷ []) made.new) }
-{
-    match item {
-        Ok(value) => match made {
-            Ok(values) => values.push(value)?,
-            Err(_errors) => {}
-        },
-        Err(e) => match made {
-            Ok(_values) => *made = Err(NEVec::new(alloc, e)?),
-            Err(errors) => errors.push(e)?,
-        },
-    }
-    Ok(())
+    Ok(Err(errors))
 }
 
 // Appends the items that are left of an iterator. It is inlined, and so is most of what collects

@@ -71,7 +71,7 @@ ghost use Rattle.ne_iter.specs.Peekable.{peekable_first, peekable_rest, Peekable
 ghost use Rattle.ne_iter.specs.Peekable.{YieldsPeeked};
 
 use super::best::{best, best_by_key};
-use super::collected::{FromNonEmptyIterator, add_value_or_error, append, one_value_or_error};
+use super::collected::{FromNonEmptyIterator, all_or_errors, append};
 use super::sources::{IntoNonEmptyIterator, ItemSource};
 use super::{
     Chain, Cloned, Copied, Enumerate, FlatMap, Flatten, GroupBy, Intersperse, Map, NEGroupBy,
@@ -1276,11 +1276,7 @@ pub trait NonEmptyIterator: IntoIterator {
             IsAllOrErrors p.items valid)) }
     {
         let (first, rest) = self.next();
-        let mut made = one_value_or_error(alloc, first)?;
-        for item in rest {
-            add_value_or_error(alloc, &mut made, item)?;
-        }
-        Ok(made)
+        all_or_errors(alloc, first, rest)
     }
 
     /// Folds the items into one value: starting from the first item, `f` takes the value so far and

@@ -3,8 +3,10 @@
 //! They move the items that stay to the front, and then drop the others together; std's drop each
 //! after its call. Their loop is written out here because std's need a closure that can be called
 //! with any value, while these need only one that can be called with the vector's items.
-ghost use Rattle.std.specs.Prelude.{◌≡◌, ◌≤◌, ◌↔◌, Bool, [], IsErr, length, map, take};
-ghost use Rattle.std.specs.List.{filter};
+ghost use Rattle.std.specs.Prelude.{◌≡◌, ◌<◌, ◌≤◌, ◌+◌, ◌↔◌, Bool, [], IsErr, drop, length, map};
+ghost use Rattle.std.specs.Prelude.{take};
+ghost use Rattle.std.specs.Bool.{OnTrue};
+ghost use Rattle.std.specs.List.{filter, swap as list_swap};
 ghost use Rattle.std.specs.List.Retain.{IsFiltered, RetainsInTurn};
 ghost use Rattle.std.specs.Fn.{CalledAt, CalledAtMut, TakesAt};
 ghost use Rattle.std.specs.Iterator.{ActsAsAt};
@@ -12,6 +14,7 @@ ghost use Rattle.ne_vec.specs.Kept.{kept_items, ActsAsAtMut};
 ghost use Rattle.ne_vec.specs.Searches.{CallableAtItems, CallableAtItemsMut};
 
 use super::NEVec;
+use std::mem::{size_of_val, swap};
 
 impl<T: Drop> NEVec<T> {
     /// Keeps the items for which `f` returns `true`, in order, or returns the empty vector as an
@@ -90,12 +93,45 @@ fn move_kept_to_front<T, F: FnMut(&mut T) -> bool>(items: &mut [T], mut f: F) ->
     ensures called { RetainsInTurn (CalledAtMut F.FnMut) f items.old (take result items.new) }
 {
     let mut kept = 0;
-    for i in 0..items.len() {
+    let mut seen = 0;
+    // The items before the first that goes are where they stay.
+    while kept == seen && seen < items.len() {
+        if f(&mut items[seen]) {
+            kept += 1;
+        }
+        seen += 1;
+    }
+    for i in seen..items.len() {
         let stays = f(&mut items[i]);
-        items.swap(kept, i);
+        sift(items, kept, i, stays);
         if stays {
             kept += 1;
         }
     }
     kept
+}
+
+// Moves the item at `i` to `kept` if it stays, in exchange for the one there. A small item is moved
+// in any case: that is quicker than a branch.
+fn sift<T>(items: &mut [T], kept: usize, i: usize, stays: bool)
+    requires { (kept < i) × (i < length items.old) }
+    ensures after { OnTrue stays (items.new ≡ list_swap items.old kept i) }
+    ensures front { take kept items.new ≡ take kept items.old }
+    ensures past { drop (i + 1) items.new ≡ drop (i + 1) items.old }
+    ensures long { length items.new ≡ length items.old }
+{
+    let is_small = size_of_val(&items[i]) <= size_of_val(&i);
+    if is_small || stays {
+        exchange(items, kept, i);
+    }
+}
+
+// Exchanges two items, the first of which stands before the other. The slice's own `swap` compares
+// the places first.
+fn exchange<T>(items: &mut [T], low: usize, high: usize)
+    requires { (low < high) × (high < length items.old) }
+    ensures { items.new ≡ list_swap items.old low high }
+{
+    let (front, back) = items.split_at_mut(high);
+    swap(&mut front[low], &mut back[0]);
 }
