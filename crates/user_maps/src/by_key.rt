@@ -90,3 +90,17 @@ pub fn how_often(alloc: Global, sales: &NEVec<Sale>) -> Result<NEMap<u32, usize>
 {
     sales.nonempty_iter().map(|s| s.article).counts(alloc)
 }
+
+/// Returns how often each customer bought something.
+pub fn how_often_each(
+    alloc: Global,
+    sales: &NEVec<Sale>,
+) -> Result<NEBTreeMap<String, usize>, AllocError>
+    ensures { IfOk result (λ m. IsCounted (get_by_text m) bytes_eq
+        (map (λ s. string_bytes s.customer) sales.now)) }
+{
+    sales
+        .nonempty_iter()
+        .map(|s| s.customer.as_str())
+        .counts(alloc)
+}

@@ -1,11 +1,11 @@
 //! Whole small tasks: totals by key, a page of a list, and what is not in a set.
-ghost use Rattle.std.specs.Prelude.{◌≡◌, ◌<◌, ◌^◌, ℕ, List, IfOk, cond, filter, nat_eq, not};
+ghost use Rattle.std.specs.Prelude.{◌≡◌, ◌<◌, ◌^◌, ℕ, List, IfOk, cond, filter, map, nat_eq, not};
 ghost use Rattle.std.specs.Prelude.{string_bytes};
 ghost use Rattle.std.specs.List.{list_any, sum_by};
 ghost use Rattle.std.specs.Option.{is_some, unwrap_or};
 ghost use Rattle.std.specs.Str.{bytes_eq};
 ghost use Rattle.std.specs.BTreeMap.{get, get_by_text};
-ghost use Rattle.std.specs.BTreeSet.{contains};
+ghost use Rattle.std.specs.BTreeSet.{contains, contains_text};
 ghost use Rattle.std.specs.Ordering.{nat_cmp};
 
 use nonempty_collections::{NEBTreeMap, NEBTreeSet, NEVec, NonEmptyIterator};
@@ -55,6 +55,29 @@ pub fn totals_by_customer(
         totals.insert(key, so_far + u64::from(sale.amount))?;
     }
     Ok(totals)
+}
+
+/// Returns whether a name is in a set.
+fn is_known(known: &NEBTreeSet<String>, name: &str) -> bool
+    ensures { result ≡ contains_text known.now name.now }
+{
+    known.contains(name)
+}
+
+/// Returns the articles of the sales to customers that are not in a set.
+pub fn articles_of_others(
+    alloc: Global,
+    sales: &NEVec<Sale>,
+    known: &NEBTreeSet<String>,
+) -> Result<Vec<u32>, AllocError>
+    ensures { IfOk result (λ v. v.items ≡ map (λ s. s.article) (filter
+        (λ s. not (contains_text known.now (string_bytes s.customer))) sales.now)) }
+{
+    sales
+        .nonempty_iter()
+        .filter(|s| !is_known(known, s.customer.as_str()))
+        .map(|s| s.article)
+        .collect(alloc)
 }
 
 /// Returns the items that are not in a set.
