@@ -223,7 +223,6 @@ impl<'a, T> NESlice<'a, T> {
             (⟦<AdjacentRunsIter<'a, T, F> as Iterator>⟧.can_next)
             (⟦<AdjacentRunsIter<'a, T, F> as Iterator>⟧.remaining) result }
         ensures lists { RunsGive F.Fn by_previous same result self.now }
-        ensures heads { TakesHeads {A = T} by_previous }
     {
         Runs {
             items: self.inner,

@@ -739,7 +739,6 @@ impl<T> NEVec<T> {
             (⟦<AdjacentRunsIter<'a, T, F> as Iterator>⟧.can_next)
             (⟦<AdjacentRunsIter<'a, T, F> as Iterator>⟧.remaining) result }
         ensures lists { RunsGive F.Fn by_previous same result self.now }
-        ensures heads { TakesHeads {A = T} by_previous }
     {
         self.as_nonempty_slice().adjacent_runs(same)
     }
