@@ -7,14 +7,13 @@ use Rattle.std.specs.Borrow.{Bor}
 use Rattle.std.specs.Iterator.{DrainsIf}
 use Rattle.std.specs.Iterator.Adapters.{peekable_source, peekable_peeked, peekable_steps, PeeksNext}
 use Rattle.std.specs.declared.iter.Ahead.{Ahead}
-use Rattle.ne_vec.specs.Lists.{YieldsItems, Lists, itself}
+use Rattle.ne_vec.specs.Lists.{YieldsItems, Lists}
 use Rattle.ne_vec.specs.ListLaws.{triggered}
 use Rattle.ne_iter.specs.Peeked.{HasFirst-peeked, is_item, has_peeked}
-use Rattle.ne_iter.specs.TryInto.{PeeksWhole, EachMet, PeeksLists}
-use Rattle.ne_iter.specs.Sources.{ReadsList, Reads}
-use Rattle.ne_iter.specs.SourceLists.{MeetsList}
-use Rattle.ne_iter.proofs.SourceLists.{as_items, meets_read, read_lists}
+use Rattle.ne_iter.specs.TryInto.{PeeksWhole, PeeksLists}
+use Rattle.ne_iter.specs.Sources.{Reads}
 use Rattle.ne_iter.specs.LoopLaws.{lists_read}
+use Rattle.ne_iter.proofs.SourceLists.{read_lists}
 
 at_none : {B : Type 0} (p : Option B) (P : Type 0) (Q : B → Type 0) → p ≡ None → MatchOption p P Q
     → P
@@ -91,26 +90,19 @@ found p (Some x) e h = ap is_item e
 -- the facts found about a source, stated for the list that it yields
 module _ {U S V T A : Type 0} (becomes : U → S → Type 0) (steps : S → Option A → S → Type 0)
     (made : V → T → Type 0) (next : T → Option A → T → Type 0) (u : U) where
-  each_met : {P : List A → Type 0} → ((xs : List A) → ReadsList (Reads becomes steps) u xs → P xs)
-      → EachMet (Lists becomes steps (λ x. x)) (MeetsList becomes steps itself) u P
-  each_met holds = (
-    (λ xs lists. (triggered u xs, holds xs (lists_read becomes steps u xs lists))),
-    λ xs. (
-      refl,
-      λ meets. holds xs
-          (as_items (Reads becomes steps) u xs (meets_read becomes steps u itself xs meets)),
-    ),
-  )
-
   pub peeks_lists : (result : Option V)
       → PeeksWhole (Reads becomes steps) (Reads made next) u result
-      → PeeksLists (Lists becomes steps (λ x. x)) (MeetsList becomes steps itself)
-      (YieldsItems made next) u result
-  peeks_lists None looks =
-      each_met (λ xs list. let f = list true [] looks in f.1 ∙ f.2 refl)
-  peeks_lists (Some v) looks = each_met (λ xs list.
+      → PeeksLists (Lists becomes steps (λ x. x)) (YieldsItems made next) u result
+  unfolding PeeksWhole
+  peeks_lists None looks = λ xs lists.
+      let f = lists_read becomes steps u xs lists true [] looks in (triggered u xs, f.1 ∙ f.2 refl)
+  peeks_lists (Some v) looks = λ xs lists.
+      let list = lists_read becomes steps u xs lists in
       let f = list false (looks.0.0 ∷ []) looks.0.1 in
       let long = ap length f.1 in (
-        omega (arith, long),
-        read_lists made next v xs (λ whole ys read. list whole ys (looks.1 whole ys read)),
-      ))
+        triggered u xs,
+        (
+          omega (arith, long),
+          read_lists made next v xs (λ whole ys read. list whole ys (looks.1 whole ys read)),
+        ),
+      )

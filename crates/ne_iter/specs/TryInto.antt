@@ -2,7 +2,7 @@
 use Rattle.std.specs.Prelude.{◌≡◌, Option, MatchOption, IfSome, List, [], ◌∷◌, Bool, true, false}
 use Rattle.std.specs.Prelude.{◌<◌, length}
 use Rattle.std.specs.Iterator.Runs.{EachRunFrom, IsIdenticalRun}
-use Rattle.ne_vec.specs.Lists.{Naming, EachList}
+use Rattle.ne_vec.specs.Lists.{EachList}
 use Rattle.ne_iter.specs.declared.iter.try_into.PeeksAhead.{Ghosts}
 use Rattle.ne_iter.specs.declared.iter.try_into.NonEmptyIterAdapter.{NonEmptyIterAdapter}
 use Rattle.ne_iter.specs.Sources.{RunsSome, RunsWhole}
@@ -13,7 +13,7 @@ peeked_iterator s = s.inner
 
 -- A result in `Some` is a source of the source's items, of which there is at least one. If the
 -- result is `None`, the source may end at once.
-abbrev pub PeeksWhole : {U V A : Type 0} → (Bool → U → List A → Type 0)
+unfoldable pub PeeksWhole : {U V A : Type 0} → (Bool → U → List A → Type 0)
     → (Bool → V → List A → Type 0) → U → Option V → Type 0
 PeeksWhole {A = A} reads looked source result = MatchOption result (reads true source [])
     (λ v. ((x : A) × reads false source (x ∷ []))
@@ -33,14 +33,8 @@ PeeksRuns becomes steps peeked_steps iterator_of source result = MatchOption res
 abbrev pub PeeksEnds : {U V : Type 0} → (U → Type 0) → (V → Type 0) → U → Option V → Type 0
 PeeksEnds runs ends_peeked source result = runs source → IfSome result ends_peeked
 
--- P holds for each list that the source yields, also if no clause states that list
-abbrev pub EachMet : {U A : Type 0} → (U → List A → Type 0) → (U → List A → Type 0) → U
-    → (List A → Type 0) → Type 0
-EachMet {A = A} lists meets u P = EachList lists u P
-    × ((xs : List A) → Naming (length xs) (λ _. meets u xs → P xs))
-
 -- `try_into_nonempty_iter` returns `None` if the list is empty, and else a source that yields it
-abbrev pub PeeksLists : {U V A : Type 0} → (U → List A → Type 0) → (U → List A → Type 0)
-    → (V → List A → Type 0) → U → Option V → Type 0
-PeeksLists lists meets gives u result = MatchOption result (EachMet lists meets u (λ xs. xs ≡ []))
-    (λ v. EachMet lists meets u (λ xs. (0 < length xs) × gives v xs))
+abbrev pub PeeksLists : {U V A : Type 0} → (U → List A → Type 0) → (V → List A → Type 0) → U
+    → Option V → Type 0
+PeeksLists lists gives u result = MatchOption result (EachList lists u (λ xs. xs ≡ []))
+    (λ v. EachList lists u (λ xs. (0 < length xs) × gives v xs))

@@ -1,6 +1,6 @@
 -- The items that `retain_mut` and `dedup_by` keep.
 use Rattle.std.proofs.Common.{◌≡◌, ◌<◌, Bool, true, false, cond, List, [], ◌∷◌, ◌++◌, length, map}
-use Rattle.std.proofs.Common.{refl, ap, subst, ◌∙◌, arith}
+use Rattle.std.proofs.Common.{refl, ap, subst, ◌∙◌, arith, slice_get, Some}
 use Rattle.std.specs.List.{filter, dedup, dedup_from}
 use Rattle.std.specs.List.Retain.{RetainsInTurn, DedupsFrom, IsDeduped}
 use Rattle.ne_vec.specs.Divisions.{by_first, heads, runs_from, runs_of}
@@ -54,12 +54,19 @@ module _ {A : Type 0} (same : A → A → Bool) where
         | false ↦ ap (λ l. k ∷ l) (firsts_from xs x [])
       ]
 
+  first_from : (xs : List A) (k : A) → slice_get (dedup_from same k xs) 0 ≡ Some k
+  first_from [] k = refl
+  first_from (x ∷ xs) k = elim (same x k) as (λ b.
+      slice_get (cond b (dedup_from same k xs) (k ∷ dedup_from same x xs)) 0 ≡ Some k)
+      [ true ↦ first_from xs k | false ↦ refl ]
+
   -- the items that `dedup` keeps are the first items of the runs
   pub keeps_firsts : (xs ys : List A) → ys ≡ dedup same xs
       → KeepsFirsts (λ kept later. same later kept) xs ys
   unfolding runs_of
-  keeps_firsts [] ys e = e
-  keeps_firsts (x ∷ xs) ys e = e ∙ firsts_from xs x []
+  keeps_firsts [] ys e = (e, ap (λ l. slice_get l 0) e)
+  keeps_firsts (x ∷ xs) ys e =
+      (e ∙ firsts_from xs x [], ap (λ l. slice_get l 0) e ∙ first_from xs x)
 
   kept_from : (xs : List A) (k : A) → 0 < length (dedup_from same k xs)
   kept_from [] k = Prim.omega arith

@@ -1,5 +1,5 @@
 -- The items that `retain`, `dedup_by` and their variants keep, and when their closures are pure.
-use Rattle.std.specs.Prelude.{◌≡◌, Bool, Result, Ok, Err, List}
+use Rattle.std.specs.Prelude.{◌≡◌, Bool, Result, Ok, Err, List, slice_get}
 use Rattle.std.specs.Borrow.{MutBor}
 use Rattle.std.specs.Fn.{CalledAtMut, CalledAtPairMut, ComparesKeys}
 use Rattle.std.specs.Global.{Vec}
@@ -31,6 +31,8 @@ abbrev pub ComparesKeysAs : {F X K : Type 0}
 ComparesKeysAs {F} {X} g eq f same = (x y : X) (r : Bool) (f' : F) (y' x' : X)
     → ComparesKeys g eq f y x r f' y' x' → (f' ≡ f) × (r ≡ same x y) × (y' ≡ y) × (x' ≡ x)
 
--- ys are the first items of the runs of xs; an item continues a run if `same first item` is true
+-- ys are the first items of the runs of xs; an item continues a run if `same first item` is true.
+-- So the first item of ys is that of xs.
 abbrev pub KeepsFirsts : {X : Type 0} → (X → X → Bool) → List X → List X → Type 0
-KeepsFirsts same xs ys = ys ≡ heads (runs_of by_first same xs)
+KeepsFirsts same xs ys = (ys ≡ heads (runs_of by_first same xs))
+    × (slice_get ys 0 ≡ slice_get xs 0)

@@ -2,10 +2,10 @@
 -- `by_previous`: it makes of a test of two items the test of whether an item continues a run. What
 -- `next` takes is a run if the closure acts as a test, and is not empty with any other closure.
 use Rattle.std.specs.Prelude.{◌≡◌, ◌≢◌, ℕ, ◌^◌, ◌<◌, length, Bool, List, [], ◌++◌, take, drop}
-use Rattle.std.specs.Prelude.{Option, MatchOption, All}
+use Rattle.std.specs.Prelude.{Option, MatchOption, All, map, slice_index_or}
 use Rattle.std.specs.Borrow.{Bor}
 use Rattle.std.specs.Fn.{Shared, FnReturnsAtPair}
-use Rattle.ne_vec.specs.Divisions.{IsRun, Breaks, runs_of}
+use Rattle.ne_vec.specs.Divisions.{IsRun, Breaks, heads, runs_of}
 use Rattle.ne_vec.specs.Lists.{Listed, Naming}
 
 -- the first n items of xs are its first run
@@ -50,3 +50,13 @@ module _ {A F : Type 0} (calls : Shared F (Bor A × (Bor A × Unit {0})) Bool) w
       → F → Cutting A F → List A → Type 0
   RunsGive place f s xs = (same : A → A → Bool) (ys : List A) → ys ≡ xs → ActsAsAtPair f same
       → Naming (runs_of place same ys) (Listed BecomesCutter (CutsRun place) (λ x. x) s)
+
+-- `grind` takes each equation at a goal that names its left side.
+-- The first items of runs, and a number of each, are made of the runs one by one. `any` is some
+-- item, as no run is empty.
+abbrev pub TakesHeads : {A : Type 0} → ((A → A → Bool) → List A → A → Bool) → Type 0
+TakesHeads {A} place = (any : A) × ((same : A → A → Bool) (xs : List A)
+    → Naming (heads (runs_of place same xs)) (λ firsts.
+    firsts ≡ map (λ run. slice_index_or run 0 any) (runs_of place same xs))
+    × ((key : A → ℕ) → Naming (map key (heads (runs_of place same xs))) (λ keys.
+    keys ≡ map (λ run. key (slice_index_or run 0 any)) (runs_of place same xs))))

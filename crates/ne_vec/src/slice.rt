@@ -52,7 +52,7 @@ impl<'a, T> NESlice<'a, T> {
     ghost use Rattle.ne_vec.specs.Iterators.{IteratesOver, ListsItems};
     ghost use Rattle.ne_vec.specs.Chunks.{chunks, ChunksGive};
     ghost use Rattle.ne_vec.specs.Divisions.{by_first, by_previous};
-    ghost use Rattle.ne_vec.specs.SliceRuns.{CallableAtPairs, RunsGive};
+    ghost use Rattle.ne_vec.specs.SliceRuns.{CallableAtPairs, RunsGive, TakesHeads};
 
     /// Returns the first item.
     ///
@@ -192,6 +192,7 @@ impl<'a, T> NESlice<'a, T> {
             (⟦<SliceRunsIter<'a, T, F> as Iterator>⟧.can_next)
             (⟦<SliceRunsIter<'a, T, F> as Iterator>⟧.remaining) result }
         ensures lists { RunsGive F.Fn by_first same result self.now }
+        ensures heads { TakesHeads {A = T} by_first }
     {
         Runs {
             items: self.inner,

@@ -71,7 +71,7 @@ impl<T> NEVec<T> {
     ghost use Rattle.ne_vec.specs.Iterators.{IteratesOver, IteratesOverMut, ListsItems};
     ghost use Rattle.ne_vec.specs.Chunks.{chunks, ChunksGive};
     ghost use Rattle.ne_vec.specs.Divisions.{by_first, by_previous};
-    ghost use Rattle.ne_vec.specs.SliceRuns.{CallableAtPairs, RunsGive};
+    ghost use Rattle.ne_vec.specs.SliceRuns.{CallableAtPairs, RunsGive, TakesHeads};
     ghost use Rattle.ne_vec.specs.Taken.{TakesUnlessLast};
 
     /// Returns a vector of one item, `head`.
@@ -718,6 +718,7 @@ impl<T> NEVec<T> {
             (⟦<SliceRunsIter<'a, T, F> as Iterator>⟧.can_next)
             (⟦<SliceRunsIter<'a, T, F> as Iterator>⟧.remaining) result }
         ensures lists { RunsGive F.Fn by_first same result self.now }
+        ensures heads { TakesHeads {A = T} by_first }
     {
         self.as_nonempty_slice().runs_by(same)
     }

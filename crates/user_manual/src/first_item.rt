@@ -35,12 +35,35 @@ pub fn small(alloc: Global, items: NEVec<u32>) -> Result<Option<NEVec<u32>>, All
     }
 }
 
+/// Returns half of each item below 10, or `None` if there is none.
+pub fn halves_of_small(alloc: Global, items: NEVec<u32>) -> Result<Option<NEVec<u32>>, AllocError>
+    ensures { IfOk result (λ o. MatchOption o (filter (λ x. ltb x 10) items ≡ [])
+        (λ v. v ≡ map (λ x. x / 2) (filter (λ x. ltb x 10) items))) }
+{
+    match items
+        .into_nonempty_iter()
+        .filter(|x| *x < 10)
+        .try_into_nonempty_iter()
+    {
+        Some(source) => Ok(Some(source.map(|x| x / 2).collect(alloc)?)),
+        None => Ok(None),
+    }
+}
+
 /// Returns the greatest item of a vector that may be empty, or `None` if it is.
 pub fn greatest_if_any(items: Vec<u32>) -> Option<u32>
     ensures among { MatchOption result (items.items ≡ []) (λ m. Contains items.items m) }
     ensures bound { MatchOption result (items.items ≡ []) (λ m. All (λ x. x ≤ m) items.items) }
 {
     Some(items.try_into_nonempty_iter()?.max())
+}
+
+/// The same by `Option::map`.
+pub fn greatest_in_map(items: Vec<u32>) -> Option<u32>
+    ensures among { MatchOption result (items.items ≡ []) (λ m. Contains items.items m) }
+    ensures bound { MatchOption result (items.items ≡ []) (λ m. All (λ x. x ≤ m) items.items) }
+{
+    items.try_into_nonempty_iter().map(|source| source.max())
 }
 
 /// Returns the wrapping sum of a vector that may be empty.

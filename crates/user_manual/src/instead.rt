@@ -1,5 +1,5 @@
 //! What is proved in place of chains that are not proved automatically.
-ghost use Rattle.std.specs.Prelude.{◌≡◌, ◌/◌, ◌%◌, ◌∷◌, ◌≤◌, [], filter, ltb, map, IfOk};
+ghost use Rattle.std.specs.Prelude.{◌≡◌, ◌/◌, ◌%◌, ◌∷◌, ◌≤◌, [], ltb, map, IfOk};
 ghost use Rattle.std.specs.Prelude.{MatchOption, None, Some};
 ghost use Rattle.std.specs.List.{All, Contains, enumerate_from, flat_map};
 ghost use Rattle.ne_iter.specs.Consumers.{IsFirstGreatest};
@@ -35,22 +35,6 @@ pub fn greatest_of_all(x: u32, items: NEVec<u32>) -> u32
     ensures bound { All (λ y. y ≤ result) (x ∷ items) }
 {
     iter::once(x).chain(items.into_nonempty_iter()).max()
-}
-
-/// Returns half of each item below 10, or `None` if there is none: `NEVec::try_from_vec` of what is
-/// collected, for `try_into_nonempty_iter`.
-pub fn halves_of_small(alloc: Global, items: NEVec<u32>) -> Result<Option<NEVec<u32>>, AllocError>
-    ensures { IfOk result (λ o. MatchOption o (filter (λ x. ltb x 10) items ≡ [])
-        (λ v. v ≡ map (λ x. x / 2) (filter (λ x. ltb x 10) items))) }
-{
-    let small: Vec<u32> = items
-        .into_nonempty_iter()
-        .filter(|x| *x < 10)
-        .collect(alloc)?;
-    match NEVec::try_from_vec(small) {
-        Some(items) => Ok(Some(items.into_nonempty_iter().map(|x| x / 2).collect(alloc)?)),
-        None => Ok(None),
-    }
 }
 
 /// Returns the items with their indices.

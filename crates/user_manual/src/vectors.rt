@@ -92,10 +92,13 @@ pub fn shares(items: NEVec<u32>) -> NEVec<u32>
     )
 }
 
-/// Keeps the first line of each run of lines of the same article.
+/// Keeps the first line of each run of lines of the same article, and so the first of all.
 pub fn first_lines(lines: &mut NEVec<Line>)
-    ensures { lines.new
+    ensures firsts { lines.new
         ≡ heads (runs_of by_first (λ x y. nat_eq x.article y.article) lines.old) }
+    ensures head { slice_get
+        (heads (runs_of by_first (λ x y. nat_eq x.article y.article) lines.old)) 0
+        ≡ slice_get lines.old 0 }
 {
     lines.dedup_by_key(|l| l.article);
 }
@@ -107,9 +110,12 @@ pub fn ascending(items: &mut NEVec<u32>)
     items.dedup_by(|later, kept| *later < *kept);
 }
 
-/// Keeps the first item of each run of equal items.
+/// Keeps the first item of each run of equal items, and so the first of all.
 pub fn distinct(items: &mut NEVec<u32>)
-    ensures { items.new ≡ heads (runs_of by_first nat_eq items.old) }
+    ensures firsts { items.new ≡ heads (runs_of by_first nat_eq items.old) }
+    ensures first { slice_get items.new 0 ≡ slice_get items.old 0 }
+    ensures head { slice_get (heads (runs_of by_first nat_eq items.old)) 0
+        ≡ slice_get items.old 0 }
 {
     items.dedup();
 }

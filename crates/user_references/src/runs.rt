@@ -4,7 +4,7 @@ ghost use Rattle.std.specs.Prelude.{◌≤◌, Contains, slice_index_or, string_
 ghost use Rattle.std.specs.Prelude.{List};
 ghost use Rattle.std.specs.Int.NonZero.{non_zero_usize_get};
 ghost use Rattle.std.specs.String.{string_eq};
-ghost use Rattle.ne_vec.specs.Divisions.{IsDivision, by_first, by_previous, runs_of};
+ghost use Rattle.ne_vec.specs.Divisions.{IsDivision, by_first, by_previous, heads, runs_of};
 ghost use Rattle.ne_iter.specs.Keys.{IsDividedBy};
 ghost use Rattle.ne_vec.specs.Orders.{ItemsAscend, KeepsTiesOf, by_text};
 ghost use Rattle.ne_iter.specs.RunsBy.{AreRuns};
@@ -252,8 +252,8 @@ pub fn how_many_articles(sales: &NEVec<Sale>) -> NonZeroUsize
 
 /// Returns the first item of each run of items in the same ten.
 pub fn first_of_each_run(alloc: Global, items: &NEVec<u32>) -> Result<NEVec<u32>, AllocError>
-    ensures { IfOk result (λ v. v ≡ map (λ run. slice_index_or run 0 0)
-        (runs_of by_first (λ x y. nat_eq (x / 10) (y / 10)) items.now)) }
+    ensures { IfOk result (λ v.
+        v ≡ heads (runs_of by_first (λ x y. nat_eq (x / 10) (y / 10)) items.now)) }
 {
     items
         .runs_by(|x, y| *x / 10 == *y / 10)
@@ -272,12 +272,10 @@ pub fn last_of_each_run(alloc: Global, items: &NEVec<u32>) -> Result<NEVec<u32>,
         .collect(alloc)
 }
 
-/// Returns the article of each run of sales of the same article. `none` stands for the item that a
-/// run would lack if it were empty.
+/// Returns the article of each run of sales of the same article.
 pub fn articles(alloc: Global, sales: &NEVec<Sale>) -> Result<NEVec<u32>, AllocError>
-    ensures { IfOk result (λ v. (none : Sale)
-        → v ≡ map (λ run. (slice_index_or run 0 none).article)
-        (runs_of by_first (λ x y. nat_eq x.article y.article) sales.now)) }
+    ensures { IfOk result (λ v. v ≡ map (λ s. s.article)
+        (heads (runs_of by_first (λ x y. nat_eq x.article y.article) sales.now))) }
 {
     sales
         .runs_by(|x, y| x.article == y.article)

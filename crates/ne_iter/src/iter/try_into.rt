@@ -4,7 +4,6 @@ ghost use Rattle.std.specs.Iterator.{IsFiniteIterable};
 ghost use Rattle.std.specs.Iterator.Adapters.{peekable_steps};
 ghost use Rattle.ne_vec.specs.Lists.{itself};
 ghost use Rattle.ne_iter.specs.Peeked.{has_peeked, HasFirst-peeked};
-ghost use Rattle.ne_iter.specs.SourceLists.{MeetsList};
 
 use super::{ItemSource, NonEmptyIterator};
 use std::iter;
@@ -101,7 +100,6 @@ where
         (⟦<NonEmptyIterAdapter<iter::Peekable<T::IntoIter>> as ItemSource>⟧.reads) };
 
     ghost peeks_lists = { PeeksLists (⟦<T as ItemSource>⟧.lists itself)
-        (MeetsList T.into_iter_gives T.IntoIter.next_gives itself)
         (⟦<NonEmptyIterAdapter<iter::Peekable<T::IntoIter>> as ItemSource>⟧.yields_items) };
 
     ghost peeks_runs = { PeeksRuns T.into_iter_gives T.IntoIter.next_gives

@@ -18,6 +18,6 @@ returns g c =
             two.2,
           );
       firsts = λ same xs ys runs keeps divides.
-          keeps ∙ sym (ap heads
+          keeps.0 ∙ sym (ap heads
           (c.computed_runs_are_the_division.ensures.only by_first same xs runs divides));
     }

@@ -13,6 +13,7 @@ returns-clause-stays g c = some_kept _ _ _ (dedup_is _ _ _ c.dedup.ensures.filte
     c.self.invariant
 
 pub returns-clause-firsts : goal.returns-clause-firsts
-returns-clause-firsts g c = rw (← c.self.view_is)
-    (keeps_firsts _ _ _ (dedup_is _ _ _ c.dedup.ensures.filtered)
-    ∙ ap heads (runs_converse g.T.PartialEq.eq g.met.T.PartialEq.laws.symm _))
+returns-clause-firsts g c =
+    let kept = keeps_firsts _ _ _ (dedup_is _ _ _ c.dedup.ensures.filtered) in
+    rw (← c.self.view_is)
+    (kept.0 ∙ ap heads (runs_converse g.T.PartialEq.eq g.met.T.PartialEq.laws.symm _), kept.1)

@@ -7,8 +7,10 @@ use Rattle.std.specs.Prelude.{◌≡◌, ◌∷◌, [], true, false, None, Some}
 use Rattle.ne_iter.specs.Peeked.{has_peeked}
 use Rattle.ne_iter.proofs.TryInto.{looked, reads_peeked, found, peeks_lists}
 use Rattle.ne_iter.proofs.Traced.{whole_run_of}
+use Rattle.ne_iter.specs.TryInto.{PeeksWhole}
 
 pub returns-then-is_some-clause-gives : goal.returns-then-is_some-clause-gives
+unfolding PeeksWhole
 returns-then-is_some-clause-gives g c =
     let steps = g.T.IntoIter.Iterator.next_gives in
     let v = c.peek.follows.lender-at-none in
@@ -41,15 +43,18 @@ returns-then-is_some-clause-lists g c =
     peeks_lists _ _ _ _ _ (Some _) (returns-then-is_some-clause-gives g c)
 
 pub returns-else-is_some-clause-gives : goal.returns-else-is_some-clause-gives
+unfolding PeeksWhole
 returns-else-is_some-clause-gives g c = search rules
 
 pub returns-else-is_some-clause-lists : goal.returns-else-is_some-clause-lists
+unfolding PeeksWhole
 returns-else-is_some-clause-lists g c =
     peeks_lists {V = Unit {0}} {T = Unit {0}} _ _ (λ _ _. Unit {0}) (λ _ _ _. Unit {0}) _ None
     (returns-else-is_some-clause-gives g c)
 
 -- the same for a run
 pub returns-then-is_some-clause-runs : goal.returns-then-is_some-clause-runs
+unfolding PeeksWhole
 returns-then-is_some-clause-runs g c =
     let steps = g.T.IntoIter.Iterator.next_gives in
     let it = c.into_iter.result in
@@ -75,6 +80,7 @@ returns-then-is_some-clause-runs g c =
     )
 
 pub returns-else-is_some-clause-runs : goal.returns-else-is_some-clause-runs
+unfolding PeeksWhole
 returns-else-is_some-clause-runs g c =
     whole_run_of (returns-else-is_some-clause-gives g c) _ (refl, refl)
 
