@@ -32,7 +32,8 @@ ghost use Rattle.ne_vec.specs.Lists.{itself};
 ghost use Rattle.ne_vec.specs.Taken.{TakesFoundUnlessLast};
 ghost use Rattle.ne_iter.specs.Collected.{IsMapOfPairs};
 ghost use Rattle.ne_iter.specs.Keyed.Extends.{ExtendsByList};
-ghost use Rattle.ne_iter.specs.Keyed.Iterators.{ListsEntries, KnownByValue, ListsEntriesByValue};
+ghost use Rattle.ne_iter.specs.Keyed.Iterators.{FindsEach, KnownByValue, ListsEntries};
+ghost use Rattle.ne_iter.specs.Keyed.Iterators.{ListsEntriesByValue};
 ghost use Rattle.ne_iter.specs.SourceLists.{MeetsList};
 ghost use Rattle.ne_iter.specs.Keyed.Clones.{KeepsEntries};
 ghost use Rattle.ne_iter.specs.Keyed.KeptEntries.{either_way, kept_entries, ActsAsAtEntry};
@@ -301,6 +302,8 @@ impl<K: Eq + Hash, V, S: BuildHasher> NEMap<K, V, S> {
         ensures entries { result ≡ self.now.entries }
         // As the source of a chain, it yields these items.
         ensures lists { ListsEntries (deref_pair {K = K} {X = V}) result self.now.entries }
+        // `get` finds each entry.
+        ensures found { FindsEach (get K.eq self.now) self.now.entries }
         ensures valid { IsValid K.eq self.now }
     {
         NonEmptyIter::new(self.inner.iter())
