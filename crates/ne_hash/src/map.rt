@@ -37,7 +37,7 @@ ghost use Rattle.ne_iter.specs.Keyed.Iterators.{ListsEntriesByValue};
 ghost use Rattle.ne_iter.specs.SourceLists.{MeetsList};
 ghost use Rattle.ne_iter.specs.Keyed.Clones.{KeepsEntries};
 ghost use Rattle.ne_iter.specs.Keyed.KeptEntries.{either_way, kept_entries, ActsAsAtEntry};
-ghost use Rattle.ne_iter.specs.Keyed.KeptEntries.{TestsEntries};
+ghost use Rattle.ne_iter.specs.Keyed.KeptEntries.{TestsEntries, TestsKeys};
 ghost use Rattle.ne_hash.specs.HashLends.{std_iterator, std_values_iterator, LendsValue};
 ghost use Rattle.ne_hash.specs.HashLends.{LendsValues};
 ghost use Rattle.ne_hash.specs.ValidHashMap.{IsValid};
@@ -639,6 +639,8 @@ impl<K: Eq + Hash, V, S: BuildHasher> NEMap<K, V, S> {
             → (either_way result).entries ≡ kept_entries keeps writes self.entries }
         ensures filtered { (keeps : K × V → Bool) → TestsEntries F.FnMut f keeps
             → (either_way result).entries ≡ filter keeps self.entries }
+        ensures keys { (keeps : K → Bool) → TestsKeys F.FnMut f keeps
+            → keys (either_way result) ≡ filter keeps (keys self) }
         ensures called { RetainsPairs (CalledAtPair F.FnMut) f self.entries
             (either_way result).entries }
         ensures hasher { hasher_of (either_way result) ≡ hasher_of self }

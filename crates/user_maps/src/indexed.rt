@@ -225,6 +225,14 @@ pub fn even_values(map: NEIndexMap<u32, u32>) -> Option<NEIndexMap<u32, u32>>
     map.retain(|_k, v| *v % 2 == 0).ok()
 }
 
+/// Returns the entries whose keys are below 10, or `None` if there are none.
+pub fn small_keys(map: NEIndexMap<u32, u32>) -> Option<NEIndexMap<u32, u32>>
+    ensures { MatchOption result (filter (λ k. ltb k 10) (keys map) ≡ [])
+        (λ kept. keys kept ≡ filter (λ k. ltb k 10) (keys map)) }
+{
+    map.retain(|k, _v| *k < 10).ok()
+}
+
 /// Returns the items below 10, or `None` if there are none.
 pub fn small_items(set: NEIndexSet<u32>) -> Option<NEIndexSet<u32>>
     ensures { MatchOption result (filter (λ x. ltb x 10) set.keys ≡ [])
