@@ -63,6 +63,6 @@ module _ {A B F T : Type 0} (calls : Mut F (A × Unit {0}) (Option B)) (f : F)
       → Naming (filter_map h xs) (λ ys. (out : B → W) → p.whole ≡ true
       → ActsThrough calls f (option_map out) (λ x. h (view.of x)) → map out p.items ≡ ys))
 
-  -- What `filter_map` says of a closure that returns references: to numbers, and to lists and texts.
+  -- What `filter_map` says of a closure that returns references: to numbers, lists and texts.
   abbrev pub FilterMapsThrough : Type 0
   FilterMapsThrough = FilterMapsTo ℕ × FilterMapsTo (List ℕ)

@@ -12,5 +12,6 @@ returns-clause-lists g c = lists_known _ deref_pair c.new.result _ (search rules
 pub returns-clause-found : goal.returns-clause-found
 returns-clause-found g c =
     let m = c.self.inside.inner in
-    subst (λ m. FindsEach (get g.K.PartialEq.eq m) m.entries) c.self.view_is (finds_each (get g.K.PartialEq.eq m) m.entries
-    (λ i k v. hash_map_get_place g.met.K.Eq.laws m i k v c.iter.ensures.unique))
+    subst (λ m. FindsEach (get g.K.PartialEq.eq m) m.entries) c.self.view_is
+    (finds_each (get g.K.PartialEq.eq m) m.entries (λ i k v. hash_map_get_place g.met.K.Eq.laws m i k v
+    c.iter.ensures.unique))
