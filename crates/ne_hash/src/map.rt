@@ -32,11 +32,12 @@ ghost use Rattle.ne_vec.specs.Lists.{itself};
 ghost use Rattle.ne_vec.specs.Taken.{TakesFoundUnlessLast};
 ghost use Rattle.ne_iter.specs.Collected.{IsMapOfPairs};
 ghost use Rattle.ne_iter.specs.Keyed.Extends.{ExtendsByList};
-ghost use Rattle.ne_iter.specs.Keyed.Iterators.{ListsEntries, KnownByValue, ListsEntriesByValue};
+ghost use Rattle.ne_iter.specs.Keyed.Iterators.{FindsEach, KnownByValue, ListsEntries};
+ghost use Rattle.ne_iter.specs.Keyed.Iterators.{ListsEntriesByValue};
 ghost use Rattle.ne_iter.specs.SourceLists.{MeetsList};
 ghost use Rattle.ne_iter.specs.Keyed.Clones.{KeepsEntries};
 ghost use Rattle.ne_iter.specs.Keyed.KeptEntries.{either_way, kept_entries, ActsAsAtEntry};
-ghost use Rattle.ne_iter.specs.Keyed.KeptEntries.{TestsEntries};
+ghost use Rattle.ne_iter.specs.Keyed.KeptEntries.{TestsEntries, TestsKeys};
 ghost use Rattle.ne_hash.specs.HashLends.{std_iterator, std_values_iterator, LendsValue};
 ghost use Rattle.ne_hash.specs.HashLends.{LendsValues};
 ghost use Rattle.ne_hash.specs.ValidHashMap.{IsValid};
@@ -301,6 +302,8 @@ impl<K: Eq + Hash, V, S: BuildHasher> NEMap<K, V, S> {
         ensures entries { result ≡ self.now.entries }
         // As the source of a chain, it yields these items.
         ensures lists { ListsEntries (deref_pair {K = K} {X = V}) result self.now.entries }
+        // `get` finds each entry.
+        ensures found { FindsEach (get K.eq self.now) self.now.entries }
         ensures valid { IsValid K.eq self.now }
     {
         NonEmptyIter::new(self.inner.iter())
@@ -636,6 +639,8 @@ impl<K: Eq + Hash, V, S: BuildHasher> NEMap<K, V, S> {
             → (either_way result).entries ≡ kept_entries keeps writes self.entries }
         ensures filtered { (keeps : K × V → Bool) → TestsEntries F.FnMut f keeps
             → (either_way result).entries ≡ filter keeps self.entries }
+        ensures keys { (keeps : K → Bool) → TestsKeys F.FnMut f keeps
+            → keys (either_way result) ≡ filter keeps (keys self) }
         ensures called { RetainsPairs (CalledAtPair F.FnMut) f self.entries
             (either_way result).entries }
         ensures hasher { hasher_of (either_way result) ≡ hasher_of self }

@@ -29,7 +29,7 @@ ghost use Rattle.ne_vec.specs.Lists.{itself};
 ghost use Rattle.ne_iter.specs.Keyed.Extends.{ExtendsByList};
 ghost use Rattle.ne_iter.specs.Keyed.Clones.{KeepsEntries};
 ghost use Rattle.ne_iter.specs.Keyed.KeyList.{IsKeyListMapOf};
-ghost use Rattle.ne_iter.specs.Keyed.Iterators.{ListsEntries};
+ghost use Rattle.ne_iter.specs.Keyed.Iterators.{FindsEach, ListsEntries};
 ghost use Rattle.ne_iter.specs.SourceLists.{MeetsList};
 ghost use Rattle.ne_index.specs.IndexLends.{inner_iterator, inner_values_iterator, LendsValue};
 ghost use Rattle.ne_index.specs.IndexLends.{LendsInserted, LendsValueAt, LendsValues};
@@ -290,6 +290,8 @@ impl<K: Eq + Hash, V, S: BuildHasher> NEIndexMap<K, V, S> {
         ensures entries { result ≡ self.now.entries }
         // As the source of a chain, it yields these items.
         ensures lists { ListsEntries (deref_pair {K = K} {X = V}) result self.now.entries }
+        // `get` finds each entry.
+        ensures found { FindsEach (get K.eq self.now) self.now.entries }
         ensures valid { IsValid K.eq self.now }
     {
         NonEmptyIter::new(self.inner.iter())

@@ -1,7 +1,8 @@
 -- `filter` and `filter_map`: from a run of the iterator to the list that it yields.
 use Rattle.std.proofs.Common.{subst, sym, ap, ◌∙◌}
 use Rattle.std.proofs.lemmas.List.{append-nil}
-use Rattle.std.specs.Prelude.{◌≡◌, List, [], ◌∷◌, ◌++◌, Option, Some, None, refl, Bool, true, false}
+use Rattle.std.specs.Prelude.{◌≡◌, ℕ, List, [], ◌∷◌, ◌++◌, Option, Some, None, refl, Bool, true}
+use Rattle.std.specs.Prelude.{false}
 use Rattle.std.specs.Prelude.{MatchOption, IsSome, map, filter, filter_map}
 use Rattle.std.specs.Borrow.{Bor}
 use Rattle.std.specs.Fn.{Called, Mut}
@@ -12,13 +13,18 @@ use Rattle.std.specs.declared.iter.Filter.{Filter}
 use Rattle.std.specs.declared.iter.FilterMap.{FilterMap}
 use Rattle.std.proofs.lemmas.List.Elements.{filter-append, filter_map-append}
 use Rattle.std.specs.List.{cons_option}
-use Rattle.ne_vec.specs.Lists.{IsPrefix}
+use Rattle.std.specs.Option.{option_map}
+use Rattle.std.specs.Bool.{OnFalse}
+use Rattle.ne_vec.specs.Lists.{EachList, IsPrefix, Lists, View}
+use Rattle.ne_vec.specs.RunLaws.{run_drains}
 use Rattle.ne_iter.specs.Sources.{Reads, EachReading, ReadsList, ReadsListThrough}
 use Rattle.ne_iter.specs.Calls.{Calls, CallsEachAt, ReturnsEach, ReturnsEachAt}
-use Rattle.ne_iter.specs.Filter.{IsFiltered, IsFilterMapped}
+use Rattle.ne_iter.specs.Filter.{FilterMapsTo, FilterMapsThrough, IsFiltered, IsFilterMapped}
 use Rattle.ne_iter.specs.Keys.{items_of}
-use Rattle.ne_iter.specs.LoopLaws.{Yields-append}
+use Rattle.ne_iter.specs.LoopLaws.{Yields-append, whole_prefix}
 use Rattle.ne_iter.proofs.FunctionCalls.{function_values, values_at}
+use Rattle.ne_iter.proofs.Map.{values_through}
+use Rattle.ne_iter.proofs.SourceLists.{each_view}
 
 -- each item of xs, paired with b
 abbrev tested : {A B : Type 0} → B → List A → List (A × B)
@@ -229,6 +235,13 @@ pub filter_map_answered : {A B : Type 0} (h : A → Option B) (us : List A)
 filter_map_answered h [] = refl
 filter_map_answered h (u ∷ us) = ap (cons_option (h u)) (filter_map_answered h us)
 
+-- the values in `Some`, through `out`
+values_kept : {A B : Type 0} (out : A → B) (os : List (Option A))
+    → map out (filter_map (λ o. o) os) ≡ filter_map (λ o. o) (map (option_map out) os)
+values_kept out [] = refl
+values_kept out (None ∷ os) = values_kept out os
+values_kept out (Some y ∷ os) = ap (λ l. out y ∷ l) (values_kept out os)
+
 module _ {A B : Type 0} (view : A → B) where
   kept_map : (test : B → Bool) (u : A) (us : List A) (b : Bool) → test (view u) ≡ b
       → map view (filter (λ x. test (view x)) us) ≡ filter test (map view us)
@@ -284,3 +297,28 @@ module _ {U V A S T : Type 0} {becomes : U → S → Type 0} {steps : S → Opti
             ∙ filter_map_answered (λ x. h (view x)) us ∙ filter_map_of_map view h us in
             subst (IsPrefix whole (filter_map h xs)) (sym all)
             (filter_map_prefix h whole xs (map view us) (list whole us parts.read))
+
+        filter_maps_to : {it : T} → made v it → (W : Type 0) (view : View A) (xs : List view.Target)
+            → ReadsListThrough (Reads becomes steps) view.of u xs
+            → FilterMapsTo calls f next it view xs W
+        filter_maps_to {it} is_made W view xs known p seen from h = (
+          refl,
+          λ out whole acts.
+              let parts = gives true p.items (subst (λ w. Reads made next w v p.items) whole
+              (record { it = it; made = is_made; given = run_drains next p it from })) in
+              let us = parts.items in
+              let values = values_through calls f (option_map out) (λ x. h (view.of x)) us
+              parts.results f parts.f_then acts refl parts.called in
+              ap (map out) parts.is ∙ values_kept out parts.results
+              ∙ ap (filter_map (λ o. o)) values ∙ filter_map_answered (λ x. h (view.of x)) us
+              ∙ filter_map_of_map view.of h us
+              ∙ ap (filter_map h) (whole_prefix xs (map view.of us) (known true us parts.read)),
+        )
+
+        pub filter_maps_through : {it : T} → made v it → (view : View A) → OnFalse view.is_itself
+            (EachList (Lists becomes steps view.of) u (FilterMapsThrough calls f next it view))
+        filter_maps_through is_made view = (each_view (λ view xs.
+            FilterMapsThrough calls f next _ view xs) view (λ view xs known. (
+              filter_maps_to is_made ℕ view xs known,
+              filter_maps_to is_made (List ℕ) view xs known,
+            ))).1

@@ -74,7 +74,7 @@ module _ {U V A S T : Type 0} {becomes : U → S → Type 0} {steps : S → Opti
         ))
 
 -- the values returned, through `out`, are those of h
-values_through : {F A B W : Type 0} (calls : Mut F (A × Unit {0}) B) (f : F) (out : B → W)
+pub values_through : {F A B W : Type 0} (calls : Mut F (A × Unit {0}) B) (f : F) (out : B → W)
     (h : A → W) (xs : List A) (ys : List B) (p g : F) → ActsThrough calls f out h → p ≡ f
     → Calls calls p xs ys g → map out ys ≡ map h xs
 values_through calls f out h [] [] p g acts same e = refl

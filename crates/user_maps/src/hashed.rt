@@ -1,8 +1,8 @@
 //! Hashed maps and sets.
 ghost use Rattle.std.specs.Prelude.{◌≡◌, ◌+◌, ◌++◌, ◌↔◌, [], ◌∷◌, map, nat_eq, IfOk, IsTrue};
 ghost use Rattle.std.specs.Prelude.{◌%◌, ◌⊎◌, filter, ltb, IfSome, MatchOption, None, Ok, OnOk};
-ghost use Rattle.std.specs.Prelude.{Some, IsSome, false};
-ghost use Rattle.std.specs.HashMap.{get, get_by, get_by_text, IsUnchanged};
+ghost use Rattle.std.specs.Prelude.{All, Some, IsSome, false, ◌≤◌};
+ghost use Rattle.std.specs.HashMap.{get, get_by, get_by_text, values, IsUnchanged};
 ghost use Rattle.std.specs.HashSet.{contains, contains_text, IsSameSet, IsUnion};
 ghost use Rattle.std.specs.Str.{bytes_eq};
 ghost use Rattle.std.specs.String.{string_bytes};
@@ -26,6 +26,13 @@ pub fn sums(alloc: Global, m: NEMap<u16, u16>) -> Result<NEVec<u32>, AllocError>
     m.into_nonempty_iter()
         .map(|p| u32::from(p.0) + u32::from(p.1))
         .collect(alloc)
+}
+
+/// Returns a key with the greatest value.
+pub fn key_of_greatest(m: &NEMap<u32, u32>) -> u32
+    ensures { IfSome (get nat_eq m.now result) (λ most. All (λ x. x ≤ most) (values m.now)) }
+{
+    *m.nonempty_iter().max_by_key(|pair| *pair.1).0
 }
 
 /// Returns the map of two pairs with the same key.

@@ -129,11 +129,12 @@ pub fn same_set(a: &NEIndexSet<u32>, b: &NEIndexSet<u32>) -> bool
     *a == *b
 }
 
-/// Returns the least of the values.
-pub fn least_value(prices: &NEIndexMap<u32, u32>) -> u32
-    ensures { All (λ pair. result ≤ pair.1) prices.now.entries }
+/// Returns a key with the least value, and this value, by reference.
+pub fn cheapest<'a>(prices: &'a NEIndexMap<u32, u32>) -> (&'a u32, &'a u32)
+    ensures member { get nat_eq prices.now result.0.now ≡ Some result.1.now }
+    ensures bound { All (λ pair. result.1.now ≤ pair.1) prices.now.entries }
 {
-    *prices.nonempty_iter().min_by_key(|pair| *pair.1).1
+    prices.nonempty_iter().min_by_key(|pair| *pair.1)
 }
 
 /// Returns whether a set that is written out is a subset of another. The attribute has the check
@@ -222,6 +223,14 @@ pub fn even_values(map: NEIndexMap<u32, u32>) -> Option<NEIndexMap<u32, u32>>
         (λ kept. kept.entries ≡ filter (λ e. nat_eq (e.1 % 2) 0) map.entries) }
 {
     map.retain(|_k, v| *v % 2 == 0).ok()
+}
+
+/// Returns the entries whose keys are below 10, or `None` if there are none.
+pub fn small_keys(map: NEIndexMap<u32, u32>) -> Option<NEIndexMap<u32, u32>>
+    ensures { MatchOption result (filter (λ k. ltb k 10) (keys map) ≡ [])
+        (λ kept. keys kept ≡ filter (λ k. ltb k 10) (keys map)) }
+{
+    map.retain(|k, _v| *k < 10).ok()
 }
 
 /// Returns the items below 10, or `None` if there are none.

@@ -51,6 +51,15 @@ pub fn greatest_copy(m: &NEBTreeMap<u32, u32>) -> u32
     m.values().copied().max()
 }
 
+/// Returns a key with the greatest value, and this value.
+pub fn dearest(prices: &NEBTreeMap<u32, u32>) -> (u32, u32)
+    ensures member { get nat_cmp prices.now result.0 ≡ Some result.1 }
+    ensures bound { All (λ x. x ≤ result.1) (values prices.now) }
+{
+    let found = prices.nonempty_iter().max_by_key(|pair| *pair.1);
+    (*found.0, *found.1)
+}
+
 /// Returns half of each value, in the order of the keys.
 pub fn halves(alloc: Global, m: &NEBTreeMap<u32, u32>) -> Result<NEVec<u32>, AllocError>
     ensures { IfOk result (λ v. v ≡ map (λ x. x / 2) (values m.now)) }

@@ -9,6 +9,7 @@
 pub mod joins;
 pub mod mixed;
 pub mod nested;
+pub mod optional;
 pub mod parts;
 pub mod references;
 pub mod runs;

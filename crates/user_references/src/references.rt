@@ -2,7 +2,7 @@
 ghost use Rattle.std.specs.Prelude.{◌≡◌, ◌/◌, ◌++◌, ◌∷◌, ◌<◌, ◌≤◌, ◌^◌, [], map, sum, take, drop};
 ghost use Rattle.std.specs.Prelude.{length, slice_get, Some, None, IfOk, OnOk, IsPermutation, ltb};
 ghost use Rattle.std.specs.Prelude.{string_bytes};
-ghost use Rattle.std.specs.Prelude.{cond, nat_eq, not, ℕ};
+ghost use Rattle.std.specs.Prelude.{List, cond, nat_eq, not, ℕ};
 ghost use Rattle.std.specs.List.{All, Contains, enumerate_from, filter, filter_map, find, flat_map};
 ghost use Rattle.std.specs.List.{fold, list_all, list_any, prefix_len, scan, take_while, zip};
 ghost use Rattle.std.specs.Option.{option_map};
@@ -92,6 +92,35 @@ pub fn by_price<'a>(alloc: Global, sales: &'a NEVec<Sale>) -> Result<NEVec<&'a S
     sales
         .nonempty_iter()
         .sorted_by_key(alloc, |s| s.price)?
+        .collect(alloc)
+}
+
+/// Returns the buyers in the order of the prices, with `map` above `sorted_by_key`.
+pub fn buyers_by_price(alloc: Global, sales: &NEVec<Sale>) -> Result<NEVec<u32>, AllocError>
+    ensures { IfOk result (λ v. (sorted : List Sale) × IsPermutation sales.now sorted
+        × KeysAscend (λ s. s.price) nat_cmp sorted
+        × KeepsTies (λ s. s.price) nat_eq sales.now sorted
+        × (v ≡ map (λ s. s.buyer) sorted)) }
+{
+    sales
+        .nonempty_iter()
+        .sorted_by_key(alloc, |s| s.price)?
+        .map(|s| s.buyer)
+        .collect(alloc)
+}
+
+/// Returns the prices and the buyers in the order of the prices, with `sorted_by_key` above `map`.
+pub fn pairs_by_price(alloc: Global, sales: &NEVec<Sale>) -> Result<NEVec<(u32, u32)>, AllocError>
+    ensures permutation { IfOk result (λ v.
+        IsPermutation (map (λ s. (s.price, s.buyer)) sales.now) v) }
+    ensures ascend { IfOk result (λ v. KeysAscend (λ p. p.0) nat_cmp v) }
+    ensures ties { IfOk result (λ v.
+        KeepsTies (λ p. p.0) nat_eq (map (λ s. (s.price, s.buyer)) sales.now) v) }
+{
+    sales
+        .nonempty_iter()
+        .map(|s| (s.price, s.buyer))
+        .sorted_by_key(alloc, |p| p.0)?
         .collect(alloc)
 }
 

@@ -3,12 +3,12 @@
 ghost use Rattle.std.specs.Prelude.{◌≡◌, ◌+◌, ◌-◌, ◌++◌, [], ◌∷◌, if◌then◌else◌, ◌↔◌, is_some};
 ghost use Rattle.std.specs.Prelude.{filter, take, None, Some, IfSome, Bool, IsErr, IsTrue};
 ghost use Rattle.std.specs.Map.Calls.{CallableOnEachPair, CalledAtPair, RetainsPairs, TakesPair};
-ghost use Rattle.indexmap.specs.IndexMap.{get_by, get_key_by, hasher_of, index_map_len};
+ghost use Rattle.indexmap.specs.IndexMap.{get_by, get_key_by, hasher_of, index_map_len, keys};
 ghost use Rattle.indexmap.specs.IndexMap.{shift_remove_entry, swap_remove_entry, Updates, IsEmpty};
 ghost use Rattle.indexmap.specs.IndexMap.{UpdatesBy};
 ghost use Rattle.ne_vec.specs.Taken.{TakesFoundUnlessLast, TakesUnlessLast};
 ghost use Rattle.ne_iter.specs.Keyed.KeptEntries.{either_way, kept_entries, ActsAsAtEntry};
-ghost use Rattle.ne_iter.specs.Keyed.KeptEntries.{TestsEntries};
+ghost use Rattle.ne_iter.specs.Keyed.KeptEntries.{TestsEntries, TestsKeys};
 ghost use Rattle.ne_index.specs.ValidIndexMap.{IsValid};
 
 use super::NEIndexMap;
@@ -192,6 +192,8 @@ impl<K: Eq + Hash, V, S: BuildHasher> NEIndexMap<K, V, S> {
             → (either_way result).entries ≡ kept_entries keeps writes self.entries }
         ensures filtered { (keeps : K × V → Bool) → TestsEntries F.FnMut f keeps
             → (either_way result).entries ≡ filter keeps self.entries }
+        ensures keys { (keeps : K → Bool) → TestsKeys F.FnMut f keeps
+            → keys (either_way result) ≡ filter keeps (keys self) }
         ensures called { RetainsPairs (CalledAtPair F.FnMut) f self.entries
             (either_way result).entries }
         ensures hasher { hasher_of (either_way result) ≡ hasher_of self }

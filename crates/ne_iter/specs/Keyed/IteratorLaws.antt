@@ -2,11 +2,22 @@
 -- left, and yield an entry first if there is one.
 use Rattle.std.proofs.Common.{arith, ap, subst, refl, ◌≡◌, ◌<◌, ◌∙◌, length, List, map}
 use Rattle.std.specs.Map.Iter.{LendsFirst, TakesFirst}
+use Rattle.std.specs.Prelude.{ℕ, IfSome, None, Option, Some, slice_get}
 use Rattle.ne_vec.specs.Lists.{IsPrefix, Listed, Lists}
 use Rattle.ne_vec.specs.ListLaws.{triggered, viewed_prefix}
-use Rattle.ne_iter.specs.Keyed.Iterators.{IteratesKnown}
+use Rattle.ne_iter.specs.Keyed.Iterators.{FindsEach, IteratesKnown}
 use Rattle.ne_iter.specs.Sources.{HasFirst, SameLists}
 use Rattle.ne_iter.specs.SourceLaws.{SameLists-through}
+
+-- each entry has its value at its key if that is so of the key and the value at each place
+pub finds_each : {K V : Type 0} (value : K → Option V) (es : List (K × V))
+    → ((i : ℕ) (k : K) (v : V) → slice_get es i ≡ Some (k, v) → value k ≡ Some v)
+    → FindsEach value es
+finds_each {K} {V} value es found i = at (slice_get es i) refl
+  where
+    at : (o : Option (K × V)) → slice_get es i ≡ o → IfSome o (λ e. value e.0 ≡ Some e.1)
+    at None is = tt
+    at (Some e) is = found i e.0 e.1 is
 
 -- an iterator whose value is the list of the entries that it has left
 pub HasFirst-entries : {A X : Type 0} (shows : A → X) (it : List X) → 0 < length it

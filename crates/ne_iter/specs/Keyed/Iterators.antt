@@ -1,6 +1,6 @@
 -- The entries that an iterator over a non-empty map or set has left, and the list that it yields as
 -- a source. The value of std's iterators is the list of the entries that they have left.
-use Rattle.std.specs.Prelude.{◌≡◌, ◌^◌, ◌<◌, ℕ, List, length}
+use Rattle.std.specs.Prelude.{◌≡◌, ◌^◌, ◌<◌, ℕ, List, Option, IfSome, Some, length, slice_get}
 use Rattle.std.specs.Map.Iter.{GivesInOrder, ShowsInOrder, TakesFirst, deref}
 use Rattle.ne_vec.specs.Lists.{Listed}
 
@@ -37,3 +37,7 @@ ListsUnion w xs = Listed (IteratesKnown (KnownByReference 64 deref)) (TakesFirst
 abbrev pub ListsEntriesByValue : {X : Type 0} → (List X → Type 0) → List X → List X → Type 0
 ListsEntriesByValue {X} known w es = Listed (IteratesKnown known) (TakesFirst (λ (x : X). x))
     (λ x. x) w es
+
+-- `value` is what a map has at each key. The entry at each place has its value at its key.
+abbrev pub FindsEach : {K V : Type 0} → (K → Option V) → List (K × V) → Type 0
+FindsEach value es = (i : ℕ) → IfSome (slice_get es i) (λ e. value e.0 ≡ Some e.1)

@@ -30,3 +30,10 @@ abbrev pub TestsEntries : {F K V : Type 0}
     → F → (K × V → Bool) → Type 0
 TestsEntries {F} {K} {V} g f keeps = (k : K) (v : V) (kept : Bool) (w : V) (f' : F)
     → CalledAtPair g f k v kept w f' → (f' ≡ f) × (kept ≡ keeps (k, v)) × (w ≡ v)
+
+-- Each call of f with a `&` to the key k and a `&mut` to a value returns `keeps k`, and leaves f
+-- unchanged.
+abbrev pub TestsKeys : {F K V : Type 0}
+    → Mut F (Bor K × (MutBor V × Unit {0})) (Bool × (MutBor V × Unit {0})) → F → (K → Bool) → Type 0
+TestsKeys {F} {K} {V} g f keeps = (k : K) (v : V) (kept : Bool) (w : V) (f' : F)
+    → CalledAtPair g f k v kept w f' → (f' ≡ f) × (kept ≡ keeps k)

@@ -53,7 +53,7 @@ ghost use Rattle.ne_iter.specs.Calls.{ActsAsWithState};
 ghost use Rattle.ne_iter.specs.Cloned.{TriesClone, cloned_source, IsCloned};
 ghost use Rattle.ne_iter.specs.Collected.{AppendsRead, IsAllOrErrors, PrefixMakes};
 ghost use Rattle.ne_iter.specs.Collected.{values_or_first_err};
-ghost use Rattle.ne_iter.specs.SortedByKey.{AscendsByKey, PermutesByKey};
+ghost use Rattle.ne_iter.specs.SortedByKey.{AscendsByKey, MapsTargets, PermutesByKey};
 ghost use Rattle.ne_iter.specs.Map.{map_source, map_callee, IsMapped};
 ghost use Rattle.ne_iter.specs.Take.{take_source, take_count, IsTaken};
 ghost use Rattle.ne_iter.specs.Copied.{copied_source, IsCopied};
@@ -64,7 +64,8 @@ ghost use Rattle.ne_iter.specs.GroupingRuns.{GroupsLists};
 ghost use Rattle.ne_iter.specs.RunsBy.{runs_by_source, runs_by_callee, CutsLists, HasCut};
 ghost use Rattle.ne_iter.specs.TryGroupBy.{try_group_by_source, try_group_by_callee, by_keys};
 ghost use Rattle.ne_iter.specs.Map.{MapsThrough};
-ghost use Rattle.ne_iter.specs.Filter.{IsFiltered, IsFilterMapped, IsParted, PartsLists};
+ghost use Rattle.ne_iter.specs.Filter.{FilterMapsThrough, IsFiltered, IsFilterMapped, IsParted};
+ghost use Rattle.ne_iter.specs.Filter.{PartsLists};
 ghost use Rattle.ne_iter.specs.Skip.{IsSkipped, IsSkippedWhile};
 ghost use Rattle.ne_iter.specs.TakeWhile.{IsTakenWhile};
 ghost use Rattle.ne_iter.specs.Peekable.{peekable_first, peekable_rest, PeekableGives, YieldsRest};
@@ -459,6 +460,10 @@ pub trait NonEmptyIterator: IntoIterator {
             (h : view.Target → Option B) → ActsAs F.FnMut f (λ x. h (view.of x))
             → Naming (list_filter_map h xs) (λ ys.
             YieldsPrefixes (filter_map_steps Self.IntoIter.next_gives F.FnMut) ys result)) }
+        ensures through { OnFalse item_view.is_itself
+            (EachList (⟦<Self as ItemSource>⟧.lists item_view) self
+            (FilterMapsThrough F.FnMut f (filter_map_steps Self.IntoIter.next_gives F.FnMut)
+            result item_view)) }
         ensures runs { Becomes Self.into_iter_gives self (λ it.
             EachRunFrom (filter_map_steps Self.IntoIter.next_gives F.FnMut) result (λ p.
             SomeRun Self.IntoIter.next_gives it (λ q. IsFilterMapRun p q F.FnMut f))) }
@@ -963,7 +968,8 @@ pub trait NonEmptyIterator: IntoIterator {
             × IsStableByKeyClosure F.FnMut K.cmp f xs ys) }
         ensures lists { IfOk result (λ ys. ListsItemsByValue Global ys ys
             × AscendsByKey F.FnMut f K.cmp itself ys
-            × OnFalse item_view.is_itself (AscendsByKey F.FnMut f K.cmp item_view ys)
+            × OnFalse item_view.is_itself (AscendsByKey F.FnMut f K.cmp item_view ys
+            × MapsTargets item_view ys)
             × EachView item_view (⟦<Self as ItemSource>⟧.lists) self (λ view xs.
             PermutesByKey F.FnMut f K.eq view xs ys)) }
     {

@@ -1,5 +1,5 @@
 use Rattle.ne_hash.proofs.map.NEMap.retain.Goals as goal
-use Rattle.ne_iter.specs.Keyed.KeptEntryLaws.{retains_filtered, retains_kept}
+use Rattle.ne_iter.specs.Keyed.KeptEntryLaws.{retains_filtered, retains_kept, retains_keys}
 
 pub returns-then-is_empty-clause-kept : goal.returns-then-is_empty-clause-kept
 returns-then-is_empty-clause-kept g c keeps writes acts =
@@ -16,3 +16,11 @@ returns-then-is_empty-clause-filtered g c keeps tests = rw (← c.self.view_is)
 pub returns-else-is_empty-clause-filtered : goal.returns-else-is_empty-clause-filtered
 returns-else-is_empty-clause-filtered g c keeps tests = rw (← c.self.view_is)
     (retains_filtered _ keeps c.args.f tests _ _ c.retain.ensures.filtered)
+
+pub returns-then-is_empty-clause-keys : goal.returns-then-is_empty-clause-keys
+returns-then-is_empty-clause-keys g c keeps tests = rw (← c.self.view_is)
+    (retains_keys _ keeps c.args.f tests _ _ c.retain.ensures.filtered)
+
+pub returns-else-is_empty-clause-keys : goal.returns-else-is_empty-clause-keys
+returns-else-is_empty-clause-keys g c keeps tests = rw (← c.self.view_is)
+    (retains_keys _ keeps c.args.f tests _ _ c.retain.ensures.filtered)

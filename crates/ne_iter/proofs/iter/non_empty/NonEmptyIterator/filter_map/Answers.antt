@@ -6,6 +6,7 @@ use Rattle.std.specs.Iterator.{ActsAs}
 use Rattle.std.specs.Iterator.Adapters.{filter_map_steps}
 use Rattle.ne_vec.specs.Lists.{YieldsPrefixes, Naming}
 use Rattle.ne_iter.proofs.Filter.{IsFilterMapped-from_steps, filter_mapped_view}
+use Rattle.ne_iter.proofs.Filter.{filter_maps_through}
 use Rattle.ne_iter.proofs.SourceLists.{yields_prefixes, each_view}
 
 pub returns-clause-gives : goal.returns-clause-gives
@@ -24,3 +25,8 @@ returns-clause-lists g c = each_view (λ view xs. (h : view.Target → Option _)
       yields_prefixes c.filter_map.result (filter_map h xs)
           (filter_mapped_view (returns-clause-gives g c) view.of h xs acts known),
     ))
+
+pub returns-clause-through : goal.returns-clause-through
+returns-clause-through g c =
+    filter_maps_through (returns-clause-gives g c) {it = c.filter_map.result} refl
+    g.Self.NonEmptyIterator.item_view

@@ -2,6 +2,7 @@ use Rattle.ne_iter.proofs.iter.non_empty.NonEmptyIterator.sorted_by_key.Goals as
 use Rattle.std.proofs.Common.{subst, sym, refl}
 use Rattle.std.proofs.lemmas.Bool.{OnFalse_from}
 use Rattle.std.proofs.lemmas.List.Sorted.{IsPermutation-map}
+use Rattle.std.proofs.lemmas.Simd.{map-map}
 use Rattle.std.specs.Prelude.{true}
 use Rattle.std.specs.Global.{Global}
 use Rattle.ne_vec.specs.IteratorLaws.{lists_items_by_value}
@@ -24,8 +25,14 @@ returns-clause-lists g c =
       lists_items_by_value _ _ refl Global,
       subst (sorts itself) back
           (λ h acts. ascend_through itself.of h _ ys (s.keys (λ x. h (itself.of x)) acts).0),
-      OnFalse_from view.is_itself _ (λ _. subst (sorts view) back
-          (λ h acts. ascend_through view.of h _ ys (s.keys (λ x. h (view.of x)) acts).0)),
+      OnFalse_from view.is_itself _ (λ _. (
+        subst (sorts view) back
+            (λ h acts. ascend_through view.of h _ ys (s.keys (λ x. h (view.of x)) acts).0),
+        (
+          λ h. (refl, map-map h view.of c.from.result),
+          λ h. (refl, map-map h view.of c.from.result),
+        ),
+      )),
       each_view (λ view xs. permutes view xs c.from.result) view
           (λ view xs known. read_through _ _ c.args.self view.of xs known
           (λ l. permutes view l c.from.result) us (subst (Reads _ _ true c.args.self) (sym items.2)

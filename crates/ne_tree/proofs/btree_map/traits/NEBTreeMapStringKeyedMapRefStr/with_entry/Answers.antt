@@ -12,5 +12,5 @@ returns g c = λ q.
     let k = c.in_ok-from_str.field-0 in
     ap (lookup (λ j. is_eq (slice_cmp nat_cmp q (string_bytes j)))) c.in_ok-map.ensures.entries
     ∙ ap (λ b. cond b (Some c.args.v) None)
-        (is_eq-slice_cmp q (string_bytes k) ∙ ap (bytes_eq q) c.in_ok-from_str.ensures.ok
+    (is_eq-slice_cmp q (string_bytes k) ∙ ap (bytes_eq q) c.in_ok-from_str.ensures.ok
     ∙ nat_list_eq_equiv.symm q c.args.k.now)
