@@ -38,7 +38,7 @@ module _ {X : Type 0} where
       let long = length_permutation _ _ p in
       (p, omega arith, λ f. (refl, sum_by_popped f x (y ∷ xs) ys p ∙ sum_by-cons f y xs))
 
-  -- one more item joins those that a list has
+  -- One more item joins those that a list has.
   pub one_more : (xs ys zs : List X) (x : X) → SameItems xs ys → IsPermutation (x ∷ ys) zs
       → SameItems (xs ++ x ∷ []) zs
   one_more xs ys zs x same added = same_items _ _ (IsPermutation-push_more xs ys zs x same.0 added)
@@ -65,7 +65,7 @@ module _ {X : Type 0} (eq : X → X → Bool) (cmp : X → X → Ordering) (equa
       → IsGreatest eq cmp xs x
   is_greatest xs x top bound = (top, bound, found x xs top, none_greater x xs bound)
 
-  -- the item at the top of a heap, as `pop` of a `BinaryHeap` says it
+  -- The item at the top of a heap, as `pop` of a `BinaryHeap` says it.
   pub at_top : (x : X) (xs : List X) → 0 < length xs → x ≡ slice_index_or xs 0 x
       → slice_get xs 0 ≡ Some x
   at_top x [] some e = absurd (omega arith)

@@ -16,13 +16,13 @@ not_ok : {V E : Type 0} (r : Result V E) → IsErr r → is_ok r ≡ true → �
 not_ok (Ok v) is ok = absurd cc
 not_ok (Err e) is ok = absurd cc
 
--- the items that came before the failure
+-- The items that came before the failure.
 pub DrainsIf-failed : {S A V E : Type 0} (steps : S → Option A → S → Type 0) (r : Result V E)
     → IsErr r → (s t : S) (xs : List A) → Yields steps s xs t
     → DrainsIf steps (is_ok r ≡ true) s xs
 DrainsIf-failed steps r is s t xs gave = (t, gave, λ ok. absurd (not_ok r is ok))
 
--- a source of a list appends the list
+-- a source of a list appends the list.
 module _ {U S A : Type 0} (becomes : U → S → Type 0) (steps : S → Option A → S → Type 0) (u : U)
     (old new : List A) where
   pub list_appended : AppendsRead (Reads becomes steps true u) old new
@@ -44,6 +44,6 @@ both_bounded true true h = (tt, tt)
 both_bounded true false h = absurd h
 both_bounded false y h = absurd h
 
--- two counts whose sum is finite
+-- Two counts whose sum is finite.
 pub both_finite : (a b : Count) → IsFinite (count_add a b) → IsFinite a × IsFinite b
 both_finite a b h = both_bounded a.bounded b.bounded h

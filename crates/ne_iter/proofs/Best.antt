@@ -20,13 +20,13 @@ use Rattle.ne_iter.proofs.Extremes.{contains_through, first_through}
 
 module _ {V F A : Type 0} (view : A → V) (calls : Shared F (Bor V × (Bor V × Unit {0})) Bool)
     (f : F) where
-  -- what holds for both items of a step holds for the one that is kept
+  -- What holds for both items of a step holds for the one that is kept.
   kept_has : (P : A → Type 0) (kept x next : A) → KeepsBetter view calls f kept x next
       → P kept → P x → P next
   kept_has P kept x next (true, says, e) p q = subst P (sym e) q
   kept_has P kept x next (false, says, e) p q = subst P (sym e) p
 
-  -- the item that is kept is one of those that were yielded
+  -- The item that is kept is one of those that were yielded.
   pub Contains-kept : (first : A) (xs : List A) (kept : A)
       → FoldsTo (KeepsBetter view calls f) first xs kept → Contains (first ∷ xs) kept
   Contains-kept first xs kept =
@@ -35,12 +35,12 @@ module _ {V F A : Type 0} (view : A → V) (calls : Shared F (Bor V × (Bor V ×
       (Contains-append_left (first ∷ ys) (x ∷ []) m has) (Contains-push (first ∷ ys) x))
       xs first kept (Contains-push [] first)
 
-  -- for two of the items zs, f returns whether the second beats the first
+  -- For two of the items zs, f returns whether the second beats the first.
   abbrev pub ReturnsAs : (A → A → Bool) → List A → Type 0
   ReturnsAs beats zs = (x y : A) (t : Bool) → Contains zs x → Contains zs y
       → FnReturnsAtPair calls f (view x) (view y) t → t ≡ beats y x
 
-  -- so the best of the items zs is kept
+  -- So the best of the items zs is kept.
   best_of-kept : (beats : A → A → Bool) (zs : List A) → ReturnsAs beats zs
       → (first : A) (xs : List A) (kept : A) → All (Contains zs) (first ∷ xs)
       → FoldsTo (KeepsBetter view calls f) first xs kept → kept ≡ best_of beats first xs
@@ -65,7 +65,7 @@ module _ {A : Type 0} (less : A → A → Bool) (order : IsStrictWeakOrder less)
 
 module _ {V F A : Type 0} (view : A → V) (calls : Shared F (Bor V × (Bor V × Unit {0})) Bool)
     (f : F) (less : A → A → Bool) (order : IsStrictWeakOrder less) where
-  -- if f returns whether the next item is less, the first least item is kept
+  -- If f returns whether the next item is less, the first least item is kept.
   pub IsFirstLeast-kept : (first : A) (xs : List A) (kept : A)
       → ReturnsAs view calls f less (first ∷ xs)
       → FoldsTo (KeepsBetter view calls f) first xs kept → IsFirstLeast less (first ∷ xs) kept
@@ -76,14 +76,14 @@ module _ {V F A : Type 0} (view : A → V) (calls : Shared F (Bor V × (Bor V ×
 
 module _ {V F A : Type 0} (view : A → V) (calls : Shared F (Bor V × (Bor V × Unit {0})) Bool)
     (f : F) (less : A → A → Bool) (order : IsStrictWeakOrder less) where
-  -- if f returns whether the next item is greater, the first greatest item is kept
+  -- If f returns whether the next item is greater, the first greatest item is kept.
   pub IsFirstGreatest-kept : (first : A) (xs : List A) (kept : A)
       → ReturnsAs view calls f (λ x y. less y x) (first ∷ xs)
       → FoldsTo (KeepsBetter view calls f) first xs kept → IsFirstGreatest less (first ∷ xs) kept
   IsFirstGreatest-kept =
       IsFirstLeast-kept view calls f (λ x y. less y x) (IsStrictWeakOrder-flip less order)
 
--- what `<` returns, stated by `cmp`
+-- What `<` returns, stated by `cmp`.
 pub less_by-from_partial_lt : {A : Type 0} {C : A → A → Option Ordering} {R : A → A → Ordering}
     → Agrees C R → (x y : A) (t : Bool) → t ≡ partial_lt C x y → t ≡ less_by R x y
 less_by-from_partial_lt a x y t e = e ∙ ap (is_some_and is_lt) (a x y)
@@ -93,7 +93,7 @@ module _ {A F H : Type 0} (calls : Shared F (Bor A × (Bor A × Unit {0})) Bool)
     (each : (v w : Bor A) (t : Bool) → calls.post f (v, (w, tt)) t
     → (r : Ordering) × through.post h (v, (w, tt)) r × (t ≡ meant r)) (first : A) (xs : List A)
     (kept : A) (turns : FoldsTo (KeepsBetter (λ y. y) calls f) first xs kept) (view : View A) where
-  -- each call of f is a call of h, and returns whether the result of h is the one meant
+  -- Each call of f is a call of h, and returns whether the result of h is the one meant.
   returns_as : (beats : view.Target → view.Target → Bool)
       → ReturnsOnlyWhere through h view (map view.of (first ∷ xs)) meant (λ x y. beats y x)
       → ReturnsAs (λ x. x) calls f (λ x y. beats (view.of x) (view.of y)) (first ∷ xs)
@@ -108,7 +108,7 @@ module _ {A F H : Type 0} (calls : Shared F (Bor A × (Bor A × Unit {0})) Bool)
       let there = contains_through view.of (first ∷ xs) in
       behind.2 ∙ answers x y behind.0 (there x a) (there y b) at
 
-  -- so the first best item is kept, if the results of h rank the items
+  -- So the first best item is kept, if the results of h rank the items.
   pub picks_best : Contains (map view.of (first ∷ xs)) (view.of kept)
       × ((beats : view.Target → view.Target → Bool) → IsStrictWeakOrder beats
       → ReturnsOnlyWhere through h view (map view.of (first ∷ xs)) meant (λ x y. beats y x)

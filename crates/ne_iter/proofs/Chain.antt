@@ -20,7 +20,7 @@ use Rattle.ne_iter.proofs.SourceLists.{through_reads, meets_read, each_view}
 
 module _ {S T A : Type 0} (steps : S → Option A → S → Type 0) (others : T → Option A → T → Type 0)
   where
-    -- the first side has ended
+    -- The first side has ended.
     DrainsIf-chain_second : {W : Type 0} (s : Chain S T) (zs : List A) → chain_first_done s ≡ true
         → chain_second_done s ≡ false
         → DrainsIf (chain_steps steps others) W s zs → DrainsIf others W (chain_second s) zs
@@ -46,7 +46,7 @@ module _ {S T A : Type 0} (steps : S → Option A → S → Type 0) (others : T 
         × DrainsIf steps ((whole || ltb 0 (length ys)) ≡ true) (chain_first s) xs
         × DrainsIf others (whole ≡ true) (chain_second s) ys × (zs ≡ xs ++ ys)
 
-    -- the first call, if it yields an item z
+    -- The first call, if it yields an item z.
     first_gave : (whole : Bool) (s j : Chain S T) (z : A) (zs : List A) (o : Option A)
         → chain_second_done s ≡ false → chain_second_done j ≡ chain_second_done s
         → steps (chain_first s) o (chain_first j)
@@ -73,7 +73,7 @@ module _ {S T A : Type 0} (steps : S → Option A → S → Type 0) (others : T 
           (let a = h.0 in let b = p.4 in cc),
         )
 
-    -- the end, if the second side yielded no item
+    -- The end, if the second side yielded no item.
     none_came : (s j : Chain S T) (o : Option A) → chain_second_done s ≡ false
         → steps (chain_first s) o (chain_first j)
         → MatchOption o (SecondAnswers steps others s None j)
@@ -111,7 +111,7 @@ module _ {S T A : Type 0} (steps : S → Option A → S → Type 0) (others : T 
         first_gave whole s j z zs h.0 live st.0 h.1 h.2 (t, rest, fin)
         (λ q. DrainsIf-chain whole j zs q (let a = st.0 in cc) (t, rest, fin))
 
--- the chain of two iterators, of which the first may have ended
+-- The chain of two iterators, of which the first may have ended.
 abbrev pub chain_of : {S T : Type 0} → S → T → Bool → Chain S T
 chain_of i j done = record { a = i; b = j; a_done = done; b_done = false }
 
@@ -130,7 +130,7 @@ module _ {S T A : Type 0} (steps : S → Option A → S → Type 0) (others : T 
     chain_of_runs i j = chains_runs steps others i j (chain_of i j false)
         (Chain-runs steps others (chain_of i j false) i refl refl refl)
 
-    -- what holds of two iterators, and then of their chain
+    -- What holds of two iterators, and then of their chain.
     pub begins_chain : {P Q : Type 0} (i : S) (j : T) → P → Q → P × Q × (false ≡ false)
         × (false ≡ false) × ChainsRuns steps others i j (chain_of i j false)
     begins_chain i j p q = (p, q, refl, refl, chain_of_runs i j)
@@ -144,7 +144,7 @@ module _ {S T A : Type 0} (steps : S → Option A → S → Type 0) (others : T 
       only_second i ys k t more,
     )
 
-    -- the first list, so far
+    -- The first list, so far.
     pub only_first : (i : S) (j : T) (us : List A) (k : S) → Yields steps i us k
         → Yields (chain_steps steps others) (chain_of i j false) us (chain_of k j false)
     only_first i j [] k e = ap (λ q. chain_of q j false) e
@@ -154,7 +154,7 @@ module _ {S T A : Type 0} (steps : S → Option A → S → Type 0) (others : T 
       only_first m j us k more,
     )
 
-    -- the first list to its end, and then the second
+    -- The first list to its end, and then the second.
     pub DrainsIf-chained : (done : Type 0) (us ys : List A) (i i' i'' : S) (j : T)
         → Yields steps i us i' → steps i' None i'' → DrainsIf others done j ys
         → DrainsIf (chain_steps steps others) done (chain_of i j false) (us ++ ys)
@@ -189,7 +189,7 @@ module _ {S T A : Type 0} (steps : S → Option A → S → Type 0) (others : T 
           r.2,
         )
 
--- the first list is read to its end before the second yields an item
+-- The first list is read to its end before the second yields an item.
 pub append_prefix : {A : Type 0} (whole : Bool) (xs ys us vs : List A)
     → IsPrefix (whole || ltb 0 (length vs)) xs us → IsPrefix whole ys vs
     → IsPrefix whole (xs ++ ys) (us ++ vs)
@@ -227,7 +227,7 @@ module _ {U W V S R T A : Type 0} {becomes : U → S → Type 0} {steps : S → 
         (subst (λ len. IsPrefix (whole || ltb 0 len) xs (map view us)) long
         (first _ us parts.read)) (second whole vs parts.read_other))
 
--- two sources, one after the other
+-- Two sources, one after the other.
 pub chains_lists : {U W V S R T A : Type 0} {becomes : U → S → Type 0}
     {steps : S → Option A → S → Type 0} {meets : W → R → Type 0}
     {other : R → Option A → R → Type 0} {made : V → T → Type 0} {next : T → Option A → T → Type 0}

@@ -23,7 +23,7 @@ use Rattle.ne_iter.specs.CollectedLaws.{option_or-none, some_member, update_all-
 use mathlib.Core.Path.{fun_ext}
 
 module _ {K : Type 0} {eq : K → K → Bool} (laws : IsEquivalence eq) where
-  -- the keys of a list that has an item
+  -- The keys of a list that has an item.
   some_key : (xs ks : List K) → ((q : K) → is_member eq ks q ≡ is_member eq xs q) → 0 < length xs
       → 0 < length ks
   some_key [] ks same some = absurd (omega (arith, some))

@@ -66,12 +66,12 @@ module _ {U S A B : Type 0} (becomes : U → S → Type 0) (steps : S → Option
     (view : A → B) (xs : List B) (list : ReadsListThrough (Reads becomes steps) view u xs)
     (it t : S)
     (made : becomes u it) where
-  -- if the source ended after the items us, they are all items
+  -- If the source ended after the items us, they are all items.
   all_came : (us : List A) → YieldsThen steps it us None t → xs ≡ map view us
   all_came us run = sym (whole_prefix xs (map view us) (list true us
       (record { it = it; made = made; given = (run.0, run.1, λ _. (t, run.2)) })))
 
-  -- if x was yielded after the items us, they are a prefix of the list, and x is the next item
+  -- If x was yielded after the items us, they are a prefix of the list, and x is the next item.
   then_came : (us : List A) (x : A) → YieldsThen steps it us (Some x) t
       → (more : List B) × (xs ≡ map view (us ++ x ∷ []) ++ more)
   then_came us x run =
@@ -82,7 +82,7 @@ module _ {U S A B : Type 0} (becomes : U → S → Type 0) (steps : S → Option
       }) in
       (f.0, f.1)
 
-  -- the result of `nth`
+  -- The result of `nth`.
   pub views_nth : (n : ℕ) (r : Option A) → SkipsThenYields steps it n r t
       → option_map view r ≡ slice_get xs n
   views_nth n None (us, run, short) =
@@ -95,7 +95,7 @@ module _ {U S A B : Type 0} (becomes : U → S → Type 0) (steps : S → Option
 
   module _ {F : Type 0} (test : B → Bool) (f : F) where
     module _ (calls : Mut F (A × Unit {0}) Bool) (acts : ActsAs calls f (λ x. test (view x))) where
-      -- f returned y for the items us, and is then g; for x, after them, it returned z
+      -- f returned y for the items us, and is then g; for x, after them, it returned z.
       same : (y : Bool) (us : List A) (g : F) → ReturnsEach calls y f us g
           → AllByRecursion (λ x. test (view x) ≡ y) us
       same y us g each = (same_results calls f (λ x. test (view x)) y us g acts each).0
@@ -105,7 +105,7 @@ module _ {U S A B : Type 0} (becomes : U → S → Type 0) (steps : S → Option
       last y z us x g h each call = sym (acts x z h (subst (λ q. Called calls q (x, tt) z h)
           (same_results calls f (λ x. test (view x)) y us g acts each).1 call)).1
 
-      -- the result of `all`
+      -- The result of `all`.
       pub views_all : (r : Bool) → ChecksAll steps calls it f r t → r ≡ list_all test xs
       views_all r (us, None, g, run, each, e) =
           e ∙ sym (ap (list_all test) (all_came us run) ∙ all_pass view test us
@@ -116,7 +116,7 @@ module _ {U S A B : Type 0} (becomes : U → S → Type 0) (steps : S → Option
           ∙ one_fails view test us f.0 x (same true us g each)
           (last true false us x g end.1.0 each end.1.1))
 
-      -- the result of `any`
+      -- The result of `any`.
       pub views_any : (r : Bool) → ChecksAny steps calls it f r t → r ≡ list_any test xs
       views_any r (us, None, g, run, each, e) =
           e ∙ sym (ap (list_any test) (all_came us run)
@@ -127,7 +127,7 @@ module _ {U S A B : Type 0} (becomes : U → S → Type 0) (steps : S → Option
           ∙ (one_passes view test us f.0 x (same false us g each)
           (last false true us x g end.1.0 each end.1.1)).0)
 
-    -- the result of `find`
+    -- The result of `find`.
     pub views_first : (calls : Mut F (Bor A × Unit {0}) Bool)
         → ActsAsAt calls f (λ x. test (view x)) → (r : Option A) → FindsItem steps calls it f r t
         → option_map view r ≡ find test xs

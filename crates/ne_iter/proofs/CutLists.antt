@@ -28,7 +28,7 @@ use Rattle.ne_iter.proofs.Groupings.{division_of_none}
 use Rattle.ne_iter.specs.LoopLaws.{reads_through}
 use Rattle.ne_iter.proofs.SourceLists.{read_through}
 
--- a run that ends before y ends before the first of the lists that y begins
+-- a run that ends before y ends before the first of the lists that y begins.
 breaks_on : {A : Type 0} (goes_on : List A → A → Bool) (run : List A) (y : A) (ys : List A)
     (rs : List (List A)) → goes_on run y ≡ false → AllByRecursion (λ r. r ≢ []) rs
     → concat rs ≡ y ∷ ys → Adjacent (Breaks goes_on) rs → Adjacent (Breaks goes_on) (run ∷ rs)
@@ -43,7 +43,7 @@ held_last run rs None = refl
 held_last run rs (Some x) = refl
 
 module _ {A F : Type 0} (calls : Shared F (Bor A × (Bor A × Unit {0})) Bool) where
-  -- a run that was followed by y, and the lists into which y and the items after it are cut
+  -- a run that was followed by y, and the lists into which y and the items after it are cut.
   cut_on : (f : F) (all : List A) (run : List A) (y : A) (ys : List A) (rs : List (List A))
       → CutsInto calls f all (run ∷ (y ∷ []) ∷ []) → CutsInto calls f (y ∷ ys) rs
       → CutsInto calls f (all ++ ys) (run ∷ rs)
@@ -75,14 +75,14 @@ module _ {S K A F : Type 0} (calls : Shared F (Bor A × (Bor A × Unit {0})) Boo
   draws_on Ended s t u xs ys came more =
       (more.0, Yields-both steps xs ys s t more.0 came more.1, more.2)
 
-  -- the items taken by calls that returned runs
+  -- The items taken by calls that returned runs.
   record Taken (g : Grouping S K A F) (rs : List (List A))
       (h : Grouping S K A F) : Type 0 where
     pub drawn : List A
     pub draws : Draws calls steps h.state g.source drawn h.source
     pub cut : CutsInto calls g.closure (held_before g.state drawn) (and_held rs (held_in h.state))
 
-  -- calls after a run was returned: an item is held, since an iterator that is over returns no run
+  -- Calls after a run was returned: an item is held, since an iterator that is over returns no run.
   taken_on : (a : State K A) (g h k : Grouping S K A F) (run r : List A)
       (rs : List (List A)) → h.state ≡ a → CutsNext calls steps g (Some (Ok run)) h
       → (IsOver h → ⊥) → Taken h (r ∷ rs) k → Taken g (run ∷ r ∷ rs) k
@@ -217,7 +217,7 @@ module _ {S K A F : Type 0} (calls : Shared F (Bor A × (Bor A × Unit {0})) Boo
     has_cut whole (run ∷ rs) h came end = has_some h.state whole run rs h refl
         (taken run rs g h came) end
 
-  -- the results are runs, each in `Ok`, and possibly an `Err` after them
+  -- The results are runs, each in `Ok`, and possibly an `Err` after them.
   abbrev Came : Grouping S K A F → List (Result (List A) AllocError) → Type 0
   Came g xs = (rs : List (List A)) × ((xs ≡ map Ok rs)
       ⊎ ((e : AllocError) × (xs ≡ map Ok rs ++ Err e ∷ []) × (k : Grouping S K A F)
@@ -269,20 +269,20 @@ module _ {S K A F : Type 0} (calls : Shared F (Bor A × (Bor A × Unit {0})) Boo
           ),
         )
 
--- a division is what `runs_of` computes
+-- a division is what `runs_of` computes.
 are_runs : {A : Type 0} (place : (A → A → Bool) → List A → A → Bool) (same : A → A → Bool)
     (xs : List A) (rs : List (List A)) → IsDivision (place same) xs rs → rs ≡ runs_of place same xs
 unfolding runs_of
 are_runs place same [] rs d = divide_only (place same) [] rs d
 are_runs place same (x ∷ xs) rs d = divide_only (place same) (x ∷ xs) rs d
 
--- whether an item continues a run does not depend on the view
+-- Whether an item continues a run does not depend on the view.
 alike : {A B : Type 0} (test : B → B → Bool) (view : A → B) (r : List A) (x : A)
     → by_first test (map view r) (view x) ≡ by_first (λ a b. test (view a) (view b)) r x
 alike test view [] x = refl
 alike test view (y ∷ r) x = refl
 
--- the runs that an iterator yields to its end, if it had taken nothing
+-- The runs that an iterator yields to its end, if it had taken nothing.
 pub cuts_runs : {S K A F : Type 0} (calls : Shared F (Bor A × (Bor A × Unit {0})) Bool)
     (steps : S → Option A → S → Type 0) (g : Grouping S K A F) → g.state ≡ Unread
     → CutsRuns calls steps g

@@ -49,7 +49,7 @@ module _ {S K A F : Type 0} (steps : S → Option A → S → Type 0) (calls : M
       → IsDivision (by_first (same_key eq)) xs (rs ++ last ∷ [])
       → IsDivision (by_first (same_key eq)) (xs ++ more) all → (rest : List (List (A × K)))
       × (all ≡ rs ++ rest)) where
-    -- whatever items follow those taken, the runs returned are the first runs
+    -- Whatever items follow those taken, the runs returned are the first runs.
     are_first : (a : State K A) (t : S) (drawn : List (A × K)) (runs : List (List (A × K)))
         (more : List (A × K)) (all : List (List (A × K))) → StandsAt steps calls eq a s drawn t runs
         → (a ≡ Ended → more ≡ []) → IsDivision (by_first (same_key eq)) (drawn ++ more) all
@@ -75,7 +75,7 @@ module _ {S K A F : Type 0} (steps : S → Option A → S → Type 0) (calls : M
         )
 
 module _ {A K F : Type 0} (calls : Mut F (Bor A × Unit {0}) K) (eq : K → K → Bool) (h : A → K) where
-  -- each item with the key that h gives for it
+  -- Each item with the key that h gives for it.
   abbrev pub keyed : A → A × K
   keyed x = (x, h x)
 

@@ -100,7 +100,7 @@ module _ {U V A S T : Type 0} {becomes : U → S → Type 0} {steps : S → Opti
       viewed view xs known =
           through_reads made next v (numbered view).of (enumerate_from 0 xs) (numbers view xs known)
 
-      -- an adapter that numbers the items of xs yields as many items
+      -- An adapter that numbers the items of xs yields as many items.
       counts_as : {B : Type 0} {of : ℕ × A → ℕ × B} (xs : List B) (it : T)
           → YieldsPrefixesThrough next of (enumerate_from 0 xs) it
           → EachRunFrom next it (λ p. (p.len ≤ length xs) × (p.whole ≡ true → p.len ≡ length xs))

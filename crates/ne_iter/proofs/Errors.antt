@@ -7,7 +7,7 @@ use Rattle.std.proofs.lemmas.List.{append-nil}
 use Rattle.std.proofs.lemmas.List.Elements.{filter_map-append}
 
 module _ {T E : Type 0} where
-  -- the errors of values, of an error after them, and of what follows it
+  -- The errors of values, of an error after them, and of what follows it.
   pub errors_after : (values : List T) (e : E) (rs : List (Result T E))
       → filter_map result_err ((map Ok values ++ Err e ∷ []) ++ rs) ≡ e ∷ filter_map result_err rs
   errors_after [] e rs = refl

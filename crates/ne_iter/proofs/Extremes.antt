@@ -19,12 +19,12 @@ not_less_by : (x y : ℕ) (a b : Bool) → ltb x y ≡ a
 not_less_by x y true b e h = absurd (true≢false h)
 not_less_by x y false b e h = ltb-false x y e
 
--- if a number is not less than another, the other is at most that number
+-- If a number is not less than another, the other is at most that number.
 pub not_less : (x y : ℕ) → less_by nat_cmp x y ≡ false → y ≤ x
 not_less x y h = not_less_by x y (ltb x y) (eqb x y) refl h
 
 module _ {A : Type 0} (beats : A → A → Bool) where
-  -- the first best item, by its place
+  -- The first best item, by its place.
   pub best_of_list : (xs : List A) (best : A) → IsFirstLeast beats xs best
       → IsBestOfList beats xs best
   best_of_list xs best (place, first, e) =
@@ -62,7 +62,7 @@ module _ {A B : Type 0} (of : A → B) where
     get_or-map of xs k x (of x) within ∙ ap of e,
   )
 
-  -- the first best item, by a test of what `of` makes of two items
+  -- The first best item, by a test of what `of` makes of two items.
   pub first_through : (beats : B → B → Bool) (xs : List A) (m : A)
       → IsFirstLeast (λ x y. beats (of x) (of y)) xs m → IsFirstLeast beats (map of xs) (of m)
   first_through beats xs m (place, (within, all, before), e) =

@@ -26,7 +26,7 @@ use Rattle.ne_iter.proofs.FunctionCalls.{function_values, values_at}
 use Rattle.ne_iter.proofs.Map.{values_through}
 use Rattle.ne_iter.proofs.SourceLists.{each_view}
 
--- each item of xs, paired with b
+-- Each item of xs, paired with b.
 abbrev tested : {A B : Type 0} → B → List A → List (A × B)
 tested b xs = map (λ x. (x, b)) xs
 
@@ -53,7 +53,7 @@ module _ {S A F : Type 0} (steps : S → Option A → S → Type 0)
       × DrainsIf steps (whole ≡ true) (filter_source s) (map (λ p. p.0) ps)
       × CallsEachAt calls (filter_callee s) ps g × (xs ≡ map (λ p. p.0) (filter (λ p. p.1) ps))
 
-  -- after items zs that failed
+  -- After items zs that failed.
   sifted_behind : (whole : Bool) (s : Filter S F) (xs zs : List A) (ps : List (A × Bool)) (f g : F)
       → DrainsIf steps (whole ≡ true) (filter_source s) (zs ++ map (λ p. p.0) ps)
       → ReturnsEachAt calls false (filter_callee s) zs f → CallsEachAt calls f ps g
@@ -124,7 +124,7 @@ module _ {S A B F : Type 0} (steps : S → Option A → S → Type 0)
       × DrainsIf steps (whole ≡ true) (filter_map_source s) xs
       × Calls calls (filter_map_callee s) xs os g × (ys ≡ filter_map (λ o. o) os)
 
-  -- the facts about a call that skipped items and then took o
+  -- The facts about a call that skipped items and then took o.
   abbrev Drew : F → Option B → FilterMap S F → Option A → Type 0
   Drew f r t o = MatchOption o ((r ≡ None) × (filter_map_callee t ≡ f))
       (λ x. Called calls f (x, tt) r (filter_map_callee t) × IsSome r)
@@ -225,7 +225,7 @@ module _ {A : Type 0} (test : A → Bool) where
   kept u us true e more = rw e (ap (λ l. u ∷ l) more)
   kept u us false e more = rw e more
 
-  -- the items paired with true
+  -- The items paired with true.
   pub filter_answered : (us : List A) → Kept us
   filter_answered [] = refl
   filter_answered (u ∷ us) = kept u us (test u) refl (filter_answered us)
@@ -235,7 +235,7 @@ pub filter_map_answered : {A B : Type 0} (h : A → Option B) (us : List A)
 filter_map_answered h [] = refl
 filter_map_answered h (u ∷ us) = ap (cons_option (h u)) (filter_map_answered h us)
 
--- the values in `Some`, through `out`
+-- The values in `Some`, through `out`.
 values_kept : {A B : Type 0} (out : A → B) (os : List (Option A))
     → map out (filter_map (λ o. o) os) ≡ filter_map (λ o. o) (map (option_map out) os)
 values_kept out [] = refl

@@ -20,7 +20,7 @@ use Rattle.ne_iter.proofs.SourceLists.{read_lists}
 use Rattle.ne_iter.specs.LoopLaws.{lists_read, becomes_read}
 use Rattle.ne_iter.proofs.SourceLists.{through_reads, becomes_read_through}
 
--- the sources that f returns yield the lists that belong to the items, one after another
+-- The sources that f returns yield the lists that belong to the items, one after another.
 lists_returned : {A W B F : Type 0} (reads : Bool → W → List B → Type 0)
     (calls : Mut F (A × Unit {0}) W) (f : F) (inner : A → List B)
     → ReturnsLists calls f (ReadsList reads) inner → (xs : List A) (us : List W) (p g : F)
@@ -47,7 +47,7 @@ module _ {U W V S T A B : Type 0} {becomes : U → S → Type 0} {steps : S → 
       (joined_prefixes reads inner whole xs parts.items parts.sources parts.lists
       (list whole parts.items parts.read) beside parts.read_each)
 
--- the lists of inner sources, one after another
+-- The lists of inner sources, one after another.
 module _ {U W V S R T B X Y : Type 0} {becomes : U → S → Type 0} {meets : W → R → Type 0}
     {other : R → Option B → R → Type 0} {made : V → T → Type 0} {next : T → Option B → T → Type 0}
     {makes : W → X → Type 0} {made' : X → Y → Type 0} {next' : Y → Option B → Y → Type 0}
@@ -71,7 +71,7 @@ module _ {U W V S R T B X Y : Type 0} {becomes : U → S → Type 0} {meets : W 
     ),
   )
 
--- w may yield items that are ds through `inner`
+-- w may yield items that are ds through `inner`.
 abbrev ReadsAs : {W B D : Type 0} → (Bool → W → List B → Type 0) → (B → D) → Bool → W → List D
     → Type 0
 ReadsAs {B = B} reads inner whole w ds = (ys : List B) × reads whole w ys × (ds ≡ map inner ys)
@@ -87,7 +87,7 @@ reads_as_each reads inner whole (u ∷ us) (ys ∷ yss) h = (
   reads_as_each reads inner whole us yss h.1,
 )
 
--- the sources that f returned yield, through `inner`, the lists that belong to the items
+-- The sources that f returned yield, through `inner`, the lists that belong to the items.
 through_returned : {A C W B D F : Type 0} (reads : Bool → W → List B → Type 0) (inner : B → D)
     (view : A → C) (calls : Mut F (A × Unit {0}) W) (f : F) (h : C → List D)
     → ReturnsLists calls f (ReadsListThrough reads inner) (λ x. h (view x)) → (xs : List A)
@@ -121,7 +121,7 @@ module _ {U W V S T A B : Type 0} {becomes : U → S → Type 0} {steps : S → 
       (map (map inner) parts.lists) (list whole parts.items parts.read) beside
       (reads_as_each reads inner whole parts.sources parts.lists parts.read_each))
 
--- the lists of inner sources, one after another, through views
+-- The lists of inner sources, one after another, through views.
 module _ {U W V S R T A B X Y F : Type 0} {becomes : U → S → Type 0}
     {steps : S → Option A → S → Type 0} {meets : W → R → Type 0}
     {other : R → Option B → R → Type 0} {made : V → T → Type 0} {next : T → Option B → T → Type 0}

@@ -25,7 +25,7 @@ use Rattle.ne_iter.specs.LoopLaws.{lists_read, becomes_read}
 
 module _ {S U J A : Type 0} (steps : S → Option U → S → Type 0) (becomes : U → J → Type 0)
     (inner : J → Option A → J → Type 0) where
-  -- the inner iterator that is held, if there is one, yielded ys
+  -- The inner iterator that is held, if there is one, yielded ys.
   abbrev Front : Bool → Option J → List A → Type 0
   Front b o ys = MatchOption o (ys ≡ []) (λ j. DrainsIf inner (b ≡ true) j ys)
 
@@ -35,7 +35,7 @@ module _ {S U J A : Type 0} (steps : S → Option U → S → Type 0) (becomes :
       × DrainsIf steps (whole ≡ true) (flatten_source s) us
       × ReadsEach (Reads becomes inner) whole us yss × (zs ≡ ys ++ concat yss)
 
-  -- inner iterators that yielded nothing
+  -- Inner iterators that yielded nothing.
   empties : (whole : Bool) (cs us : List U) (yss : List (List A))
       → FoldsTo {P = Unit {0}} (λ _ x _. (j : J) × (k : J) × becomes x j × inner j None k) tt cs tt
       → ReadsEach (Reads becomes inner) whole us yss → (e : List (List A))
@@ -201,7 +201,7 @@ module _ {S U J A : Type 0} (steps : S → Option U → S → Type 0) (becomes :
       let nothing : m.0 ≡ [] = subst (λ o. Front (whole || ltb 0 (length m.1)) o m.0) none m.3 in
       (m.1, m.2, m.4, m.5, m.6 ∙ ap (λ l. l ++ concat m.2) nothing)
 
--- the lists of sources, one after another: each source is paired with an x, and yields `inner x`
+-- The lists of sources, one after another: each source is paired with an x, and yields `inner x`.
 joined_prefix : {X U A : Type 0} (reads : Bool → U → List A → Type 0) (inner : X → List A)
     (whole : Bool) (xs : List X) (us : List U) (yss : List (List A))
     → AllZip (λ x u. ReadsList reads u (inner x)) xs us → ReadsEach reads whole us yss
@@ -231,7 +231,7 @@ joined_prefix reads inner whole (x ∷ z ∷ xs) (u ∷ v ∷ us) (ys ∷ yss) b
       others.2,
     )
 
--- the lists of sources, one after another, if only a prefix of the sources was yielded
+-- The lists of sources, one after another, if only a prefix of the sources was yielded.
 pub joined_prefixes : {X U A : Type 0} (reads : Bool → U → List A → Type 0) (inner : X → List A)
     (whole : Bool) (all xs : List X) (us : List U) (yss : List (List A)) → IsPrefix whole all xs
     → AllZip (λ x u. ReadsList reads u (inner x)) xs us → ReadsEach reads whole us yss
@@ -246,7 +246,7 @@ joined_prefixes reads inner whole all xs us yss f beside h =
           ap (λ l. l ++ flat_map inner f.0) a ∙ ap (flat_map inner) b,
     )
 
--- a fact that holds for each item of a list holds for each item of a prefix
+-- a fact that holds for each item of a list holds for each item of a prefix.
 all_prefix : {A : Type 0} (P : A → Type 0) (xs more : List A) → All P (xs ++ more) → All P xs
 all_prefix P [] more all = All-nil P
 all_prefix P (x ∷ xs) more all = All-cons P x xs (All-head P x (xs ++ more) all)
@@ -254,7 +254,7 @@ all_prefix P (x ∷ xs) more all = All-cons P x xs (All-head P x (xs ++ more) al
 
 module _ {A U B : Type 0} (reads : Bool → U → List B → Type 0) (source : A → U)
     (lists : A → List B) where
-  -- the source of an item yields the item's list
+  -- The source of an item yields the item's list.
   abbrev pub GivesOwnList : A → Type 0
   GivesOwnList x = ReadsList reads (source x) (lists x)
 
@@ -266,7 +266,7 @@ module _ {A U B : Type 0} (reads : Bool → U → List B → Type 0) (source : A
     own_lists xs (All-tail GivesOwnList x xs gives),
   )
 
-  -- the lists of the sources of items, if only a prefix of the items was yielded
+  -- The lists of the sources of items, if only a prefix of the items was yielded.
   pub joined_items : (whole : Bool) (all xs : List A) (yss : List (List B)) → All GivesOwnList all
       → IsPrefix whole all xs → ReadsEach reads whole (map source xs) yss
       → IsPrefix whole (flat_map lists all) (concat yss)
@@ -274,7 +274,7 @@ module _ {A U B : Type 0} (reads : Bool → U → List B → Type 0) (source : A
       joined_prefixes reads lists whole all xs (map source xs) yss f
       (own_lists xs (all_prefix GivesOwnList xs f.0 (subst (All GivesOwnList) f.1 gives))) h
 
--- the lists of sources that are themselves the items, if only a prefix was yielded
+-- The lists of sources that are themselves the items, if only a prefix was yielded.
 pub joined_sources : {U B : Type 0} (reads : Bool → U → List B → Type 0) (lists : U → List B)
     (whole : Bool) (all us : List U) (yss : List (List B))
     → All (λ u. ReadsList reads u (lists u)) all → IsPrefix whole all us
@@ -283,7 +283,7 @@ joined_sources reads lists whole all us yss gives f h =
     joined_items reads (λ u. u) lists whole all us yss gives f
     (subst (λ l. ReadsEach reads whole l yss) (sym (map-id us)) h)
 
--- each source paired with itself
+-- Each source paired with itself.
 pub each_gives : {U A : Type 0} (reads : Bool → U → List A → Type 0) (inner : U → List A)
     → ((u : U) → ReadsList reads u (inner u)) → (us : List U)
     → AllZip (λ v u. ReadsList reads u (inner v)) us us
@@ -303,7 +303,7 @@ flatten_list {reads = reads} gives inner us each list whole zs read =
     (list whole parts.sources parts.read) (each_gives reads inner each parts.sources)
     parts.read_each)
 
--- the lists of inner sources, one after another
+-- The lists of inner sources, one after another.
 module _ {U W V S R T B X Y : Type 0} {becomes : U → S → Type 0} {meets : W → R → Type 0}
     {other : R → Option B → R → Type 0} {made : V → T → Type 0} {next : T → Option B → T → Type 0}
     {makes : W → X → Type 0} {made' : X → Y → Type 0} {next' : Y → Option B → Y → Type 0}

@@ -24,7 +24,7 @@ use Rattle.ne_iter.proofs.Groupings.{division_of_none, held_is_not_over, unread_
 
 module _ {S K A F : Type 0} (steps : S → Option A → S → Type 0)
     (key_calls : Mut F (Bor A × Unit {0}) K) (eq : K → K → Bool) where
-  -- a grouping that is over returns only `None`
+  -- a grouping that is over returns only `None`.
   none_ever_after : (g h : Grouping S K A F) (results : List (Option (Result (List A) AllocError)))
       → IsOver g → FoldsTo (GivesRun steps key_calls eq) g results h
       → IsOver h × AllByRecursion (λ a. a ≡ None) results
@@ -93,7 +93,7 @@ module _ {S K A F : Type 0} (steps : S → Option A → S → Type 0)
         );
       }
 
-  -- the runs that were returned
+  -- The runs that were returned.
   pub read_on : (s : S) (f : F) (done rs : List (List A)) (g h : Grouping S K A F)
       → HasRead steps key_calls eq s f done g → Yields (GivesRun steps key_calls eq) g (map Ok rs) h
       → HasRead steps key_calls eq s f (done ++ rs) h
@@ -103,7 +103,7 @@ module _ {S K A F : Type 0} (steps : S → Option A → S → Type 0)
       (append_assoc done (run ∷ []) rs) (read_on s f (done ++ run ∷ []) rs calls.0 h
       (calls.1.reads s f done read) calls.2)
 
-  -- and the `Err` returned after them, if there is one: k is the grouping before the `Err`
+  -- And the `Err` returned after them, if there is one: k is the grouping before the `Err`.
   abbrev pub Came : S → F → List (List A) → List (Result (List A) AllocError) → Type 0
   Came s f done xs = (rs : List (List A)) × ((xs ≡ map Ok rs)
       ⊎ ((e : AllocError) × (xs ≡ map Ok rs ++ Err e ∷ []) × (k : Grouping S K A F)
@@ -200,7 +200,7 @@ module _ {S K A F : Type 0} (steps : S → Option A → S → Type 0)
     read_has_runs whole rs h read over = has_runs h.state whole rs read.drawn read.runs h.closure
         h.source read.stands read.returned read.called over
 
-    -- the runs that were returned, if the calls ended, and before an `Err`
+    -- The runs that were returned, if the calls ended, and before an `Err`.
     pub given_runs : (whole : Bool) (rs : List (List A)) (g h : Grouping S K A F)
         → HasRead steps key_calls eq s f [] g → Yields (GivesRun steps key_calls eq) g (map Ok rs) h
         → (whole ≡ true → (u : Grouping S K A F) × GivesRun steps key_calls eq h None u)
@@ -221,13 +221,13 @@ module _ {S K A F : Type 0} (steps : S → Option A → S → Type 0)
       inr (e, is, read_has_runs false rs k read (λ w. cc)),
     )
 
-  -- a grouping that `into_iter` makes has returned no run
+  -- a grouping that `into_iter` makes has returned no run.
   pub begun : (it : Grouping S K A F) (f : F) → it.closure ≡ f → it.state ≡ Unread
       → HasRead steps key_calls eq it.source f [] it
   begun it f same unread = subst (λ q. HasRead steps key_calls eq it.source q [] it) same
       (fresh_grouping steps key_calls eq it unread)
 
-  -- the runs returned to the end are the runs by a function, if the closure acts as the function
+  -- The runs returned to the end are the runs by a function, if the closure acts as the function.
   pub runs_grouped : (g : Grouping S K A F) → g.state ≡ Unread
       → ((eq : K → K → Bool) (h : A → K) (ps : List (A × K)) (rs : List (List A)) (f : F)
       → ActsAsAt key_calls g.closure h → CallsEachAt key_calls g.closure ps f

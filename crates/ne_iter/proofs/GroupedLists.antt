@@ -17,7 +17,7 @@ use Rattle.ne_iter.specs.Sources.{Reads, ReadsListThrough}
 use Rattle.ne_iter.specs.LoopLaws.{reads_through}
 use Rattle.ne_iter.proofs.SourceLists.{read_through}
 
--- whether an item continues a run does not depend on the view
+-- Whether an item continues a run does not depend on the view.
 alike : {A C K : Type 0} (eq : K → K → Bool) (h : C → K) (view : A → C) (r : List A) (x : A)
     → by_first (λ a b. eq (h a) (h b)) (map view r) (view x)
     ≡ by_first (λ a b. eq (h (view a)) (h (view b))) r x
@@ -46,7 +46,7 @@ module _ {U S A K : Type 0} (becomes : U → S → Type 0) (steps : S → Option
       (record { it = s; made = made_of; given = run_drains steps q s from }))
       (divided_through eq h view q.items rs divided)
 
-  -- `source_of` and `closure_of` are the source and the closure of a value that becomes a grouping
+  -- `source_of` and `closure_of` are the source and the closure of a value that becomes a grouping.
   module _ {F V : Type 0} (calls : Mut F (Bor A × Unit {0}) K) (source_of : V → U)
       (closure_of : V → F) (v : V) (f : F) (same_source : source_of v ≡ u)
       (same_closure : closure_of v ≡ f) where

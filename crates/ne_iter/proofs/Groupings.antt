@@ -19,7 +19,7 @@ pub one_more_is_some : {A : Type 0} (xs : List A) (y : A) → xs ++ y ∷ [] ≢
 one_more_is_some [] y = λ e. cc
 one_more_is_some (x ∷ xs) y = λ e. cc
 
--- one item is one run
+-- One item is one run.
 no_later : {A : Type 0} (goes_on : List A → A → Bool) (p : A) (prefix : List A) (x : A)
     (back : List A) → prefix ≢ [] → p ∷ [] ≡ prefix ++ x ∷ back → goes_on prefix x ≡ true
 no_later goes_on p [] x back some e = absurd (some refl)
@@ -39,7 +39,7 @@ division_of_none goes_on = record { whole = refl; runs = tt; breaks = tt }
 
 module _ {S K A F : Type 0} (steps : S → Option A → S → Type 0) (calls : Mut F (Bor A × Unit {0}) K)
     (eq : K → K → Bool) where
-  -- the runs that were returned, and one that was begun and has not ended yet
+  -- The runs that were returned, and one that was begun and has not ended yet.
   pub record OpenRun (s : S) (f : F) (rs : List (List A)) (t : S) (g : F) (k : K)
       (run : List A) : Type 0 where
     pub drawn : List (A × K)
@@ -91,7 +91,7 @@ module _ {S K A F : Type 0} (steps : S → Option A → S → Type 0) (calls : M
           is = refl;
         }
 
-    -- the items taken, and one more
+    -- The items taken, and one more.
     drawn_more : (drawn : List (A × K)) (t : S) (x : A) (k : K) (t' : S)
         → Yields steps s (items_of drawn) t → steps t (Some x) t'
         → Yields steps s (items_of (drawn ++ (x, k) ∷ [])) t'
@@ -127,7 +127,7 @@ module _ {S K A F : Type 0} (steps : S → Option A → S → Type 0) (calls : M
         ∙ (ap (λ r. map items_of runs ++ r ∷ []) is
         ∙ sym (map-append items_of runs (((first, k) ∷ later) ∷ [])))
 
-    -- the run is returned: the item after it is held, or the source has ended
+    -- The run is returned: the item after it is held, or the source has ended.
     pub close_held : (t : S) (g : F) (k : K) (run : List A) (x : A) (k' : K) (h : Grouping S K A F)
         → ((xs : List (A × K)) (p : A × K) (runs : List (List (A × K))) (last : List (A × K))
         → IsDivision (by_first (same_key eq)) xs (runs ++ last ∷ [])

@@ -22,26 +22,26 @@ use Rattle.ne_iter.proofs.Cloned.{only_ok}
 
 module _ {S A E : Type 0} (steps : S → Option A → S → Type 0) (tries : A → Result A E → Type 0)
     (separator : A) where
-  -- zs were yielded since x was held, and xs are the items after x
+  -- zs were yielded since x was held, and xs are the items after x.
   abbrev Behind : Bool → A → S → List (Result A E) → Type 0
   Behind whole x s zs = (xs : List A) × (more : List (Result A E))
       × DrainsIf steps ((whole && list_all is_ok zs) ≡ true) s xs
       × Interspersed (tries separator) (x ∷ xs) (zs ++ more) × (whole ≡ true → more ≡ [])
 
-  -- no clone has failed, and o is held
+  -- No clone has failed, and o is held.
   abbrev Stands : RawIntersperse S A → Option A → Type 0
   Stands s o = (in_hand s ≡ o) × (is_over s ≡ false) × (clones_of s ≡ separator)
 
   abbrev Next : RawIntersperse S A → Option (Result A E) → RawIntersperse S A → Type 0
   Next = InterspersesNext steps tries
 
-  -- the item held is returned
+  -- The item held is returned.
   gave : (s t : RawIntersperse S A) (x : A) (r : Option (Result A E)) → Stands s (Some x)
       → Next s r t → (r ≡ Some (Ok x)) × (drawn_from t ≡ drawn_from s) × Stands t None
   gave s t x r at st = let h = MatchOption-at_some _ _ x at.0 (MatchBool-at_false _ _ at.1 st.1) in
       (h.returns, h.draws_none, (h.in_hand_then, h.is_on, st.0 ∙ at.2))
 
-  -- no item was held
+  -- No item was held.
   drew : (s t : RawIntersperse S A) (r : Option (Result A E)) → Stands s None → Next s r t
       → DrawsNext steps tries s r t
   drew s t r at st = MatchOption-at_none _ _ at.0 (MatchBool-at_false _ _ at.1 st.1)
@@ -51,7 +51,7 @@ module _ {S A E : Type 0} (steps : S → Option A → S → Type 0) (tries : A �
   no_item s t (None, st, h) = st
   no_item s t (Some x, st, h) = absurd h
 
-  -- the result of cloning the separator is returned, and y is the item after it
+  -- The result of cloning the separator is returned, and y is the item after it.
   abbrev Came : RawIntersperse S A → Result A E → RawIntersperse S A → A → Type 0
   Came s c t y = steps (drawn_from s) (Some y) (drawn_from t) × tries (clones_of s) c
       × MatchResult c (λ _. (in_hand t ≡ Some y) × (is_over t ≡ false)) (λ _. is_over t ≡ true)
@@ -61,7 +61,7 @@ module _ {S A E : Type 0} (steps : S → Option A → S → Type 0) (tries : A �
   an_item s t c (None, st, h) = absurd (none-some c (sym h.0))
   an_item s t c (Some y, st, h) = (y, (st, h.0, h.1))
 
-  -- after a failed clone nothing is yielded
+  -- After a failed clone nothing is yielded.
   silent : (W : Type 0) (s : RawIntersperse S A) (zs : List (Result A E)) → is_over s ≡ true
       → DrainsIf Next W s zs → zs ≡ []
   silent W s [] over run = refl
@@ -183,7 +183,7 @@ module _ {A : Type 0} (E : Type 0) where
 
 module _ {A E : Type 0} (clones : A → A → Type 0) (infallible : A → Type 0) (s : A)
     (sure : infallible s) (same : (y z : A) → clones y z → z ≡ y) where
-  -- the items yielded are the list with separators
+  -- The items yielded are the list with separators.
   all_yielded : (xs : List A) (zs : List (Result A E))
       → Interspersed (TriesClone clones infallible s) xs zs
       → zs ≡ map Ok (interspersed s xs)
@@ -252,7 +252,7 @@ module _ {T E : Type 0} (came : Result T E → Type 0) (s : T)
       let whole = h.3 in
       cc
 
-  -- the items yielded so far are a prefix of the whole list
+  -- The items yielded so far are a prefix of the whole list.
   pub spaced_prefix : (whole : Bool) (xs us : List T) (more zs : List (Result T E))
       → Interspersed came us (zs ++ more) → (whole ≡ true → more ≡ [])
       → IsPrefix (whole && list_all is_ok zs) xs us

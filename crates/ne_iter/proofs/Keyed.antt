@@ -9,7 +9,7 @@ use Rattle.std.specs.List.{FoldsTo}
 use Rattle.ne_iter.specs.Consumers.{KeepsBetter}
 use Rattle.ne_iter.specs.Calls.{Calls, CallsEachAt}
 
--- an item with its key, from the key with its item
+-- An item with its key, from the key with its item.
 abbrev pub keyed : {A B : Type 0} → B × A → A × B
 keyed p = (p.1, p.0)
 
@@ -19,7 +19,7 @@ module _ {A B F G : Type 0} (key_calls : Mut F (Bor A × Unit {0}) B)
     (pairs : Mut G (A × Unit {0}) (B × A)) (key_of : G → F)
     (each : (f : G) (x : A) (p : B × A) (g : G) → Called pairs f (x, tt) p g
     → (x ≡ p.1) × CalledAt key_calls (key_of f) x p.0 (key_of g)) where
-  -- the pairs are made of the items that were yielded and the keys returned for them
+  -- The pairs are made of the items that were yielded and the keys returned for them.
   pub CallsEachAt-pairs : (f : G) (xs : List A) (ps : List (B × A)) (g : G) → Calls pairs f xs ps g
       → (xs ≡ map (λ p. p.0) (map keyed ps))
       × CallsEachAt key_calls (key_of f) (map keyed ps) (key_of g)
@@ -39,7 +39,7 @@ module _ {A B F G : Type 0} (key_calls : Mut F (Bor A × Unit {0}) B)
   called_each f (x ∷ xs) g (h, one, rest) =
       (key_of h, (one.0.0, (each f x one.0 h one.1).1), called_each h xs g rest)
 
-  -- the closure that makes pairs may be called with each item whose key may be computed
+  -- The closure that makes pairs may be called with each item whose key may be computed.
   pub CallableOnAll-pairs : ((f : G) (x : A)
       → TakesAt key_calls (key_of f) x → Takes pairs f (x, tt))
       → {S : Type 0} (steps : S → Option A → S → Type 0) (it : S) (f : G)
@@ -54,7 +54,7 @@ keyed_cond : {A B : Type 0} (t : Bool) (p q : B × A)
 keyed_cond true p q = refl
 keyed_cond false p q = refl
 
--- if each call of f on two pairs is a call of h on their keys, the same items are kept
+-- If each call of f on two pairs is a call of h on their keys, the same items are kept.
 pub KeepsBetter-keyed : {A B F H : Type 0}
     (calls : Shared F (Bor (B × A) × (Bor (B × A) × Unit {0})) Bool) (f : F)
     (through : Shared H (Bor B × (Bor B × Unit {0})) Bool) (h : H)

@@ -22,7 +22,7 @@ use Rattle.ne_iter.proofs.FunctionCalls.{values_at}
 use Rattle.ne_iter.proofs.SourceLists.{each_view, read_through}
 use Rattle.ne_iter.proofs.Traced.{unbeaten_at, whole_run_of}
 
--- if no call changes f, each call was a call of f itself
+-- If no call changes f, each call was a call of f itself.
 called_at : {A B F : Type 0} (calls : Mut F (Bor A × Unit {0}) B) (f : F)
     → CallKeepsClosure calls f → (ps : List (A × B)) (g : F) → CallsEachAt calls f ps g
     → (i : ℕ) (p : A × B) → slice_get ps i ≡ Some p → CalledAt calls f p.0 p.1 f
@@ -44,7 +44,7 @@ module _ {A B F : Type 0} (calls : Mut F (Bor A × Unit {0}) B) (f : F) (beats :
   place : ℕ
   place = is.2.0
 
-  -- the item at its place, and its key
+  -- The item at its place, and its key.
   here : {C : Type 0} (h : A × B → C) → slice_get (map h ps) place ≡ Some (h (m, k))
   unfolding place
   here h = slice_get-map h ps place ∙ ap (option_map h) is.2.1
@@ -57,7 +57,7 @@ module _ {A B F : Type 0} (calls : Mut F (Bor A × Unit {0}) B) (f : F) (beats :
     at_best = slice_get-map view.of (items_of ps) place ∙ ap (option_map view.of) (here (λ p. p.0))
 
     module _ (h : view.Target → B) (acts : ActsAsAt calls f (λ x. h (view.of x))) where
-      -- the keys are the values of the function
+      -- The keys are the values of the function.
       keys_are : map (λ p. p.1) ps ≡ map h zs
       keys_are = ap (map (λ p. p.1)) (values_at calls f (λ x. h (view.of x)) ps g acts calls_made).0
           ∙ map-map (λ p. p.1) (λ x. (x, h (view.of x))) (items_of ps)
@@ -67,7 +67,7 @@ module _ {A B F : Type 0} (calls : Mut F (Bor A × Unit {0}) B) (f : F) (beats :
       best_key = same_Some _ _ (sym (here (λ p. p.1)) ∙ ap (λ l. slice_get l place) keys_are
           ∙ slice_get-map h zs place ∙ ap (option_map h) at_best)
 
-      -- what relates the best key to keys relates its function's value to the same
+      -- What relates the best key to keys relates its function's value to the same.
       related : (R : B → B → Type 0) (ks js : List B) → ks ≡ js → All (R k) ks
           → All (R (h (view.of m))) js
       related R ks js same all =
@@ -100,7 +100,7 @@ module _ {A B F : Type 0} (calls : Mut F (Bor A × Unit {0}) B) (f : F) (beats :
           ),
         )
 
-  -- what holds for the list of each view
+  -- What holds for the list of each view.
   pub has_best_key : {U S : Type 0} (becomes : U → S → Type 0) (steps : S → Option A → S → Type 0)
       (u : U) (view : View A) → Reads becomes steps true u (items_of ps)
       → EachView view (λ view. Lists becomes steps view.of) u (λ view xs.
@@ -120,7 +120,7 @@ module _ {A B F : Type 0} (calls : Mut F (Bor A × Unit {0}) B) (f : F) (beats :
     unbeaten_at (λ p q. beats p.1 q.1) ps (m, k) best.0 best.1 best.2 i (Some p) here,
   )
 
-  -- the item is in a run that yielded the items, and no key there beats its key
+  -- The item is in a run that yielded the items, and no key there beats its key.
   pub best_key_run_of : {U S : Type 0} {becomes : U → S → Type 0}
       {steps : S → Option A → S → Type 0} {u : U} → Reads becomes steps true u (items_of ps)
       → RunsWhole becomes steps u (λ p. AnyItem p (λ x. x ≡ m) × NoKeyBeats p calls f beats m)

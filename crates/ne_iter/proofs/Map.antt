@@ -73,7 +73,7 @@ module _ {U V A S T : Type 0} {becomes : U → S → Type 0} {steps : S → Opti
           read_lists made next v (map h xs) (map_view gives view.of h xs acts known),
         ))
 
--- the values returned, through `out`, are those of h
+-- The values returned, through `out`, are those of h.
 pub values_through : {F A B W : Type 0} (calls : Mut F (A × Unit {0}) B) (f : F) (out : B → W)
     (h : A → W) (xs : List A) (ys : List B) (p g : F) → ActsThrough calls f out h → p ≡ f
     → Calls calls p xs ys g → map out ys ≡ map h xs
@@ -85,7 +85,7 @@ values_through calls f out h (x ∷ xs) (y ∷ ys) p g acts same (q, call, rest)
     let more = values_through calls f out h xs ys q g acts one.0 rest in
     let a = one.1 in cc
 
--- lists with the same values at the same places give the same texts, one after another
+-- Lists with the same values at the same places give the same texts, one after another.
 spread_alike : {A B : Type 0} (before : List ℕ → List ℕ) (f : A → List ℕ) (g : B → List ℕ)
     (xs : List A) (ys : List B) → map f xs ≡ map g ys
     → flat_map (λ x. before (f x)) xs ≡ flat_map (λ y. before (g y)) ys

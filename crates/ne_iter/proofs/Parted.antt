@@ -20,7 +20,7 @@ use Rattle.ne_iter.proofs.Filter.{map_of_filter}
 use Rattle.ne_iter.proofs.FunctionCalls.{values_at}
 use Rattle.std.proofs.lemmas.Bool.{OnFalse_from}
 
--- the items whose results pass `on`
+-- The items whose results pass `on`.
 abbrev those : {A : Type 0} → (Bool → Bool) → List (A × Bool) → List A
 those on ts = items_of (filter (λ t. on t.1) ts)
 
@@ -34,7 +34,7 @@ those-push {A} on ts x b =
     by true = map-append (λ (t : A × Bool). t.0) (filter (λ t. on t.1) ts) ((x, b) ∷ [])
     by false = ap items_of (append-nil (filter (λ t. on t.1) ts))
 
--- if the results are those of a test
+-- If the results are those of a test.
 those-tested : {A : Type 0} (on : Bool → Bool) (test : A → Bool) (us : List A)
     → those on (map (λ x. (x, test x)) us) ≡ filter (λ x. on (test x)) us
 those-tested on test [] = refl

@@ -15,12 +15,12 @@ module _ {T V : Type 0} (collected : List T → V → Type 0) (v : V) (xs ys : L
   prefix_made true f h = subst (λ l. collected l v) (whole_prefix xs ys f) h
   prefix_made false f h = (ys, f.0, f.1, h)
 
-  -- a prefix of the items made v; if v is complete, all items made v
+  -- a prefix of the items made v; if v is complete, all items made v.
   pub prefix_makes : (is_complete : V → Bool) → IsPrefix (is_complete v) xs ys → collected ys v
       → PrefixMakes collected is_complete xs v
   prefix_makes is_complete f h = prefix_made (is_complete v) f h
 
--- the items that came, and then those of `taken`
+-- The items that came, and then those of `taken`.
 pub more_items : {A : Type 0} (begun yielded taken held after : List A) → after ≡ held ++ taken
     → held ≡ begun ++ yielded → after ≡ begun ++ (yielded ++ taken)
 more_items begun yielded taken held after added same =
@@ -37,14 +37,14 @@ module _ {T E : Type 0} where
   first_err (v ∷ vs) e more =
       ap (result_map_both (λ xs. v ∷ xs) (λ e. e)) (first_err vs e more)
 
-  -- an `Err` after values is the first one, whatever items follow it
+  -- An `Err` after values is the first one, whatever items follow it.
   pub first_err_at : (items : List (Result T E)) (values : List T) (e : E)
       → items ≡ map Ok values ++ Err e ∷ [] → (more : List (Result T E))
       → values_or_first_err (items ++ more) ≡ Err e
   first_err_at items values e is more =
       ap (λ l. values_or_first_err (l ++ more)) is ∙ first_err values e more
 
-  -- one value more
+  -- One value more.
   pub one_more : (begun yielded : List (Result T E)) (item : Result T E) (value : T)
       (values after : List T) → item ≡ Ok value → after ≡ values ++ value ∷ []
       → map Ok values ≡ begun ++ yielded → map Ok after ≡ begun ++ (yielded ++ item ∷ [])
@@ -52,21 +52,21 @@ module _ {T E : Type 0} where
       more_items begun yielded (item ∷ []) (map Ok values) (map Ok after) (ap (map Ok) added
       ∙ map-append Ok values (value ∷ []) ∙ ap (λ r. map Ok values ++ r ∷ []) (sym is)) same
 
-  -- the values so far are those of the items so far, the first one among them
+  -- The values so far are those of the items so far, the first one among them.
   pub are_values : (first : Result T E) (value : T) (empty begun values : List T)
       (yielded : List (Result T E)) → first ≡ Ok value → empty ≡ [] → begun ≡ empty ++ value ∷ []
       → map Ok values ≡ map Ok begun ++ yielded → first ∷ yielded ≡ map Ok values
   are_values first value empty begun values yielded is none one same = ap (λ r. r ∷ yielded) is
       ∙ sym (same ∙ ap (λ l. map Ok l ++ yielded) (one ∙ ap (λ l. l ++ value ∷ []) none))
 
-  -- items that are values, the first one among them
+  -- Items that are values, the first one among them.
   pub some_value : (first : Result T E) (yielded : List (Result T E)) (values : List T)
       → first ∷ yielded ≡ map Ok values → 0 < length values
   some_value first yielded values are =
       let long : length (map {B = Result T E} Ok values) ≡ length values = length-map values _ in
       omega (arith, ap length are, long)
 
-  -- the values so far, if an `Err` was yielded after them
+  -- The values so far, if an `Err` was yielded after them.
   pub up_to_err : (items : List (Result T E)) (item : Result T E) (e : E) (values : List T)
       → item ≡ Err e → items ≡ map Ok values → items ++ item ∷ [] ≡ map Ok values ++ Err e ∷ []
   up_to_err items item e values is same = ap (λ r. items ++ r ∷ []) is

@@ -27,7 +27,7 @@ module _ {S A : Type 0} (steps : S → Option A → S → Type 0) where
   none_passed [] s u r l y = subst (λ q. steps q r u) (sym y.1) y.2
   none_passed (x ∷ xs) s u r l y = absurd (omega arith)
 
-  -- if nothing is left to skip, the result is the source's
+  -- If nothing is left to skip, the result is the source's.
   DrainsIf-skip_none : {W : Type 0} (s : Skip S) (xs : List A) → skip_count s ≡ 0
       → DrainsIf (skip_steps steps) W s xs → DrainsIf steps W (skip_source s) xs
   DrainsIf-skip_none s [] e k = (
@@ -97,7 +97,7 @@ module _ {S A : Type 0} (steps : S → Option A → S → Type 0) where
 
 module _ {S A F : Type 0} (steps : S → Option A → S → Type 0)
     (calls : Mut F (Bor A × Unit {0}) Bool) where
-  -- once an item has failed, the result is the source's
+  -- Once an item has failed, the result is the source's.
   DrainsIf-skip_while_begun : {W : Type 0} (s : SkipWhile S F) (xs : List A)
       → skip_while_done_skipping s ≡ true → DrainsIf (skip_while_steps steps calls) W s xs
       → DrainsIf steps W (skip_while_source s) xs
@@ -184,12 +184,12 @@ drop_prefix (suc n) whole [] more ended = (
 )
 drop_prefix (suc n) whole (u ∷ us) more ended = drop_prefix n whole us more ended
 
--- the first of ys, if there is one, doesn't pass
+-- The first of ys, if there is one, doesn't pass.
 abbrev pub FailsTest : {A : Type 0} → (A → Bool) → List A → Type 0
 FailsTest test [] = ⊤
 FailsTest test (y ∷ ys) = test y ≡ false
 
--- a first item for which the test may return false doesn't pass
+-- a first item for which the test may return false doesn't pass.
 fails_test : {F A : Type 0} (calls : Mut F (Bor A × Unit {0}) Bool) (f : F) (test : A → Bool)
     (ys : List A) → ActsAsAt calls f test → FailsFirst calls f ys → FailsTest test ys
 fails_test calls f test [] acts h = tt
@@ -202,14 +202,14 @@ module _ {A : Type 0} (test : A → Bool) where
       let one : 1 + prefix_len test l ≡ suc (prefix_len test l) = omega arith in
       ap (λ b. cond b (1 + prefix_len test l) 0) e ∙ one
 
-  -- items that pass are skipped
+  -- Items that pass are skipped.
   drop_passed : (us l : List A) → AllByRecursion (λ x. test x ≡ true) us
       → drop (prefix_len test (us ++ l)) (us ++ l) ≡ drop (prefix_len test l) l
   drop_passed [] l h = refl
   drop_passed (u ∷ us) l h =
       ap (λ n. drop n (u ∷ (us ++ l))) (prefix_pass u (us ++ l) h.0) ∙ drop_passed us l h.1
 
-  -- up to the first item that doesn't pass, if it was yielded
+  -- Up to the first item that doesn't pass, if it was yielded.
   pub drop_passed_prefix : (whole : Bool) (xs us ys : List A)
       → AllByRecursion (λ x. test x ≡ true) us → FailsTest test ys
       → IsPrefix whole xs (us ++ ys) → IsPrefix whole (drop (prefix_len test xs) xs) ys

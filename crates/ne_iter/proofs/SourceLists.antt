@@ -19,7 +19,7 @@ use Rattle.ne_iter.specs.LoopLaws.{lists_read, reads_through, whole_prefix}
 use Rattle.ne_iter.specs.Sources.{ReadsList, ReadsListThrough, Reads, SameLists}
 use Rattle.ne_iter.specs.SourceLists.{BecomesList, MeetsList, EachKept, StdYields}
 
--- a list that has the items of xs at its places, and is no longer, is a prefix of xs
+-- a list that has the items of xs at its places, and is no longer, is a prefix of xs.
 begins : {A : Type 0} (us xs : List A) → length us ≤ length xs
     → ((k : ℕ) (d : A) → k < length us → slice_index_or us k d ≡ slice_index_or xs k d)
     → (more : List A) × (xs ≡ us ++ more) × (length us ≡ length xs → more ≡ [])
@@ -40,7 +40,7 @@ prefix_of whole xs us within ends places =
     same_Some _ _ (sym (ap (option_map (λ y. y)) (slice_get-get_or us k d l)) ∙ places k d l)) in
     (b.0, b.1, λ w. b.2 (ends w))
 
--- a list whose items, through `view`, are those of xs at the same places is a prefix of xs
+-- a list whose items, through `view`, are those of xs at the same places is a prefix of xs.
 pub viewed_prefix_of : {A B : Type 0} (view : A → B) (whole : Bool) (xs : List B) (us : List A)
     → length us ≤ length xs → (whole ≡ true → length us ≡ length xs)
     → ((k : ℕ) (d : B) → k < length us
@@ -53,7 +53,7 @@ viewed_prefix_of view whole xs us within ends places =
     (λ k d less. option_map_id (slice_get (map view us) k) ∙ slice_get-map view us k
     ∙ places k d (subst (λ n. k < n) long less))
 
--- a list through the view `itself`
+-- a list through the view `itself`.
 module _ {U A : Type 0} (reads : Bool → U → List A → Type 0) (u : U) (xs : List A) where
   pub as_items : ReadsListThrough reads (λ x. x) u xs → ReadsList reads u xs
   as_items list whole ys read = subst (IsPrefix whole xs) (map-id ys) (list whole ys read)
@@ -72,7 +72,7 @@ module _ {U S A : Type 0} (becomes : U → S → Type 0) (steps : S → Option A
       through_reads list = yields_through becomes steps u view xs (λ it made whole ys given.
           list whole ys (record { it = it; made = made; given = given }))
 
-    -- what holds for the items that were read to the end holds for the list through a view
+    -- What holds for the items that were read to the end holds for the list through a view.
     pub read_through : {B : Type 0} (view : A → B) (xs : List B)
         → ReadsListThrough (Reads becomes steps) view u xs → (P : List B → Type 0) (ys : List A)
         → Reads becomes steps true u ys → P (map view ys)
@@ -80,7 +80,7 @@ module _ {U S A : Type 0} (becomes : U → S → Type 0) (steps : S → Option A
     read_through view xs known P ys read =
         subst P (whole_prefix xs (map view ys) (known true ys read))
 
-    -- a clause of the iterator itself, place by place
+    -- a clause of the iterator itself, place by place.
     pub meets_read : (view : View A) (xs : List view.Target) → MeetsList becomes steps view u xs
         → ReadsListThrough (Reads becomes steps) view.of u xs
     meets_read view xs meets whole ys read =
@@ -89,7 +89,7 @@ module _ {U S A : Type 0} (becomes : U → S → Type 0) (steps : S → Option A
         viewed_prefix_of view.of whole xs ys f.0 f.1 f.2
 
     module _ (xs : List A) (lists : Lists becomes steps (λ x. x) u xs) (P : List A → Type 0) where
-      -- what holds for a list that was read to its end holds for the list that is yielded
+      -- What holds for a list that was read to its end holds for the list that is yielded.
       pub of_read : (ys : List A) → Reads becomes steps true u ys → P ys → P xs
       of_read ys read =
           subst P (whole_prefix xs ys (lists_read becomes steps u xs lists true ys read))
@@ -105,7 +105,7 @@ module _ {U S A : Type 0} (becomes : U → S → Type 0) (steps : S → Option A
           (run_drains steps p it from) in
           subst P (sym (f.1 ∙ ap (λ l. p.items ++ l) (f.2 whole) ∙ append-nil p.items))
 
--- a value that becomes a source may read each list that the source may read
+-- a value that becomes a source may read each list that the source may read.
 module _ {W R V T A : Type 0} (meets : W → R → Type 0) (other : R → Option A → R → Type 0)
     (makes : W → V → Type 0) (becomes : V → T → Type 0) (steps : T → Option A → T → Type 0)
     (same : SameLists meets other makes becomes steps) (w : W) where
@@ -116,7 +116,7 @@ module _ {W R V T A : Type 0} (meets : W → R → Type 0) (other : R → Option
       let there = (same w whole ys).0 read in
       reads_through becomes steps there.0 view.of xs (shows there.0 there.1) whole ys there.2
 
--- what holds for each view holds for the items themselves, and through the view of the source
+-- What holds for each view holds for the items themselves, and through the view of the source.
 pub each_view : {U S A : Type 0} {becomes : U → S → Type 0} {steps : S → Option A → S → Type 0}
     {u : U} (P : (view : View A) → List view.Target → Type 0) (view : View A)
     → ((view : View A) (xs : List view.Target) → ReadsListThrough (Reads becomes steps) view.of u xs
@@ -127,7 +127,7 @@ each_view {becomes = becomes} {steps = steps} {u = u} P view law = (
       (triggered u xs, law view xs (reads_through becomes steps u view.of xs known))),
 )
 
--- an iterator of std, which becomes itself: the items that its runs yield
+-- An iterator of std, which becomes itself: the items that its runs yield.
 pub yields_prefixes : {T B : Type 0} {next : T → Option B → T → Type 0} (v : T) (ys : List B)
     → ReadsList (Reads (λ s it. it ≡ s) next) v ys → YieldsPrefixes next ys v
 yields_prefixes v ys list = (read_lists _ _ v ys list).1 v refl
@@ -141,7 +141,7 @@ std_yields {next = next} view v ys list p seen from =
     let l = lists p view.of ys prefix.0 (λ w. ap length (prefix.2 w)) prefix.1 in
     (l.4, (l.0, l.1, l.6, l.7))
 
--- what holds for each view, if the result is an iterator of std
+-- What holds for each view, if the result is an iterator of std.
 pub each_kept : {U S T A : Type 0} {becomes : U → S → Type 0} {steps : S → Option A → S → Type 0}
     {u : U} (next : T → Option A → T → Type 0) (it : T)
     (P : (view : View A) → List view.Target → (List view.Target → Type 0) → Type 0) (view : View A)
@@ -167,7 +167,7 @@ each_kept {becomes = becomes} {steps = steps} {u = u} next it P view law = (
 
 module _ {U S A : Type 0} (becomes : U → S → Type 0) (steps : S → Option A → S → Type 0)
     (u : U) (xs : List A) (list : ReadsList (Reads becomes steps) u xs) where
-  -- the iterator `it` returned x, and became `rest`
+  -- The iterator `it` returned x, and became `rest`.
   pub begins_list : (it rest : S) (x : A) → becomes u it → steps it (Some x) rest
       → (xs ≡ x ∷ drop 1 xs) × YieldsPrefixes steps (drop 1 xs) rest
   begins_list it rest x made step = (first.1 ∙ sym (ap (λ l. x ∷ drop 1 l) first.1), others)

@@ -21,7 +21,7 @@ use Rattle.ne_iter.proofs.FunctionCalls.{same_results_at}
 
 module _ {S A F : Type 0} (steps : S → Option A → S → Type 0)
     (calls : Mut F (Bor A × Unit {0}) Bool) where
-  -- the facts about a call that took o
+  -- The facts about a call that took o.
   abbrev Tested : TakeWhile S F → Option A → TakeWhile S F → Option A → Type 0
   Tested s r t o = MatchOption o ((r ≡ None) × (take_while_done t ≡ false))
       (λ x. (b : Bool) × CalledAt calls (take_while_callee s) x b (take_while_callee t)
@@ -59,7 +59,7 @@ module _ {S A F : Type 0} (steps : S → Option A → S → Type 0)
     ),
   )
 
-  -- after an item x that passed
+  -- After an item x that passed.
   taken_behind : (whole : Bool) (x : A) (xs : List A) (s t : S) (f g : F) → steps s (Some x) t
       → CalledAt calls f x true g → Taken whole t g xs → Taken whole s f (x ∷ xs)
   taken_behind whole x xs s t f g st c (h, a, inl k) = (h, (g, c, a), inl (k.0, (t, st, k.1), k.2))
@@ -149,7 +149,7 @@ module _ {A : Type 0} (test : A → Bool) where
     λ w. ap (take_while test) (f.2 w),
   )
 
-  -- an item x was yielded that doesn't pass
+  -- An item x was yielded that doesn't pass.
   pub take_passed_stopped : (whole : Bool) (xs us : List A) (x : A)
       → AllByRecursion (λ x. test x ≡ true) us → test x ≡ false
       → IsPrefix false xs (us ++ x ∷ []) → IsPrefix whole (take_while test xs) us
@@ -167,7 +167,7 @@ module _ {A B : Type 0} (view : A → B) where
   all_map test [] h = tt
   all_map test (u ∷ us) h = (h.0, all_map test us h.1)
 
--- the source has ended, or an item was yielded that doesn't pass
+-- The source has ended, or an item was yielded that doesn't pass.
 stopped : {U A B F : Type 0} (reads : Bool → U → List A → Type 0)
     (calls : Mut F (Bor A × Unit {0}) Bool) (f q : F) (view : A → B) (test : B → Bool) (u : U)
     (xs : List B) (us : List A) (whole : Bool) → ActsAsAt calls f (λ x. test (view x)) → q ≡ f

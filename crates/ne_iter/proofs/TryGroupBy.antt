@@ -11,7 +11,7 @@ use Rattle.ne_iter.specs.RunsBy.{CallableAfter}
 use Rattle.ne_iter.specs.TryGroupBy.{by_keys}
 
 module _ {A K F : Type 0} (calls : Shared F (Bor A × Unit {0}) (Result K AllocError)) where
-  -- the run begins with an item for which f may return the key k
+  -- The run begins with an item for which f may return the key k.
   pub record BeginsWithKey (f : F) (run : List A) (k : K) : Type 0 where
     pub first : A
     pub later : List A

@@ -87,7 +87,7 @@ pub found : {A : Type 0} (p : Option (Option A)) (o : Option (Bor A)) → p ≡ 
 found p None e h = let h = h in search rules
 found p (Some x) e h = ap is_item e
 
--- the facts found about a source, stated for the list that it yields
+-- The facts found about a source, stated for the list that it yields.
 module _ {U S V T A : Type 0} (becomes : U → S → Type 0) (steps : S → Option A → S → Type 0)
     (made : V → T → Type 0) (next : T → Option A → T → Type 0) (u : U) where
   pub peeks_lists : (result : Option V)

@@ -17,7 +17,7 @@ use Rattle.ne_iter.specs.LoopLaws.{reads_through}
 use Rattle.ne_iter.proofs.SourceLists.{read_lists, through_reads, as_items}
 use Rattle.ne_iter.proofs.SourceLists.{becomes_read_through}
 
--- if a conjunction of two tests is true, both are true
+-- If a conjunction of two tests is true, both are true.
 pub both_true : (a b : Bool) → (a && b) ≡ true → (a ≡ true) × (b ≡ true)
 both_true true b e = (refl, e)
 both_true false b e = let e = e in search rules
@@ -137,7 +137,7 @@ module _ {U W V S R T A : Type 0} {becomes : U → S → Type 0} {steps : S → 
         as_many parts.one_ended (first parts.ended us parts.read)
         (second parts.other_ended vs parts.read_other))
 
--- two sources, side by side
+-- Two sources, side by side.
 module _ {U W V S R T A B X Y : Type 0} {becomes : U → S → Type 0}
     {steps : S → Option A → S → Type 0} {meets : W → R → Type 0}
     {other : R → Option B → R → Type 0} {made : V → T → Type 0}

@@ -8,7 +8,7 @@ use Rattle.ne_vec.specs.Lists.{IsPrefix, Lists, Listed}
 use Rattle.ne_vec.specs.ListLaws.{is_prefix, lists_of, triggered}
 use Rattle.ne_iter.specs.declared.array.ArrayNonEmptyIterator.{ArrayNonEmptyIterator}
 
--- the items of an array as a source
+-- The items of an array as a source.
 abbrev pub array_items : {T : Type 0} {N : ℕ} → ArrayNonEmptyIterator T N → List T
 array_items s = s.items
 

@@ -10,7 +10,7 @@ use Rattle.ne_iter.specs.declared.iter.cloned.ClonedIter.{ClonedIter}
 abbrev pub cloned_source : {I : Type 0} → Cloned I → I
 cloned_source s = s.iter
 
--- the iterator of references in a `ClonedIter`
+-- The iterator of references in a `ClonedIter`.
 abbrev pub cloned_iterator : {I : Type 0} → ClonedIter I → I
 cloned_iterator s = s.iter
 
@@ -30,7 +30,7 @@ abbrev pub IsCloned : {U T R : Type 0} → (Bool → U → List (Bor T) → Type
 IsCloned {T = T} reads tries source whole ys = (xs : List (Bor T)) × reads whole source xs
     × AllZip (λ x r. tries x.now r) xs ys
 
--- if a call yields no clone, the iterator of references has ended
+-- If a call yields no clone, the iterator of references has ended.
 module _ {S T : Type 0} (steps : S → Option (Bor T) → S → Type 0) where
   pub none_cloned : (R : Type 0) (tries : T → R → Type 0) (s t : S) (o : Option (Bor T))
       → steps s o t

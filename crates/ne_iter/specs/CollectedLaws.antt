@@ -20,7 +20,7 @@ use Rattle.ne_iter.specs.SourceLaws.{some_item}
 use Rattle.ne_iter.specs.Sources.{IsNonEmpty, Reads, SameLists}
 use mathlib.Core.Path.{fun_ext}
 
--- a value collected from all items that an iterator yields is made of the items of its source
+-- a value collected from all items that an iterator yields is made of the items of its source.
 module _ {U S V T A : Type 0} {becomes : U → S → Type 0} {steps : S → Option A → S → Type 0}
     {makes : U → V → Type 0} {becomes' : V → T → Type 0} {steps' : T → Option A → T → Type 0} where
   pub collects : SameLists becomes steps makes becomes' steps' → IsNonEmpty becomes' steps'
@@ -60,7 +60,7 @@ some_member eq [] q h = absurd (true≢false (sym h))
 some_member eq (k ∷ ks) q h = omega arith
 
 module _ {K V : Type 0} {eq : K → K → Bool} (laws : IsEquivalence eq) where
-  -- after the inserts, a key has the value of its last pair, or else the value that it had before
+  -- After the inserts, a key has the value of its last pair, or else the value that it had before.
   pub update_all-last_value : (f : K → Option V) (ps : List (K × V)) (q : K)
       → update_all eq f ps q ≡ option_or (last_value eq ps q) (f q)
   update_all-last_value f [] q = refl
@@ -85,7 +85,7 @@ module _ {K V : Type 0} {eq : K → K → Bool} (laws : IsEquivalence eq) where
   update_all-append f [] qs = refl
   update_all-append f (p ∷ ps) qs = update_all-append (update eq f p.0 (Some p.1)) ps qs
 
-  -- a map into which pairs are inserted in turn is the map of its entries followed by the pairs
+  -- a map into which pairs are inserted in turn is the map of its entries followed by the pairs.
   last_value-extended : (es ps : List (K × V)) (q : K) → IsDistinct eq (keys_of es)
       → update_all eq (λ k. lookup (eq k) es) ps q ≡ last_value eq (es ++ ps) q
   last_value-extended es ps q d =
@@ -96,7 +96,7 @@ module _ {K V : Type 0} {eq : K → K → Bool} (laws : IsEquivalence eq) where
       ∙ update_all-last_value (λ _. None) (es ++ ps) q
       ∙ option_or-none (last_value eq (es ++ ps) q)
 
--- pairs inserted in turn
+-- Pairs inserted in turn.
 module _ {K V : Type 0} {eq : K → K → Bool} (laws : IsEquivalence eq) (es fs ps : List (K × V))
     (made : (q : K) → lookup (eq q) fs ≡ update_all eq (λ k. lookup (eq k) es) ps q) where
   pub map_of-inserts : IsDistinct eq (keys_of es) → IsDistinct eq (keys_of fs)
@@ -122,7 +122,7 @@ module _ {K V : Type 0} {eq : K → K → Bool} (laws : IsEquivalence eq) (es fs
       by (e ∷ rest) h = not_empty fs e.0
           (found e.0 e.1 (ap (lookup (eq e.0)) h ∙ head_is e rest))
 
--- items inserted in turn
+-- Items inserted in turn.
 module _ {K : Type 0} {eq : K → K → Bool} (laws : IsEquivalence eq) (ks xs ls : List K)
     (made : (q : K) → is_member eq ls q ≡ (is_member eq ks q || is_member eq xs q)) where
   pub set_of-inserts : IsDistinct eq ls → IsSetOf eq (ks ++ xs) ls
@@ -147,7 +147,7 @@ module _ {K : Type 0} {eq : K → K → Bool} (laws : IsEquivalence eq) (ks xs l
           ∙ ap (λ l. is_member eq l k || is_member eq xs k) h
           ∙ ap (λ b. (b || is_member eq rest k) || is_member eq xs k) (laws.refl k))
 
--- one pair, or one item
+-- One pair, or one item.
 module _ {K : Type 0} (eq : K → K → Bool) where
   IsDistinct-one : (k : K) → IsDistinct eq (k ∷ [])
   unfolding IsDistinct
@@ -179,7 +179,7 @@ list_any-append t (x ∷ xs) y = by (t x) (t y) (list_any t xs) (list_any-append
     by false true c h = h
     by false false c h = h
 
--- one more pair or item
+-- One more pair or item.
 module _ {K : Type 0} {eq : K → K → Bool} (laws : IsEquivalence eq) where
   pub map_of-more : {V : Type 0} (ps es fs : List (K × V)) (p : K × V)
       → IsDistinct eq (keys_of fs)
@@ -206,9 +206,9 @@ module _ {K : Type 0} {eq : K → K → Bool} (laws : IsEquivalence eq) where
       step true c = refl
       step false c = refl
 
--- the key list
+-- The key list.
 module _ {K : Type 0} {eq : K → K → Bool} (laws : IsEquivalence eq) where
-  -- if keys differ, none of them is among those before it
+  -- If keys differ, none of them is among those before it.
   absent_before : (before ks : List K) (k : K) → IsDistinct eq (before ++ k ∷ ks)
       → is_member eq before k ≡ false
   absent_before [] ks k d = refl
@@ -222,7 +222,7 @@ module _ {K : Type 0} {eq : K → K → Bool} (laws : IsEquivalence eq) where
       apart_from_all [] h = h.0
       apart_from_all (c ∷ cs) h = apart_from_all cs h.1
 
-  -- keys that differ are their own key list
+  -- keys that differ are their own key list.
   pub first_seen-distinct : (before ks xs : List K) → IsDistinct eq (before ++ ks)
       → first_seen eq before (ks ++ xs) ≡ ks ++ first_seen eq (before ++ ks) xs
   first_seen-distinct before [] xs d = ap (λ l. first_seen eq l xs) (sym (append-nil before))

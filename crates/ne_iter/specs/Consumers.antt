@@ -80,12 +80,12 @@ pub record PicksByKey {U A K F : Type 0} (reads : Bool → U → List A → Type
 module _ {U A K F : Type 0} (reads : Bool → U → List A → Type 0)
     (calls : Mut F (Bor A × Unit {0}) K) (cmp : K → K → Ordering) (source : U) (f : F) (result : A)
   where
-    -- `max_by_key`: the first of the items with the greatest key
+    -- `max_by_key`: the first of the items with the greatest key.
     abbrev pub PicksGreatestKey : Type 0
     PicksGreatestKey = PicksByKey reads calls source f result
         (IsFirstGreatest (λ p q. less_by cmp p.1 q.1))
 
-    -- `min_by_key`: the first of the items with the least key
+    -- `min_by_key`: the first of the items with the least key.
     abbrev pub PicksLeastKey : Type 0
     PicksLeastKey = PicksByKey reads calls source f result
         (IsFirstLeast (λ p q. less_by cmp p.1 q.1))

@@ -15,7 +15,7 @@ abbrev pub IsCopied : {U T : Type 0} → (Bool → U → List (Bor T) → Type 0
 IsCopied {T = T} reads source whole ys = (xs : List (Bor T)) × reads whole source xs
     × (ys ≡ map (λ x. x.now) xs)
 
--- if a call yields no copy, the iterator of references has ended
+-- If a call yields no copy, the iterator of references has ended.
 module _ {S T : Type 0} (steps : S → Option (Bor T) → S → Type 0) where
   pub none_copied : (s t : S) (o : Option (Bor T)) → steps s o t → None ≡ option_copied o
       → steps s None t

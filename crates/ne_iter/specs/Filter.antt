@@ -15,7 +15,7 @@ module _ {U A : Type 0} (reads : Bool → U → List A → Type 0) where
   -- xs are the source's items for which f returns true.
   pub record IsFiltered {F : Type 0} (calls : Mut F (Bor A × Unit {0}) Bool) (source : U) (f : F)
       (whole : Bool) (xs : List A) : Type 0 where
-    -- each item with the result of f for it
+    -- Each item with the result of f for it.
     pub tested : List (A × Bool)
     pub f_then : F
     pub read : reads whole source (items_of tested)
@@ -25,7 +25,7 @@ module _ {U A : Type 0} (reads : Bool → U → List A → Type 0) where
   -- ys are the source's items for which f returns true, and ns the others. The source ends.
   pub record IsParted {F : Type 0} (calls : Mut F (Bor A × Unit {0}) Bool) (source : U) (f : F)
       (ys ns : List A) : Type 0 where
-    -- each item with the result of f for it
+    -- Each item with the result of f for it.
     pub tested : List (A × Bool)
     pub f_then : F
     pub read : reads true source (items_of tested)

@@ -13,7 +13,7 @@ use Rattle.ne_iter.specs.declared.iter.flat_map.FlatMap.{FlatMap}
 use Rattle.ne_iter.specs.Calls.{Calls}
 use Rattle.ne_iter.specs.Flatten.{ReadsEach}
 
--- the source and the closure of a `FlatMap`
+-- The source of a `FlatMap`.
 abbrev pub flat_map_source : {I U F : Type 0} → FlatMap I U F → I
 flat_map_source s = s.iter
 
@@ -27,7 +27,7 @@ module _ {U A : Type 0} (reads : Bool → U → List A → Type 0) where
       (calls : Mut F (A × Unit {0}) W) (source : U) (f : F) (whole : Bool) (zs : List B) : Type 0
     where
       pub items : List A
-      -- the sources that f returned, and the list that each of them yielded
+      -- The sources that f returned, and the list that each of them yielded.
       pub sources : List W
       pub lists : List (List B)
       pub f_then : F
@@ -36,7 +36,7 @@ module _ {U A : Type 0} (reads : Bool → U → List A → Type 0) where
       pub read_each : ReadsEach inner whole sources lists
       pub is : zs ≡ concat lists
 
--- each call of f with x leaves f unchanged and returns a source of the items of `inner x`
+-- Each call of f with x leaves f unchanged and returns a source of the items of `inner x`.
 abbrev pub ReturnsLists : {A W B F : Type 0} → Mut F (A × Unit {0}) W → F
     → (W → List B → Type 0) → (A → List B) → Type 0
 ReturnsLists {A} {W} {F = F} calls f lists inner =
@@ -50,7 +50,7 @@ SpreadsLists {A = A} {B = B} calls f lists becomes gives u v = EachList lists u 
     (inner : A → List B) → Naming (flat_map inner xs) (λ ys.
     ReturnsLists calls f becomes inner → gives v ys))
 
--- the same through a view of the source's items and one of the items of the inner sources
+-- The same through a view of the source's items and one of the items of the inner sources.
 abbrev pub SpreadsThrough : {U A W B V F : Type 0} → Mut F (A × Unit {0}) W → F → (view : View A)
     → (inner : View B) → ((view : View A) → U → List view.Target → Type 0)
     → ((inner : View B) → W → List inner.Target → Type 0)

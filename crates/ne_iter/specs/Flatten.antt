@@ -13,7 +13,7 @@ use Rattle.ne_vec.specs.Lists.{Naming, EachList}
 use Rattle.ne_iter.specs.declared.iter.flatten.Flatten.{Flatten}
 use Rattle.ne_iter.specs.Sources.{HasFirst, IsNonEmpty}
 
--- the source of a `Flatten`
+-- The source of a `Flatten`.
 abbrev pub flatten_source : {I : Type 0} → Flatten I → I
 flatten_source s = s.iter
 
@@ -37,7 +37,7 @@ module _ {U A : Type 0} (reads : Bool → U → List A → Type 0) where
     pub read_each : ReadsEach inner whole sources lists
     pub is : zs ≡ concat lists
 
--- `flatten` yields the lists of the source's items, one after another
+-- `flatten` yields the lists of the source's items, one after another.
 abbrev pub FlattensLists : {U W B V : Type 0} → (U → List W → Type 0) → (W → List B → Type 0)
     → (V → List B → Type 0) → U → V → Type 0
 FlattensLists {W = W} {B = B} lists becomes gives u v = EachList lists u (λ us.
@@ -74,7 +74,7 @@ module _ {S U J A : Type 0} (steps : S → Option U → S → Type 0) (becomes :
       (MatchBool-at_false _ _ fresh h.2) h.1 has full
   ended_flat X s t u (Some y) fresh h end has full = let e = end.0 in search rules
 
-  -- inner sources that are not empty, one after the other
+  -- Inner sources that are not empty, one after the other.
   pub HasFirst-flatten : (s : StdFlatten S J) → flatten_front s ≡ None → flatten_done s ≡ false
       → HasFirst steps (std_flatten_source s) → IsNonEmpty becomes inner
       → HasFirst (flatten_steps steps becomes inner) s

@@ -3,12 +3,12 @@ use Rattle.std.specs.Prelude.{◌≡◌, ◌≢◌, Bool, true, false, List, [],
 use Rattle.std.specs.Prelude.{MatchOption, Result, Ok, Err, map}
 use Rattle.std.specs.Fn.{Mut}
 use Rattle.std.specs.Borrow.{Bor}
-use Rattle.std.proofs.Common.{◌⊎◌}
+use Rattle.std.specs.Prelude.{◌⊎◌}
 use Rattle.ne_iter.specs.declared.iter.group_by.NEGroupBy.{NEGroupBy}
 use Rattle.ne_iter.specs.Calls.{CallsEachAt}
 use Rattle.ne_iter.specs.Keys.{items_of, DividesByKey}
 
--- the source and the closure of a `NEGroupBy`
+-- The source of a `NEGroupBy`.
 abbrev pub group_by_source : {I F : Type 0} → NEGroupBy I F → I
 group_by_source s = s.iter
 
@@ -43,7 +43,7 @@ module _ {U A K F : Type 0} (reads : Bool → U → List A → Type 0)
     pub read : reads ended source (items_of drawn)
     pub called : CallsEachAt calls f drawn closure
     pub divided : DividesByKey eq drawn (and_held rs held)
-    -- an item is held, after a run, unless the source has ended or nothing was taken
+    -- An item is held, after a run, unless the source has ended or nothing was taken.
     pub holds : MatchOption held ((ended ≡ true) ⊎ (drawn ≡ [])) (λ _. rs ≢ [])
     pub over : whole ≡ true → (ended ≡ true) × (held ≡ None)
 

@@ -47,11 +47,11 @@ module _ {S K A F : Type 0} (steps : S → Option A → S → Type 0) (calls : M
   -- One call of `next` returns r, and takes the grouping from g to h.
   pub record GivesRun (g : Grouping S K A F) (r : Option (Result (List A) AllocError))
       (h : Grouping S K A F) : Type 0 where
-    -- a grouping that is over returns `None` and stays unchanged
+    -- a grouping that is over returns `None` and stays unchanged.
     pub over : IsOver g → (r ≡ None) × (h ≡ g)
-    -- the grouping is over after `None` and after an `Err`
+    -- The grouping is over after `None` and after an `Err`.
     pub stops : MatchOption r (IsOver h) (λ x. OnErr x (IsOver h))
-    -- a run follows the runs that were returned before, and `None` adds no run
+    -- a run follows the runs that were returned before, and `None` adds no run.
     pub reads : (s : S) (f : F) (rs : List (List A)) → HasRead s f rs g
         → MatchOption r (HasRead s f rs h) (λ x. IfOk x (λ run. HasRead s f (rs ++ run ∷ []) h))
 
@@ -70,7 +70,7 @@ module _ {S K A F : Type 0} (steps : S → Option A → S → Type 0) (calls : M
   pub record ReturnsOn (s : S) (f : F) (done : List (List A))
       (results : List (Option (Result (List A) AllocError))) (h : Grouping S K A F) : Type 0 where
     pub runs : List (List A)
-    -- the results after the runs
+    -- The results after the runs.
     pub later : List (Option (Result (List A) AllocError))
     pub are_all : results ≡ map (λ run. Some (Ok run)) runs ++ later
     pub ended : ReturnsThen s f (done ++ runs) later h

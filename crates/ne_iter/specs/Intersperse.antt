@@ -17,7 +17,7 @@ use Rattle.ne_iter.specs.Cloned.{TriesClone}
 use Rattle.ne_iter.specs.declared.iter.intersperse.RawIntersperse.{RawIntersperse}
 use Rattle.ne_iter.specs.Sources.{HasFirst}
 
--- the item that an `Intersperse` has taken, the iterator over the items after it, the separator
+-- The item that an `Intersperse` has taken.
 abbrev pub intersperse_first : {S X : Type 0} → Intersperse S X → X
 intersperse_first s = s.first
 
@@ -40,7 +40,7 @@ Interspersed {A} {E} clones (x ∷ y ∷ xs) zs = (c : Result A E) × (more : Li
     × (zs ≡ Ok x ∷ c ∷ more)
     × MatchResult c (λ _. Interspersed clones (y ∷ xs) more) (λ _. more ≡ [])
 
--- xs with s between each two of its items: std's `join` of lists of one item each
+-- xs with s between each two of its items: std's `join` of lists of one item each.
 abbrev pub interspersed : {A : Type 0} → A → List A → List A
 interspersed s xs = join_by (λ x. x ∷ []) (s ∷ []) xs
 
@@ -74,7 +74,7 @@ in_hand s = s.next
 abbrev pub is_over : {I X : Type 0} → RawIntersperse I X → Bool
 is_over s = s.is_over
 
--- how many items are left at most: the one held, and two for each that the source has left
+-- How many items are left at most: the one held, and two for each that the source has left.
 abbrev pub interspersed_left : {I X : Type 0} → (I → Count) → RawIntersperse I X → Count
 interspersed_left left s = count_unless (is_over s)
     (count_map (λ n. 2 * n + option_len (in_hand s)) (left (drawn_from s)))
@@ -127,7 +127,7 @@ module _ {U A : Type 0} (reads : Bool → U → List A → Type 0) where
   pub record IsInterspersed {E : Type 0} (tries : A → Result A E → Type 0) (source : U)
       (separator : A) (whole : Bool) (zs : List (Result A E)) : Type 0 where
     pub items : List A
-    -- the results that are not yielded yet
+    -- The results that are not yielded yet.
     pub later : List (Result A E)
     pub read : reads (whole && list_all is_ok zs) source items
     pub spaced : Interspersed (tries separator) items (zs ++ later)

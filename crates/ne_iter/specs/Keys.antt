@@ -2,11 +2,11 @@
 use Rattle.std.specs.Prelude.{◌≡◌, Bool, List, map}
 use Rattle.ne_vec.specs.Divisions.{IsDivision, by_first}
 
--- the items of a list of items with keys
+-- The items of a list of items with keys.
 abbrev pub items_of : {A K : Type 0} → List (A × K) → List A
 items_of ps = map (λ p. p.0) ps
 
--- whether two items have the same key; the key of the first is on the left
+-- Whether two items have the same key; the key of the first is on the left.
 abbrev pub same_key : {A K : Type 0} → (K → K → Bool) → A × K → A × K → Bool
 same_key eq p q = eq p.1 q.1
 

@@ -9,7 +9,7 @@ use Rattle.ne_iter.specs.declared.iter.map.Map.{Map}
 use Rattle.ne_vec.specs.Lists.{Naming, View}
 use Rattle.ne_iter.specs.Calls.{Calls}
 
--- the source and the closure of a `Map`
+-- The source of a `Map`.
 abbrev pub map_source : {I F : Type 0} → Map I F → I
 map_source s = s.iter
 
@@ -26,13 +26,13 @@ module _ {U A : Type 0} (reads : Bool → U → List A → Type 0) where
     pub read : reads whole source items
     pub called : Calls calls f items ys f_then
 
--- each run of the adapter `it` has a run of `source` of which it is the map
+-- Each run of the adapter `it` has a run of `source` of which it is the map.
 abbrev pub MapsRuns : {S A B F : Type 0} → (S → Option A → S → Type 0) → Mut F (A × Unit {0}) B
     → F → S → StdMap S F → Type 0
 MapsRuns steps calls f source it = EachRunFrom (map_steps steps calls) it (λ p.
     SomeRun steps source (λ q. IsMapRun p q calls f))
 
--- each call of f with x leaves f unchanged and returns a value that `out` takes to h x
+-- Each call of f with x leaves f unchanged and returns a value that `out` takes to h x.
 abbrev pub ActsThrough : {A B F W : Type 0} → Mut F (A × Unit {0}) B → F → (B → W) → (A → W)
     → Type 0
 ActsThrough {A} {B} {F} calls f out h =

@@ -10,7 +10,7 @@ use Rattle.ne_iter.specs.Sources.{HasFirst}
 abbrev pub once_item : {T : Type 0} → Once T → T
 once_item s = s.item
 
--- the iterator over one item yields an item first
+-- The iterator over one item yields an item first.
 pub HasFirst-once : {A : Type 0} (it : StdOnce A) (x : A) → std_once_item it ≡ Some x
     → HasFirst once_steps it
 HasFirst-once it x e t ended = let f = ended.0 in search rules

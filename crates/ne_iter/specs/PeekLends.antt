@@ -4,7 +4,7 @@ use Rattle.ne_iter.specs.declared.iter.peekable.Peekable.{Peekable}
 use Rattle.ne_iter.specs.Peekable.{with_first}
 use Rattle.ne_iter.specs.contracts.iter.peekable.Peekable.{the_row}
 
--- once the borrow r ends, the first item is the last value written through r
+-- Once the borrow r ends, the first item is the last value written through r.
 abbrev pub lends_first : (I X : RattleType) → MutBor (Peekable I.Denot X.Denot) → MutBor X.Denot
     → Fml
 lends_first I X s r = Lends (the_row I X) X s r (with_first s.now)

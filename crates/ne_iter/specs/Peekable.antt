@@ -9,7 +9,7 @@ use Rattle.std.specs.declared.iter.Once.{Once}
 use Rattle.ne_vec.specs.Lists.{View}
 use Rattle.ne_iter.specs.declared.iter.peekable.Peekable.{Peekable}
 
--- the item that was taken, and the iterator over the items after it
+-- The item that a `Peekable` has taken.
 abbrev pub peekable_first : {I X : Type 0} → Peekable I X → X
 peekable_first s = s.first
 
@@ -17,11 +17,11 @@ peekable_first s = s.first
 abbrev pub peekable_rest : {I X : Type 0} → Peekable I X → I
 peekable_rest s = s.rest
 
--- s with the first item x
+-- s with the first item x.
 abbrev pub with_first : {I X : Type 0} → Peekable I X → X → Peekable I X
 with_first s x = record s { first = x }
 
--- xs, with x in place of its first item
+-- xs, with x in place of its first item.
 abbrev pub with_head : {A : Type 0} → A → List A → List A
 with_head x [] = []
 with_head x (y ∷ xs) = x ∷ xs

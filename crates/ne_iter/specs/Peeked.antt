@@ -5,13 +5,13 @@ use Rattle.std.specs.declared.iter.Ahead.{Ahead}
 use Rattle.std.proofs.Common.{rules}
 use Rattle.ne_iter.specs.Sources.{HasFirst}
 
--- an item was peeked at
+-- An item was peeked at.
 abbrev pub is_item : {X : Type 0} → Option (Option X) → Bool
 is_item None = false
 is_item (Some None) = false
 is_item (Some (Some x)) = true
 
--- whether the next item is held
+-- Whether the next item is held.
 abbrev pub has_peeked : {I X : Type 0} → Ahead I X → Bool
 has_peeked s = is_item (peekable_peeked s)
 

@@ -8,7 +8,7 @@ use Rattle.std.specs.Iterator.{Count, IsFinite, Yields, YieldsThen}
 use Rattle.std.specs.Iterator.Runs.{EachRunFrom, SomeRun}
 use Rattle.std.specs.List.{AllByRecursion, Contains}
 use Rattle.std.specs.declared.alloc.AllocError.{AllocError}
-use Rattle.std.proofs.Common.{◌⊎◌}
+use Rattle.std.specs.Prelude.{◌⊎◌}
 use Rattle.ne_vec.specs.Divisions.{IsDivision, by_first, concat, runs_of}
 use Rattle.ne_vec.specs.Lists.{EachList, Naming, View}
 use Rattle.ne_vec.specs.SliceRuns.{ActsAsAtPair}
@@ -19,7 +19,7 @@ use Rattle.ne_iter.specs.declared.iter.group_by.State.{State}
 use Rattle.ne_iter.specs.declared.iter.group_by.State.TheVariants.{Unread, Held, Ended}
 use Rattle.ne_iter.specs.declared.iter.runs_by.RunsBy.{RunsBy}
 
--- the source of a `RunsBy`
+-- The source of a `RunsBy`.
 abbrev pub runs_by_source : {I F : Type 0} → RunsBy I F → I
 runs_by_source s = s.iter
 
@@ -65,16 +65,16 @@ module _ {A F : Type 0} (calls : Shared F (Bor A × (Bor A × Unit {0})) Bool) w
     pub record CutsNext {K : Type 0} (g : Grouping S K A F)
         (r : Option (Result (List A) AllocError)) (h : Grouping S K A F) : Type 0 where
       pub keeps : h.closure ≡ g.closure
-      -- an iterator that is over returns `None` and stays unchanged
+      -- An iterator that is over returns `None` and stays unchanged.
       pub over : IsOver g → (r ≡ None) × (h ≡ g)
-      -- the iterator is over after `None` and after an `Err`
+      -- The iterator is over after `None` and after an `Err`.
       pub stops : MatchOption r (IsOver h) (λ x. OnErr x (IsOver h))
-      -- the item that was held and the items taken are the run, and the item that is held then
+      -- The item that was held and the items taken are the run, and the item that is held then.
       pub cuts : MatchOption r (EndsAtOnce g.state g.source h.source) (λ x. IfOk x (λ run.
           (xs : List A) × Draws h.state g.source xs h.source
           × CutsInto g.closure (held_before g.state xs) (and_held (run ∷ []) (held_in h.state))))
 
-    -- f may be called with any two items of `back` and of those that the source may yield
+    -- f may be called with any two items of `back` and of those that the source may yield.
     abbrev pub CallableAfter : List A → S → F → Type 0
     CallableAfter back s f = (xs : List A) (t : S) (x y : Bor A) → Yields steps s xs t
         → Contains (back ++ xs) x.now → Contains (back ++ xs) y.now → calls.pre f (x, (y, tt))
@@ -95,7 +95,7 @@ module _ {U A F : Type 0} (reads : Bool → U → List A → Type 0)
     pub ended : Bool
     pub read : reads ended source drawn
     pub cut : CutsInto calls f drawn (and_held rs held)
-    -- an item is held, after a run, unless the source has ended or nothing was taken
+    -- An item is held, after a run, unless the source has ended or nothing was taken.
     pub holds : MatchOption held ((ended ≡ true) ⊎ (drawn ≡ [])) (λ _. rs ≢ [])
     pub over : whole ≡ true → (ended ≡ true) × (held ≡ None)
 

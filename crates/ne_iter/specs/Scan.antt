@@ -7,7 +7,7 @@ use Rattle.ne_iter.specs.declared.iter.scan.Scan.{Scan}
 use Rattle.ne_iter.specs.Calls.{CallsWithState}
 use Rattle.ne_iter.specs.declared.iter.scan.ScanIter.{ScanIter}
 
--- the source of a `Scan`, its initial state, and its closure
+-- The source of a `Scan`.
 abbrev pub scan_source : {I S F : Type 0} → Scan I S F → I
 scan_source s = s.iter
 
@@ -31,7 +31,7 @@ module _ {U A : Type 0} (reads : Bool → U → List A → Type 0) where
     pub read : reads whole source items
     pub called : CallsWithState calls f init items ys f_then state_then
 
--- the iterator that a `ScanIter` takes items from, its state and its closure
+-- The iterator that a `ScanIter` takes items from, its state and its closure.
 abbrev pub scanned_from : {I S F : Type 0} → ScanIter I S F → I
 scanned_from s = s.iter
 

@@ -13,7 +13,7 @@ module _ {U A : Type 0} (reads : Bool → U → List A → Type 0) where
   -- ys are the source's items from the first for which f returns false, which is its last call.
   pub record IsSkippedWhile {F : Type 0} (calls : Mut F (Bor A × Unit {0}) Bool) (source : U)
       (f : F) (whole : Bool) (ys : List A) : Type 0 where
-    -- the items before the first one for which f returns false
+    -- The items before the first one for which f returns false.
     pub skipped : List A
     pub f_then : F
     pub read : reads whole source (skipped ++ ys)

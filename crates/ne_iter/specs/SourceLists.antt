@@ -45,7 +45,7 @@ EachKept view lists u steps it P =
     × OnFalse view.is_itself
     (EachList (lists view) u (λ xs. P view xs (λ ys. StdYields steps view ys it)))
 
--- `next` returns the first item, x, and an iterator, `rest`, that yields the others
+-- `next` returns the first item, x, and an iterator, `rest`, that yields the others.
 abbrev pub BeginsList : {U S A : Type 0} → (U → List A → Type 0) → (S → Option A → S → Type 0)
     → U → A → S → Type 0
 BeginsList lists steps u x rest =

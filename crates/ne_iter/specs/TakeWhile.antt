@@ -2,7 +2,7 @@
 use Rattle.std.specs.Prelude.{Bool, true, false, List, [], ◌∷◌, ◌++◌}
 use Rattle.std.specs.Fn.{Mut, CalledAt}
 use Rattle.std.specs.Borrow.{Bor}
-use Rattle.std.proofs.Common.{◌⊎◌}
+use Rattle.std.specs.Prelude.{◌⊎◌}
 use Rattle.ne_iter.specs.Calls.{ReturnsEachAt}
 
 module _ {U A : Type 0} (reads : Bool → U → List A → Type 0) where

@@ -8,7 +8,7 @@ use Rattle.ne_iter.specs.declared.iter.group_by.State.{State}
 use Rattle.ne_iter.specs.declared.iter.group_by.State.TheVariants.{Unread, Held, Ended}
 use Rattle.ne_iter.specs.declared.iter.try_group_by.TryGroupBy.{TryGroupBy}
 
--- the source of a `TryGroupBy`
+-- The source of a `TryGroupBy`.
 abbrev pub try_group_by_source : {I F : Type 0} → TryGroupBy I F → I
 try_group_by_source s = s.iter
 
@@ -28,7 +28,7 @@ module _ {A K F : Type 0} (calls : Shared F (Bor A × Unit {0}) (Result K AllocE
         steps = λ f a r g. returns f a r × (g ≡ f);
       }
 
-  -- an item that is held has a key that f may return for it
+  -- An item that is held has a key that f may return for it.
   abbrev pub HoldsItsKey : F → State K A → Type 0
   HoldsItsKey f Unread = ⊤
   HoldsItsKey f (Held k x) = FnReturnsAt calls f x (Ok k)

@@ -7,7 +7,7 @@ use Rattle.ne_iter.specs.declared.iter.try_into.PeeksAhead.{Ghosts}
 use Rattle.ne_iter.specs.declared.iter.try_into.NonEmptyIterAdapter.{NonEmptyIterAdapter}
 use Rattle.ne_iter.specs.Sources.{RunsSome, RunsWhole}
 
--- the iterator in which an item was found
+-- The iterator in which an item was found.
 abbrev pub peeked_iterator : {I : Type 0} {looks : Ghosts I} → NonEmptyIterAdapter I looks → I
 peeked_iterator s = s.inner
 
@@ -33,7 +33,7 @@ PeeksRuns becomes steps peeked_steps iterator_of source result = MatchOption res
 abbrev pub PeeksEnds : {U V : Type 0} → (U → Type 0) → (V → Type 0) → U → Option V → Type 0
 PeeksEnds runs ends_peeked source result = runs source → IfSome result ends_peeked
 
--- `try_into_nonempty_iter` returns `None` if the list is empty, and else a source that yields it
+-- `try_into_nonempty_iter` returns `None` if the list is empty, and else a source that yields it.
 abbrev pub PeeksLists : {U V A : Type 0} → (U → List A → Type 0) → (V → List A → Type 0) → U
     → Option V → Type 0
 PeeksLists lists gives u result = MatchOption result (EachList lists u (λ xs. xs ≡ []))

@@ -58,7 +58,7 @@ ZipsLists view other_view lists others becomes yields_items yields_through u w v
     (PairsOf (lists view) (others other_view) (becomes other_view) u w
     (yields_through (in_pairs view other_view) v))
 
--- two sources that both have a first item, side by side
+-- Two sources that both have a first item, side by side.
 pub HasFirst-zip : {S T A B : Type 0} (steps : S → Option A → S → Type 0)
     (others : T → Option B → T → Type 0) (z : StdZip S T)
     → HasFirst steps (std_zip_first z) → HasFirst others (std_zip_second z)

@@ -18,7 +18,7 @@ use Rattle.ne_products.specs.ByKey.{IsGroupedByKey, KeyTurn, NamesKeys, and_last
 use Rattle.ne_products.specs.ByKey.{of_some}
 use mathlib.Core.Path.{fun_ext}
 
--- items seen through v
+-- Items seen through v.
 fold-viewed : {A B C : Type 0} (f : B → C → B) (v : A → C) (b : B) (ys : List A)
     → fold (λ b x. f b (v x)) b ys ≡ fold f b (map v ys)
 fold-viewed f v b [] = refl
@@ -40,14 +40,14 @@ fold_some-viewed : {A B C : Type 0} (f : B → C → B) (v : A → C) (init : B)
 fold_some-viewed f v init [] = refl
 fold_some-viewed f v init (y ∷ ys) = ap Some (fold-viewed f v init (y ∷ ys))
 
--- one more item at the end
+-- One more item at the end.
 fold_some-push : {A B : Type 0} (f : B → A → B) (init : B) (ys : List A) (x : A)
     → fold_some f init (ys ++ x ∷ []) ≡ Some (f (unwrap_or (fold_some f init ys) init) x)
 fold_some-push f init [] x = refl
 fold_some-push f init (y ∷ ys) x = ap Some (fold-append f init (y ∷ ys) (x ∷ []))
 
 module _ {K B : Type 0} {eq : K → K → Bool} (laws : IsEquivalence eq) (init : B) where
-  -- the values of the keys after one more item
+  -- The values of the keys after one more item.
   pub folded-more : {A : Type 0} (h : A → K) (f : B → A → B) (xs : List A) (x : A)
       (old new : K → Option B)
       → PutsValue eq old (h x) (f (unwrap_or (old (h x)) init) x) new
@@ -78,7 +78,7 @@ module _ {K B : Type 0} {eq : K → K → Bool} (laws : IsEquivalence eq) (init 
       ∙ fold_some-viewed f v init (filter (λ x. eq q (h (v x))) ys)
       ∙ ap (fold_some f init) (filter-viewed (λ x. eq q (h x)) v ys)
 
--- the values after the turns over xs, if the closure for keys is a function and so is what adds
+-- The values after the turns over xs, if the closure for keys is a function and so is what adds.
 module _ {A K B F G : Type 0} (view : View K) {eq : view.Target → view.Target → Bool}
     (laws : IsEquivalence eq) (init : B) (keys : Mut F (Bor A × Unit {0}) K)
     (adds : G → B → A → B → G → Type 0) (key : F) (g : G) (h : A → view.Target) (f : B → A → B)
@@ -105,7 +105,7 @@ module _ {A K B F G : Type 0} (view : View K) {eq : view.Target → view.Target 
       (turns_fold (done ++ x ∷ []) xs s.1.1 end key' g'
       (folded-more laws init h f done x value s.1.1 put folded) rest)
 
--- the fold by key of the items of a list, through each view
+-- The fold by key of the items of a list, through each view.
 pub folded_view : {A K B F G : Type 0} (names : View K)
     {eq : names.Target → names.Target → Bool} (laws : IsEquivalence eq) (init : B)
     (keys : Mut F (Bor A × Unit {0}) K) (calls : Mut G (B × (A × Unit {0})) B) (key : F) (g : G)
@@ -122,7 +122,7 @@ folded_view names laws init keys calls key g ys value key' g' turns view h acts 
     (λ _. None) value key'
     g' (λ q. refl) turns)
 
--- at an item of the loop after the first one, the closures may be called
+-- At an item of the loop after the first one, the closures may be called.
 pub callable_later : {S A K B F G : Type 0} (steps : S → Option A → S → Type 0)
     (keys : Mut F (Bor A × Unit {0}) K) (calls : Mut G (B × (A × Unit {0})) B)
     (names : View K) (eq : names.Target → names.Target → Bool) (it : S) (key : F) (init : B) (f : G)
@@ -140,7 +140,7 @@ callable_later steps keys calls names eq it key init f xs t {first = first} {s =
     callable.at (first ∷ xs) now t x after (Yields-first steps it first xs now begins same yields)
     (s, turn, turns) step
 
--- the closure for keys is called in each turn
+-- The closure for keys is called in each turn.
 pub turns_calls : {A K B F G : Type 0} (keys : Mut F (Bor A × Unit {0}) K)
     (adds : G → B → A → B → G → Type 0) (names : View K)
     (eq : names.Target → names.Target → Bool) (init : B)
@@ -151,7 +151,7 @@ turns_calls keys adds names eq init p [] q same = ap (λ s. s.0) same
 turns_calls keys adds names eq init p (x ∷ xs) q (s, (k, v, called, added, puts), turns) =
     (s.0, (k, called), turns_calls keys adds names eq init s xs q turns)
 
--- groups are folds that append
+-- Groups are folds that append.
 fold-and_last : {A : Type 0} (before ys : List A) → fold and_last before ys ≡ before ++ ys
 fold-and_last before [] = sym (append-nil before)
 fold-and_last before (y ∷ ys) =
@@ -167,7 +167,7 @@ of_some-map : {A C : Type 0} (v : A → C) (ys : List A)
 of_some-map v [] = refl
 of_some-map v (y ∷ ys) = refl
 
--- the groups by key of the items of a list, through each view
+-- The groups by key of the items of a list, through each view.
 pub grouped_view : {A K F : Type 0} (names : View K)
     {eq : names.Target → names.Target → Bool} (laws : IsEquivalence eq)
     (keys : Mut F (Bor A × Unit {0}) K) (key : F) (ys : List A)

@@ -16,11 +16,11 @@ use Rattle.std.specs.Iterator.Runs.{CountFits}
 use Rattle.std.specs.List.{filter, fold}
 use Rattle.ne_products.specs.ByKey.{IsCounted, IsFoldedByKey, fold_some, of_some}
 
--- one more, as a `usize` counts
+-- One more, as a `usize` counts.
 abbrev pub one_more : {A : Type 0} → ℕ → A → ℕ
 one_more n x = (n + 1) % 2 ^ 64
 
--- a count that fits is below the range
+-- a count that fits is below the range.
 pub fits_below : {S A : Type 0} (steps : S → Option A → S → Type 0) (left : S → Count)
     (n : ℕ) (s : S)
     → CountFits steps left n s → n < 2 ^ 64
@@ -29,7 +29,7 @@ fits_below steps left n s (inr h) =
     let none = run steps s [] false (s, refl, λ e. absurd (true≢false (sym e))) in
     let fits = h none none.seen refl (seen _) in omega (arith, fits)
 
--- it fits after one more item
+-- it fits after one more item.
 pub fits_push : {S A : Type 0} (steps : S → Option A → S → Type 0) (can : S → Type 0)
     (left : S → Count) (n m : ℕ) (s : S) (x : A) (t : S) → m ≡ n + 1
     → CountFits steps left n s × can s × IsFinite (left s) → steps s (Some x) t
@@ -66,7 +66,7 @@ some_length : {A : Type 0} (ys : List A) → length ys < 2 ^ 64
 some_length [] h = refl
 some_length (y ∷ ys) h = ap Some (folds_length 0 (y ∷ ys) (omega (arith, h)) ∙ omega arith)
 
--- if all items fit, the folds are the counts
+-- If all items fit, the folds are the counts.
 pub counted : {A N : Type 0} {eq : N → N → Bool} (laws : IsEquivalence eq) (name : A → N)
     (value : N → Option ℕ) (xs : List A) → length xs < 2 ^ 64
     → IsFoldedByKey value eq name one_more 0 xs → IsCounted value eq (map name xs)
@@ -87,7 +87,7 @@ module _ {S A N : Type 0} {eq : N → N → Bool} (laws : IsEquivalence eq) (nam
       × ((before : List A) → IsFoldedByKey start eq name one_more 0 before
       → IsFoldedByKey value eq name one_more 0 (before ++ xs))
 
-  -- one more item, x, which was counted n times
+  -- One more item, x, which was counted n times.
   pub counts_more : (xs : List A) (it : S) (value : N → Option ℕ) (x : A) (after : S)
       (new : N → Option ℕ) (o : Option ℕ) → CountsSoFar xs it value → steps it (Some x) after
       → MakesProgress can left it (Some x) after → value (name x) ≡ o

@@ -5,13 +5,13 @@ use Rattle.std.specs.Prelude.{◌≡◌, ℕ, List, [], ◌∷◌, ◌++◌, map
 use Rattle.std.specs.List.{join_by}
 use Rattle.itertools.specs.Consumer.{joined}
 
--- itertools' word and std's mean the same
+-- Itertools' word and std's mean the same.
 pub joined_by : {A : Type 0} (show : A → List ℕ) (separator : List ℕ) (xs : List A)
     → joined show separator xs ≡ join_by show separator xs
 joined_by show separator [] = refl
 joined_by show separator (x ∷ xs) = refl
 
--- a function of the items' views is one of the items
+-- a function of the items' views is one of the items.
 pub join_by-map : {A B : Type 0} (f : A → B) (show : B → List ℕ) (separator : List ℕ) (xs : List A)
     → join_by (λ x. show (f x)) separator xs ≡ join_by show separator (map f xs)
 join_by-map f show separator [] = refl

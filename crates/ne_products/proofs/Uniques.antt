@@ -35,7 +35,11 @@ Reads-up_to {steps = steps} it xs t x u made run last =
     record {
       it = it;
       made = made;
-      given = (u, Yields-append steps xs (x ∷ []) it t u run (u, last, refl), λ w. absurd (true≢false (sym w)));
+      given = (
+        u,
+        Yields-append steps xs (x ∷ []) it t u run (u, last, refl),
+        λ w. absurd (true≢false (sym w)),
+      );
     }
 
 or_false : (a b : Bool) → (a || b) ≡ false → (a ≡ false) × (b ≡ false)

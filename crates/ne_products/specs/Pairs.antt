@@ -7,7 +7,7 @@ pub use Rattle.itertools.specs.List.{cartesian_product}
 use Rattle.std.specs.Prelude.{◌≡◌, Bool, true, ◌&&◌, ⊤, List, [], ◌∷◌, ◌++◌, length, map, is_ok}
 use Rattle.std.specs.Prelude.{Result, Ok, Err}
 use Rattle.std.specs.List.{list_all}
-use Rattle.std.proofs.Common.{◌⊎◌}
+use Rattle.std.specs.Prelude.{◌⊎◌}
 
 -- A clone of some iterator that the source u becomes can fail.
 abbrev pub CanRefuse : {U J : Type 0} → (U → J → Type 0) → (J → Type 0) → U → Type 0

@@ -1,5 +1,5 @@
 -- The parts of a `Product` and of its `ProductIter`, and what a call of `next` does.
-use Rattle.std.proofs.Common.{◌⊎◌}
+use Rattle.std.specs.Prelude.{◌⊎◌}
 use Rattle.std.specs.Prelude.{◌≡◌, ℕ, ◌+◌, ◌*◌, ◌≤◌, Bool, true, false, ⊤, Option, None, Some}
 use Rattle.std.specs.Prelude.{MatchOption, Result, MatchResult}
 use Rattle.std.specs.Bool.{MatchBool}

@@ -16,7 +16,7 @@ use Rattle.std.specs.declared.string.String.{String}
 use Rattle.std.specs.Str.{IsUtf8, chars, encode_utf8_all}
 use denote.Param.Members.{Mut}
 
--- the text bs is the text ds and then the character c
+-- The text bs is the text ds and then the character c.
 pub chars_ended : (bs ds : List ℕ) (c : ℕ) → IsUtf8 bs → IsUtf8 ds → bs ≡ ds ++ encode_utf8 c
     → chars bs ≡ chars ds ++ c ∷ []
 chars_ended bs ds c whole front same =
@@ -27,7 +27,7 @@ chars_ended bs ds c whole front same =
         ∙ ap (λ l. l ++ (encode_utf8 c ++ [])) (encodes-chars ds front)
         ∙ ap (λ l. ds ++ l) (append-nil (encode_utf8 c)) ∙ sym same
 
--- a text that is not empty has a character
+-- a text that is not empty has a character.
 pub some_char : (bs : List ℕ) → IsUtf8 bs → 0 < length bs → 0 < length (chars bs)
 some_char bs valid some = by (chars bs) (encodes-chars bs valid)
   where
@@ -35,7 +35,7 @@ some_char bs valid some = by (chars bs) (encodes-chars bs valid)
     by [] e = omega (arith, some, ap length e)
     by (c ∷ cs) e = omega arith
 
--- a text of more than four bytes has more than one character
+-- a text of more than four bytes has more than one character.
 pub two_chars : (bs : List ℕ) → IsUtf8 bs → 4 < length bs → 1 < length (chars bs)
 two_chars bs valid long = by (chars bs) (encodes-chars bs valid)
   where
@@ -51,16 +51,16 @@ two_chars bs valid long = by (chars bs) (encodes-chars bs valid)
     )
     by (c ∷ d ∷ cs) e = omega arith
 
--- a text with a character is not empty
+-- a text with a character is not empty.
 pub some_byte : (bs : List ℕ) → 0 < length (chars bs) → 0 < length bs
 some_byte [] some = omega (arith, some, ap length chars-nil)
 some_byte (b ∷ bs) some = omega arith
 
--- the bytes of a `String` are UTF-8
+-- The bytes of a `String` are UTF-8.
 pub valid : {Z : Type 0} (s : String Z) (bs : List ℕ) → string_bytes s ≡ bs → IsUtf8 bs
 valid s bs same = subst IsUtf8 same (IsUtf8-string_bytes s)
 
--- a text that begins with a character is not empty
+-- a text that begins with a character is not empty.
 pub some_encoded : (bs rest : List ℕ) (c : ℕ) → bs ≡ encode_utf8 c ++ rest → 0 < length bs
 some_encoded bs rest c same = grind (
   arith,
@@ -70,7 +70,7 @@ some_encoded bs rest c same = grind (
   len_utf8_bounds c,
 )
 
--- the text bs is the character c
+-- The text bs is the character c.
 pub chars_one : (bs : List ℕ) (c : ℕ) → IsUtf8 bs → bs ≡ encode_utf8 c → chars bs ≡ c ∷ []
 chars_one bs c whole same =
     chars_past_char bs [] c whole (same ∙ sym (append-nil (encode_utf8 c)))
@@ -87,7 +87,7 @@ more_chars : (bs rest : List ℕ) (c : ℕ) → chars bs ≡ c ∷ chars rest �
     → 0 < length rest → 1 < length (chars bs)
 more_chars bs rest c begun after some = omega (arith, ap length begun, some_char rest after some)
 
--- a text has one character if nothing follows its first, and more otherwise
+-- a text has one character if nothing follows its first, and more otherwise.
 pub one_or_more : (b : Bool) (bs rest : List ℕ) (c : ℕ) → b ≡ (length rest == 0) → IsUtf8 bs
     → bs ≡ encode_utf8 c ++ rest → MatchBool b (length (chars bs) ≡ 1) (1 < length (chars bs))
 one_or_more b bs rest c test whole same = by b test
@@ -101,14 +101,14 @@ one_or_more b bs rest c test whole same = by b test
     by false t = more_chars bs rest c begun (IsUtf8-past_char bs rest c whole same)
         (grind (arith, nat_tests, t))
 
--- the same of the character that `pop` returns, if there is one
+-- The same of the character that `pop` returns, if there is one.
 pub ended_if : (o : Option ℕ) (bs text ds : List ℕ) → bs ≡ text → IsUtf8 bs → IsUtf8 ds
     → IfSome o (λ c. bs ≡ ds ++ encode_utf8 c) → IfSome o (λ c. chars text ≡ chars ds ++ c ∷ [])
 ended_if (Some c) bs text ds same whole front cut =
     ap chars (sym same) ∙ chars_ended bs ds c whole front cut
 ended_if None bs text ds same whole front cut = cut
 
--- a text of more than one character keeps a byte when its last character leaves
+-- a text of more than one character keeps a byte when its last character leaves.
 pub keeps_front : (o : Option ℕ) (bs ds : List ℕ) → IsSome o → IsUtf8 bs
     → IfSome o (λ c. bs ≡ ds ++ encode_utf8 c) → 1 < length (chars bs) → 0 < length ds
 keeps_front (Some c) bs [] some whole same more =
@@ -120,7 +120,7 @@ no_parts : (xs ys : List ℕ) → [] ≡ xs ++ ys → (xs ≡ []) × (ys ≡ [])
 no_parts [] ys none = (refl, sym none)
 no_parts (x ∷ xs) ys none = absurd (omega (arith, ap length none))
 
--- a text of more than one character keeps a byte when a character leaves
+-- a text of more than one character keeps a byte when a character leaves.
 pub keeps_rest : (bs left rest : List ℕ) (idx c : ℕ) → IsUtf8 bs
     → drop idx bs ≡ encode_utf8 c ++ rest → left ≡ take idx bs ++ rest → 1 < length (chars bs)
     → 0 < length left
@@ -135,14 +135,14 @@ keeps_rest bs [] rest idx c whole cut kept more =
     alone = sym (take-append-drop idx bs) ∙ ap (λ l. l ++ drop idx bs) parts.0 ∙ cut
         ∙ ap (λ l. encode_utf8 c ++ l) parts.1 ∙ append-nil (encode_utf8 c)
 
--- the text of some characters and one more
+-- The text of some characters and one more.
 pub pushed : (cs old new : List ℕ) (c : ℕ) → new ≡ old ++ encode_utf8 c → old ≡ encode_utf8_all cs
     → new ≡ encode_utf8_all (cs ++ c ∷ [])
 pushed cs old new c added spelled = added ∙ ap (λ l. l ++ encode_utf8 c) spelled
     ∙ ap (λ l. encode_utf8_all cs ++ l) (sym (append-nil (encode_utf8 c)))
     ∙ sym (encodes-append cs (c ∷ []))
 
--- the characters that `retain` keeps by a test
+-- The characters that `retain` keeps by a test.
 pub kept_chars : {F : Type 0} (g : Mut F (ℕ × Unit {0}) Bool) (f : F) (bs out : List ℕ)
     → IsUtf8 bs → IsUtf8 out → RetainsChars g f bs out → (keeps : ℕ → Bool) → ActsAs g f keeps
     → chars out ≡ filter keeps (chars bs)

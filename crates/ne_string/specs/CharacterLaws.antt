@@ -22,7 +22,7 @@ HasFirst-chars it some t ended = omega (arith, some, ended.0.0)
 pub HasFirst-bytes : (it : Bytes) → 0 < length (bytes_rest it) → HasFirst bytes_steps it
 HasFirst-bytes it some t ended = omega (arith, some, ended.0)
 
--- the characters yielded are a prefix of those left, and all of them if W holds
+-- The characters yielded are a prefix of those left, and all of them if W holds.
 spelled_prefix : {W : Type 0} (s : Chars) (ys : List ℕ) → IsUtf8 (chars_rest s)
     → DrainsIf chars_steps W s ys
     → (more : List ℕ) × (chars (chars_rest s) ≡ ys ++ more) × (W → more ≡ [])
@@ -48,7 +48,7 @@ module _ (bs : List ℕ) where
       let valid : IsUtf8 (chars_rest it) = subst (λ q. IsUtf8 (chars_rest q)) (sym made.1) made.2 in
       subst (λ l. IsPrefix whole (chars l) ys) rest (spelled_prefix it ys valid given))
 
-  -- an iterator over the characters of a text yields them
+  -- An iterator over the characters of a text yields them.
   pub lists_chars : (w : Chars) → chars_rest w ≡ bs → ListsChars w (chars bs)
   lists_chars w same = (triggered w (chars bs), chars_listed w same)
 
@@ -59,10 +59,10 @@ module _ (bs : List ℕ) where
       (is_prefix bytes_steps bytes_rest (λ s t x st. st) (λ s t st. nil_from_length _ st.0) it ys
       given))
 
-  -- an iterator over the bytes of a text yields them
+  -- An iterator over the bytes of a text yields them.
   pub lists_bytes : (w : Bytes) → bytes_rest w ≡ bs → ListsBytes w bs
   lists_bytes w same = (triggered w bs, bytes_listed w same)
 
--- equal texts feed a hasher alike
+-- Equal texts feed a hasher alike.
 pub alike : (s t : List ℕ) → bytes_eq s t ≡ true → fed.str s ≡ fed.str t
 alike s t same = ap fed.str ((bytes_decides s t).0 same)

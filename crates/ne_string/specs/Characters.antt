@@ -37,7 +37,7 @@ abbrev pub ReplacesUnlessAll : List ℕ → List ℕ → Bool → List ℕ → T
 ReplacesUnlessAll old new replaced made =
     MatchBool replaced ((new ≡ made) × (0 < length made)) ((new ≡ old) × (made ≡ []))
 
--- the text that `retain` returns, which is empty in an error
+-- The text that `retain` returns, which is empty in an error.
 abbrev pub kept_text : Result (List ℕ) (String Global) → List ℕ
 kept_text (Ok s) = s
 kept_text (Err s) = string_bytes s

@@ -29,7 +29,7 @@ pub chunks_counted : {X : Type 0} (n : ℕ) (xs : List X)
     → length (chunks n xs) ≡ chunk_count (length xs) n
 chunks_counted n xs = length-map-range_with_len (chunk n xs) 0 (chunk_count (length xs) n)
 
--- there is a chunk j exactly if there is an item at j * n
+-- There is a chunk j exactly if there is an item at j * n.
 pub chunk_there : {X : Type 0} (n : ℕ) (xs : List X) (j : ℕ) → 0 < n
     → ((j < length (chunks n xs)) ↔ (j * n < length xs))
 chunk_there n xs j p =
@@ -61,7 +61,7 @@ chunk_is n xs j h =
 none_of_none : (n : ℕ) → 0 < n → chunk_count 0 n ≡ 0
 none_of_none n p = parts_up 0 n p ∙ div-eq_of_lt (Prim.omega (arith, p))
 
--- if there is an item, there is one chunk more than of the items after the first n
+-- If there is an item, there is one chunk more than of the items after the first n.
 one_more : (n m : ℕ) → 0 < n → 0 < m → chunk_count m n ≡ suc (chunk_count (m - n) n)
 one_more n m p q =
     let split : m + n - 1 ≡ (m - 1) + n = Prim.omega (arith, p, q) in
@@ -106,7 +106,7 @@ whole : {X : Type 0} (n : ℕ) (xs : List X) → length xs ≤ n → take n xs �
 whole n xs h = sym (append-nil (take n xs)) ∙ ap (λ ys. take n xs ++ ys)
     (sym (drop_of_length-le xs h)) ∙ take-append-drop n xs
 
--- std's iterator cuts off the first chunk, and has the others left
+-- Std's iterator cuts off the first chunk, and has the others left.
 pub first_chunk : {X : Type 0} (n m : ℕ) (xs part left : List X) → 0 < n → m ≡ n → 0 < length xs
     → xs ≡ part ++ left → length part ≡ min n (length xs) → chunks n xs ≡ part ∷ chunks m left
 first_chunk n m xs part left p same q e l =

@@ -24,7 +24,7 @@ partly_decided (Some Less) p n = refl
 partly_decided (Some Equal) p n = absurd (n refl)
 partly_decided (Some Greater) p n = refl
 
--- two results combine to `Equal` only if both are `Equal`
+-- Two results combine to `Equal` only if both are `Equal`.
 both_equal : (o p : Ordering) → ordering_then o p ≡ Equal → (o ≡ Equal) × (p ≡ Equal)
 both_equal Less p e = absurd cc
 both_equal Equal p e = (refl, e)

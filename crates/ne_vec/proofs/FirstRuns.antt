@@ -13,14 +13,14 @@ use Rattle.ne_vec.specs.SliceRuns.{Cutting, ActsAsAtPair, CallableAtPairs, CutsR
 use Rattle.ne_vec.specs.SliceRuns.{TakesPair}
 use Rattle.ne_vec.specs.DivisionLaws.{run_one, run_more}
 
--- the item at place n is the last of the first n + 1 items
+-- The item at place n is the last of the first n + 1 items.
 take_one_more : {A : Type 0} (xs : List A) (n : ℕ) (x : A)
     → slice_get xs n ≡ Some x → take (suc n) xs ≡ take n xs ++ x ∷ []
 take_one_more [] n x e = let e = e in cc
 take_one_more (y ∷ xs) zero x e = let e = e in cc
 take_one_more (y ∷ xs) (suc n) x e = ap (λ l. y ∷ l) (take_one_more xs n x e)
 
--- the item at place n is the first of those that remain
+-- The item at place n is the first of those that remain.
 drop_at : {A : Type 0} (xs : List A) (n : ℕ) (x : A)
     → slice_get xs n ≡ Some x → (rest : List A) × (drop n xs ≡ x ∷ rest)
 drop_at [] n x e = let e = e in cc
@@ -45,7 +45,7 @@ module _ {A : Type 0} (goes_on : List A → A → Bool) where
   run_of_one [] some = absurd (omega (arith, some))
   run_of_one (x ∷ xs) some = run_one goes_on x
 
-  -- if the item at place n continues the run of the items before it, the run is longer by one
+  -- If the item at place n continues the run of the items before it, the run is longer by one.
   pub longer_run : (xs : List A) (n : ℕ) (x : A) → slice_get xs n ≡ Some x
       → IsRun goes_on (take n xs) → goes_on (take n xs) x ≡ true → IsRun goes_on (take (n + 1) xs)
   longer_run xs n x e run on =
@@ -54,19 +54,19 @@ module _ {A : Type 0} (goes_on : List A → A → Bool) where
       (subst (IsRun goes_on) (sym (take_one_more xs n x e))
       (run_more goes_on (take n xs) x run on))
 
-  -- if the item at place n doesn't continue the run, the run ends there
+  -- If the item at place n doesn't continue the run, the run ends there.
   pub run_breaks : (xs : List A) (n : ℕ) (x : A) → slice_get xs n ≡ Some x
       → IsRun goes_on (take n xs) → goes_on (take n xs) x ≡ false → IsFirstRun goes_on xs n
   run_breaks xs n x e run off =
       let rest = drop_at xs n x e in
       (run, subst (Breaks goes_on (take n xs)) (sym rest.1) off)
 
-  -- if there is no item at place n, the run is the whole list
+  -- If there is no item at place n, the run is the whole list.
   pub run_is_all : (xs : List A) (n : ℕ)
       → length xs ≤ n → IsRun goes_on (take n xs) → IsFirstRun goes_on xs n
   run_is_all xs n e run = (run, subst (Breaks goes_on (take n xs)) (sym (drop_all n xs e)) tt)
 
--- the item at place k is in the first n items too
+-- The item at place k is in the first n items too.
 pub prefix_read : {A : Type 0} (xs : List A) (n k : ℕ) (x : A) → n ≤ length xs → k < n
     → x ≡ slice_index_or xs k x → slice_get (take n xs) k ≡ Some x
 prefix_read xs n k x within inside read =
@@ -90,7 +90,7 @@ module _ {A : Type 0} (goes_on : List A → A → Bool) where
   breaks_before run rest ((x ∷ r) ∷ all) breaks d =
       (subst (Breaks goes_on run) (sym d.whole) breaks, d.breaks)
 
-  -- a run, and the division of the items after it
+  -- a run, and the division of the items after it.
   run_before : (xs run rest : List A) (all : List (List A)) → xs ≡ run ++ rest
       → IsRun goes_on run → Breaks goes_on run rest
       → IsDivision goes_on rest all → IsDivision goes_on xs (run ∷ all)
@@ -100,7 +100,7 @@ module _ {A : Type 0} (goes_on : List A → A → Bool) where
     breaks = breaks_before run rest all breaks d;
   }
 
--- the runs that were yielded, followed by the division of the items left
+-- The runs that were yielded, followed by the division of the items left.
 pub runs_before : {A F : Type 0} (calls : Shared F (Bor A × (Bor A × Unit {0})) Bool)
     (place : (A → A → Bool) → List A → A → Bool) (same : A → A → Bool)
     (s t : Cutting A F) (rs all : List (List A))

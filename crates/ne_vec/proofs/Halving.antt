@@ -31,7 +31,7 @@ module _ {F A R : Type 0} (calls : Mut F (Bor A × Unit {0}) R) (xs : List A) wh
       stays_callable shown j g later
       (mut_next calls f (called.shown, tt) r j j called.called refl always)
 
-  -- the closure may be called with the items if it may be called with any value
+  -- The closure may be called with the items if it may be called with any value.
   pub items_always : (f : F) → always_mut calls f → CallableAtItems calls f xs
   items_always f always =
       record {
@@ -59,11 +59,11 @@ greater Equal h = absurd cc
 greater Greater h = refl
 
 module _ {A : Type 0} (order : A → Ordering) (xs : List A) where
-  -- the items are in ascending order
+  -- The items are in ascending order.
   abbrev Rises : Type 0
   Rises = IsNonDecreasingBy (λ y. ordering_index (order y)) xs
 
-  -- base is 0, or its item is not `Greater`; in ascending items each from base + size on is
+  -- base is 0, or its item is not `Greater`; in ascending items each from base + size on is.
   pub record Narrowed (base size : ℕ) : Type 0 where
     pub low : (base ≡ 0) ⊎ HoldsAt (λ y. is_gt (order y) ≡ false) xs base
     pub high : IsNonDecreasingBy (λ y. ordering_index (order y)) xs
@@ -131,7 +131,7 @@ module _ {A K : Type 0} {cmp : K → K → Ordering} (total : IsTotalOrder cmp) 
         | inr s ↦ absurd (omega (arith, s.0))
       ]
 
-  -- what a search finds among items whose keys ascend
+  -- What a search finds among items whose keys ascend.
   pub items_of : (r : Result ℕ ℕ) → IsSearchInRange r (length xs)
       → IsBinarySearchResult (λ y. cmp (key y) k) xs r → KeysAscend key cmp xs
       → MatchResult r (HasKeyAt key cmp k xs) (λ _. All (λ x. cmp (key x) k ≢ Equal) xs)
@@ -141,7 +141,7 @@ module _ {A K : Type 0} {cmp : K → K → Ordering} (total : IsTotalOrder cmp) 
       λ j d lt e. unequal _ e
       (⊎_elim (λ l. inl (p.0 j d (omega arith) l)) (λ l. inr (p.1 j d l lt)) (cases_lt j i))
 
-  -- from a search among items to one among their keys
+  -- From a search among items to one among their keys.
   pub keys_of : (r : Result ℕ ℕ) → IsSearchInRange r (length xs)
       → IsBinarySearchResult (λ y. cmp (key y) k) xs r
       → MatchResult r (HasKeyAt key cmp k xs)

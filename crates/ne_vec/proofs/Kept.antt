@@ -32,7 +32,7 @@ module _ {S A : Type 0} (R : S → A → A → Bool → S → A → A → Type 0
   stays_from s k (x ∷ xs) ys (true, t, x', k', called, rest) = stays_from t k' xs ys rest
   stays_from s k (x ∷ xs) ys (false, t, x', k', called, rest) = rw rest.2 (Prim.omega arith)
 
-  -- at least one item stays
+  -- At least one item stays.
   pub stays : (s : S) (xs ys : List A) → IsDeduped R s xs ys → 0 < length xs → 0 < length ys
   stays s [] ys d some = absurd (Prim.omega (arith, some))
   stays s (x ∷ xs) ys d some = stays_from s x xs ys d.told
@@ -60,7 +60,7 @@ module _ {A : Type 0} (same : A → A → Bool) where
       slice_get (cond b (dedup_from same k xs) (k ∷ dedup_from same x xs)) 0 ≡ Some k)
       [ true ↦ first_from xs k | false ↦ refl ]
 
-  -- the items that `dedup` keeps are the first items of the runs
+  -- The items that `dedup` keeps are the first items of the runs.
   pub keeps_firsts : (xs ys : List A) → ys ≡ dedup same xs
       → KeepsFirsts (λ kept later. same later kept) xs ys
   unfolding runs_of

@@ -12,7 +12,7 @@ use Rattle.ne_vec.specs.Searches.{CallableOnItems}
 use Rattle.std.proofs.lemmas.List.Elements.{All-cons}
 
 module _ {F A : Type 0} (calls : Mut F (A × Unit {0}) A) where
-  -- f may be called with the items of xs in turn
+  -- f may be called with the items of xs in turn.
   abbrev pub Each : F → List A → Type 0
   Each f [] = ⊤
   Each f (x ∷ xs) = Takes calls f (x, tt)
@@ -31,7 +31,7 @@ module _ {F A : Type 0} (calls : Mut F (A × Unit {0}) A) where
         }),
       )
 
-  -- after i turns: what f returns for the items that are left completes the results
+  -- After i turns: what f returns for the items that are left completes the results.
   pub record Turn (first : F) (xs : List A) (f : F) (items : List A) (i : ℕ) : Type 0 where
     pub done : List A
     pub left : List A
@@ -104,7 +104,7 @@ module _ {F A : Type 0} (calls : Mut F (A × Unit {0}) A) where
           rw (turn.split) (over turn.done turn.left (rw (turn.count, ← turn.split) end)
           turn.completes)
 
-  -- the results of calls of a function are those of the function
+  -- The results of calls of a function are those of the function.
   pub are_mapped : (f : F) (xs ys : List A) (g : F) (h : A → A) → ActsAs calls f h
       → Calls calls f xs ys g → ys ≡ map h xs
   are_mapped f [] [] g h acts same = refl

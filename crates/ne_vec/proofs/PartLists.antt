@@ -31,7 +31,7 @@ is_divide place same (x ∷ xs) = refl
 
 module _ {A F : Type 0} (calls : Shared F (Bor A × (Bor A × Unit {0})) Bool)
     (place : (A → A → Bool) → List A → A → Bool) where
-  -- the runs yielded are a prefix of the runs, and those of the items left are the others
+  -- The runs yielded are a prefix of the runs, and those of the items left are the others.
   runs_came : (same : A → A → Bool) (s t : Cutting A F) (rs : List (List A))
       → ActsAsAtPair calls s.closure same → Yields (CutsRun calls place) s rs t
       → runs_of place same s.left ≡ rs ++ runs_of place same t.left
@@ -65,7 +65,7 @@ module _ {A F : Type 0} (calls : Shared F (Bor A × (Bor A × Unit {0})) Bool)
     ),
   )
 
--- the first items of lists that are not empty, each through a function
+-- The first items of lists that are not empty, each through a function.
 heads_at : {A W : Type 0} (goes_on : List A → A → Bool) (any : A) (key : A → W) (rs : List (List A))
     → AllByRecursion (IsRun goes_on) rs
     → map key (heads rs) ≡ map (λ run. key (slice_index_or run 0 any)) rs

@@ -19,7 +19,7 @@ use Rattle.ne_vec.specs.Searches.{CallableAtItems, CallableAtItemsMut, TakesAtMu
 use Rattle.std.proofs.lemmas.List.Elements.{All-cons}
 use denote.Param.Always.{always_mut, mut_next}
 
--- a swap of k and i leaves the first k items, and those past i
+-- a swap of k and i leaves the first k items, and those past i.
 module _ {X : Type 0} (ys : List X) (k i : ℕ) (y : X) (le : k ≤ i) (lt : i < length ys) where
   pub front_swap : take k ys ≡ take k (swap ys k i)
   front_swap =
@@ -31,7 +31,7 @@ module _ {X : Type 0} (ys : List X) (k i : ℕ) (y : X) (le : k ≤ i) (lt : i <
       rw (← swap_is ys k i y (omega arith) lt)
       (sym (drop-set-lt (i + 1) _ i _ (omega arith) ∙ drop-set-lt (i + 1) ys k _ (omega arith)))
 
--- a swap between two parts of a list
+-- a swap between two parts of a list.
 pub parts_swapped : {X : Type 0} (fs bs : List X) (k : ℕ) (x z : X) → k < length fs
     → 0 < length bs → x ≡ get_or bs 0 x → z ≡ get_or fs k z
     → set fs k x ++ set bs 0 z ≡ swap (fs ++ bs) k (length fs)
@@ -48,7 +48,7 @@ parts_swapped fs (b ∷ bs) k x z lt some first second =
     ) (subst (λ n. set fs k b ++ z ∷ bs ≡ set (set fs k b ++ b ∷ bs) n z) (length-set fs k b)
     (sym (set-append_seam (set fs k b) b bs z))))
 
--- a turn at i, with k items kept so far, where the call left y
+-- a turn at i, with k items kept so far, where the call left y.
 module _ {S X : Type 0} (R : S → X → Bool → S → X → Type 0) (s₀ : S) (xs : List X) (s t : S)
     (ys : List X) (k i : ℕ) (x y : X) (le : k ≤ i) (lt : i < length ys) (is : x ≡ get_or ys i x)
     (h : RetainMutInvariant R s₀ xs s ys k i) where
@@ -58,7 +58,7 @@ module _ {S X : Type 0} (R : S → X → Bool → S → X → Type 0) (s₀ : S)
   long : i < length written
   long = omega (arith, length-set ys i y)
 
-  -- the first k + 1 items are then as after a copy to k
+  -- The first k + 1 items are then as after a copy to k.
   copied : take (k + 1) (set written k y) ≡ take (k + 1) (swap written k i)
   copied =
       let size = length-set ys i y in
@@ -78,12 +78,12 @@ module _ {S X : Type 0} (R : S → X → Bool → S → X → Type 0) (s₀ : S)
   unmoved same = same_lists _ _ (length-set written k y) (λ j d h.
       grind (arith, places, get_or-set_same, cases_eq j k, same, lt, length-set ys i y))
 
-  -- an item that stays where it is, as all before it
+  -- An item that stays where it is, as all before it.
   pub stayed : k ≡ i → R s x true t y → RetainMutInvariant R s₀ xs t written (k + 1) (i + 1)
   stayed same called = subst (λ l. RetainMutInvariant R s₀ xs t l (k + 1) (i + 1)) (unmoved same)
       (sift_on R s₀ xs s t ys k i x y le lt is h true called)
 
-  -- an item that goes may stand anywhere behind those that are kept, up to i
+  -- An item that goes may stand anywhere behind those that are kept, up to i.
   pub passed_over : (ws : List X) → take k ws ≡ take k written
       → drop (i + 1) ws ≡ drop (i + 1) written → R s x false t y
       → RetainMutInvariant R s₀ xs t ws k (i + 1)
@@ -96,7 +96,7 @@ module _ {S X : Type 0} (R : S → X → Bool → S → X → Type 0) (s₀ : S)
 -- ---- calls with the items in turn
 
 module _ {F A R : Type 0} (calls : Mut F (MutBor A × Unit {0}) (R × (MutBor A × Unit {0}))) where
-  -- f may be called with the items of xs in turn
+  -- f may be called with the items of xs in turn.
   abbrev pub InTurn : F → List A → Type 0
   InTurn f [] = ⊤
   InTurn f (x ∷ xs) = TakesAtMut calls f x
@@ -181,7 +181,7 @@ module _ {F A R : Type 0} (calls : Mut F (MutBor A × Unit {0}) (R × (MutBor A 
       always_on shown j g later (mut_next calls f (called.shown, tt) (r, (called.left, tt)) j j
       called.called refl always)
 
-  -- the closure may be called with the items if it may be called with any value
+  -- The closure may be called with the items if it may be called with any value.
   pub items_always_mut : (f : F) (xs : List A) → always_mut calls f
       → CallableAtItemsMut calls f xs
   items_always_mut f xs always =

@@ -24,7 +24,7 @@ tie_back Less = refl
 tie_back Equal = refl
 tie_back Greater = refl
 
--- two lists that have only items that pass are equal, if they are equal whenever some item passes
+-- Two lists that have only items that pass are equal, if they are equal whenever some item passes.
 by_passing : {A : Type 0} (P : A → Type 0) (us vs : List A) → All P us → All P vs
     → ((x : A) → P x → us ≡ vs) → us ≡ vs
 by_passing P [] [] a b same = refl
@@ -37,7 +37,7 @@ module _ {A K : Type 0} {cmp : K → K → Ordering} (total : IsTotalOrder cmp) 
   ascend ys up = sorted_far _ (ranks_by total key) ys up
 
   module _ {eq : K → K → Bool} (equal : (j k : K) → eq j k ≡ eq_by_cmp cmp j k) where
-    -- if x has the key k, the items with the key k are those that tie with x
+    -- If x has the key k, the items with the key k are those that tie with x.
     ties_at : (k : K) (x : A) → eq (key x) k ≡ true
         → (y : A) → eq (key y) k ≡ ties (λ a b. is_lt (cmp (key a) (key b))) x y
     ties_at k x at y =

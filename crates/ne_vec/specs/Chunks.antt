@@ -6,15 +6,15 @@ use Rattle.std.specs.Slice.Iter.{chunk_count, chunks_rest, chunks_size}
 use Rattle.std.specs.declared.slice.Chunks.{Chunks}
 use Rattle.ne_vec.specs.Lists.{Listed}
 
--- chunk j: the items from place j * n up to place (j + 1) * n, or to the end
+-- Chunk j: the items from place j * n up to place (j + 1) * n, or to the end.
 abbrev pub chunk : {X : Type 0} → ℕ → List X → ℕ → List X
 chunk n xs j = take n (drop (j * n) xs)
 
--- all chunks of xs, if n is not 0: chunk j for each j such that xs has an item at place j * n
+-- All chunks of xs, if n is not 0: chunk j for each j such that xs has an item at place j * n.
 abbrev pub chunks : {X : Type 0} → ℕ → List X → List (List X)
 chunks n xs = map (chunk n xs) (range_with_len 0 (chunk_count (length xs) n))
 
--- the chunks that std's iterator `it` has left
+-- The chunks that std's iterator `it` has left.
 abbrev pub chunks_left : {X : Type 0} → Chunks X → List (List X)
 chunks_left it = chunks (chunks_size it) (chunks_rest it)
 

@@ -17,7 +17,7 @@ head_is e = cc
 pub tail_is : {A : Type 0} {x y : A} {xs ys : List A} → x ∷ xs ≡ y ∷ ys → xs ≡ ys
 tail_is e = cc
 
--- an item y in a split of the list r, followed by x, is x itself or an item of r
+-- An item y in a split of the list r, followed by x, is x itself or an item of r.
 split_last : {A : Type 0} (r prefix : List A) (x y : A) (back : List A)
     → r ++ x ∷ [] ≡ prefix ++ y ∷ back → ((prefix ≡ r) × (y ≡ x))
     ⊎ ((inner : List A) × (r ≡ prefix ++ y ∷ inner))
@@ -205,7 +205,7 @@ module _ {A : Type 0} (goes_on : List A → A → Bool) where
         (sym (divide_only xs (rs ++ last ∷ []) h)),
   )
 
-  -- one more item continues the last run, or begins a new one
+  -- One more item continues the last run, or begins a new one.
   pub division_goes_on : (xs : List A) (x : A) (rs : List (List A)) (last : List A)
       → IsDivision goes_on xs (rs ++ last ∷ []) → goes_on last x ≡ true
       → IsDivision goes_on (xs ++ x ∷ []) (rs ++ (last ++ x ∷ []) ∷ [])

@@ -10,7 +10,7 @@ module _ {A K : Type 0} (key : A → K) where
   KeysAscend cmp xs = (i j : ℕ) (d : A) → i ≤ j → j < length xs
       → is_lt (cmp (key (slice_index_or xs j d)) (key (slice_index_or xs i d))) ≡ false
 
-  -- the items that have the key k, in order
+  -- The items that have the key k, in order.
   abbrev pub tied : (K → K → Bool) → K → List A → List A
   tied eq k xs = filter (λ x. eq (key x) k) xs
 

@@ -17,7 +17,7 @@ pub data Order (A : Type 0) : Type 0 where
   reversed : Order A → Order A
   and_then : Order A → Order A → Order A
 
--- how the order compares x with y
+-- How the order compares x with y.
 abbrev pub compare : {A : Type 0} → Order A → A → A → Ordering
 compare (by_number number) x y = nat_cmp (number x) (number y)
 compare (by_signed number) x y = int_cmp (number x) (number y)

@@ -10,7 +10,7 @@ use Rattle.ne_vec.specs.Lists.{Became, YieldsPrefixes, YieldsItems, YieldsThroug
 use Rattle.ne_vec.specs.Lists.{YieldsPrefixesThrough}
 use Rattle.ne_vec.specs.ListLaws.{triggered, of_lists}
 
--- the calls of a run from `it` yield `p.items`, and then `None` if the run is whole
+-- The calls of a run from `it` yield `p.items`, and then `None` if the run is whole.
 pub run_drains : {S A : Type 0} (steps : S → Option A → S → Type 0) (p : Run steps) (it : S)
     → p.from ≡ it → DrainsIf steps (p.whole ≡ true) it p.items
 run_drains steps p it from = subst (λ s. DrainsIf steps (p.whole ≡ true) s p.items) from (took p)

@@ -1,5 +1,5 @@
--- Laws for who searches a list: the calls that a search makes of its closure, also of one that calls
--- another with the same item, and what a search by whether an item meets a test finds.
+-- Laws for who searches a list: the calls that a search makes of its closure, also of a closure
+-- that calls another one with the same item, and what a search by a test finds.
 use Rattle.std.proofs.Common.{◌≡◌, ◌⊎◌, inl, inr, ℕ, ◌<◌, Bool, true, false, List, [], ◌∷◌, length}
 use Rattle.std.proofs.Common.{refl, sym, ap, subst, ◌∙◌, arith}
 use Rattle.std.proofs.lemmas.Fn.{always_returns_same, answers_by}
@@ -17,7 +17,7 @@ use Rattle.core.proofs.slice.Orders.{answers_next}
 use Rattle.ne_vec.specs.Searches.{CallableAtItems}
 
 module _ {F A R : Type 0} (calls : Mut F (Bor A × Unit {0}) R) (xs : List A) where
-  -- the closure may still be called after a call with an item
+  -- The closure may still be called after a call with an item.
   pub items_next : (f : F) (i : ℕ) (x : A) (r : R) (g : F) → i < length xs
       → x ≡ slice_index_or xs i x → CalledAt calls f x r g
       → CallableAtItems calls f xs → CallableAtItems calls g xs
@@ -27,13 +27,13 @@ module _ {F A R : Type 0} (calls : Mut F (Bor A × Unit {0}) R) (xs : List A) wh
             (All-cons (Contains xs) x shown (i, inside, sym read) among) (g, (r, called), folds);
       }
 
-  -- the closure may be called with the item at a place
+  -- The closure may be called with the item at a place.
   pub items_take : (f : F) (i : ℕ) (x : Bor A) → i < length xs
       → x.now ≡ slice_index_or xs i x.now → CallableAtItems calls f xs → calls.pre f (x, tt)
   items_take f i x inside read callable =
       callable.at [] f (λ k d h. absurd (omega arith)) refl i x.now inside x read
 
--- a closure that acts as a function returns its values
+-- a closure that acts as a function returns its values.
 pub computes : {F A K : Type 0} (calls : Mut F (Bor A × Unit {0}) K) (f : F) (key : A → K)
     → ActsAsAt calls f key → ComputesKey calls key f
 computes calls f key acts =
@@ -73,7 +73,7 @@ module _ {F G A K R : Type 0} (inner : Mut F (Bor A × Unit {0}) K)
       (t.0 ∙ ap of (n.0 ∙ ap key s.1.shows), (t.1, n.1)))
       g (fix, computes)
 
--- how a test is searched by: items that meet it are less
+-- How a test is searched by: items that meet it are less.
 abbrev pub side : Bool → Ordering
 side met = cond met Less Greater
 
@@ -88,7 +88,7 @@ rises true q h = omega arith
 rises false true h = let e = h refl in absurd cc
 rises false false h = omega arith
 
--- from such a search to the place between the items that meet the test and the others
+-- From such a search to the place between the items that meet the test and the others.
 pub partition_of : {A : Type 0} (meets : A → Bool) (xs : List A) (r : Result ℕ ℕ) (i : ℕ)
     → IsPartitionedBy meets xs → IsBinarySearchResult (λ y. side (meets y)) xs r
     → (r ≡ Ok i) ⊎ (r ≡ Err i)

@@ -8,7 +8,7 @@ use Rattle.std.specs.Fn.{Shared, FnReturnsAtPair}
 use Rattle.ne_vec.specs.Divisions.{IsRun, Breaks, heads, runs_of}
 use Rattle.ne_vec.specs.Lists.{Listed, Naming}
 
--- the first n items of xs are its first run
+-- The first n items of xs are its first run.
 abbrev pub IsFirstRun : {A : Type 0} → (List A → A → Bool) → List A → ℕ → Type 0
 IsFirstRun goes_on xs n = IsRun goes_on (take n xs) × Breaks goes_on (take n xs) (drop n xs)
 
@@ -23,15 +23,15 @@ abbrev pub BecomesCutter : {A F : Type 0} → Cutting A F → Cutting A F → Ty
 BecomesCutter s it = (0 < length s.left) × (length s.left < 2 ^ 64) × (it ≡ s)
 
 module _ {A F : Type 0} (calls : Shared F (Bor A × (Bor A × Unit {0})) Bool) where
-  -- each call of f with references to x and y returns same x y
+  -- Each call of f with references to x and y returns same x y.
   abbrev pub ActsAsAtPair : F → (A → A → Bool) → Type 0
   ActsAsAtPair f same = (x y : A) (r : Bool) → FnReturnsAtPair calls f x y r → r ≡ same x y
 
-  -- f may be called with references to x and y
+  -- f may be called with references to x and y.
   abbrev pub TakesPair : F → A → A → Type 0
   TakesPair f x y = (v w : Bor A) → v.now ≡ x → w.now ≡ y → calls.pre f (v, (w, tt))
 
-  -- f may be called with any two items of xs
+  -- f may be called with any two items of xs.
   abbrev pub CallableAtPairs : F → List A → Type 0
   CallableAtPairs f xs = All (λ x. All (TakesPair f x) xs) xs
 

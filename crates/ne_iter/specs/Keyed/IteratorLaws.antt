@@ -9,7 +9,7 @@ use Rattle.ne_iter.specs.Keyed.Iterators.{FindsEach, IteratesKnown}
 use Rattle.ne_iter.specs.Sources.{HasFirst, SameLists}
 use Rattle.ne_iter.specs.SourceLaws.{SameLists-through}
 
--- each entry has its value at its key if that is so of the key and the value at each place
+-- Each entry has its value at its key if that is so of the key and the value at each place.
 pub finds_each : {K V : Type 0} (value : K → Option V) (es : List (K × V))
     → ((i : ℕ) (k : K) (v : V) → slice_get es i ≡ Some (k, v) → value k ≡ Some v)
     → FindsEach value es
@@ -19,12 +19,12 @@ finds_each {K} {V} value es found i = at (slice_get es i) refl
     at None is = tt
     at (Some e) is = found i e.0 e.1 is
 
--- an iterator whose value is the list of the entries that it has left
+-- An iterator whose value is the list of the entries that it has left.
 pub HasFirst-entries : {A X : Type 0} (shows : A → X) (it : List X) → 0 < length it
     → HasFirst (TakesFirst shows) it
 HasFirst-entries shows it some t ended = omega (arith, some, ap length ended.0)
 
--- an iterator that returns mutable references to values
+-- An iterator that returns mutable references to values.
 pub HasFirst-lent : {S K X : Type 0} (rest : S → List (K × X)) (it : S) → 0 < length (rest it)
     → HasFirst (LendsFirst rest) it
 HasFirst-lent rest it some t ended = omega (arith, some, ap length ended.0)
@@ -37,7 +37,7 @@ module _ {A X : Type 0} (known : List X → Type 0) (shows : A → X) where
       (viewed_prefix (TakesFirst shows) shows (λ s. s) (λ s t x st. st) (λ s t st. st.0) it ys
       given)
 
-  -- an iterator yields the entries that it has left
+  -- An iterator yields the entries that it has left.
   pub lists_known : (w es : List X) → w ≡ es → Listed (IteratesKnown known) (TakesFirst shows) shows
       w es
   lists_known w es same = (triggered w es, all_given w es same)

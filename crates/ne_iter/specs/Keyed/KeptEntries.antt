@@ -5,7 +5,7 @@ use Rattle.std.specs.List.{filter}
 use Rattle.std.specs.Map.Calls.{CalledAtPair}
 use denote.Param.Members.{Mut}
 
--- the collection that is returned, which has an item if it is `Ok` and none if it is `Err`
+-- The collection that is returned, which has an item if it is `Ok` and none if it is `Err`.
 abbrev pub either_way : {A : Type 0} → Result A A → A
 either_way (Ok a) = a
 either_way (Err a) = a
@@ -18,7 +18,7 @@ abbrev pub ActsAsAtEntry : {F K V : Type 0}
 ActsAsAtEntry {F} {K} {V} g f keeps writes = (k : K) (v : V) (kept : Bool) (w : V) (f' : F)
     → CalledAtPair g f k v kept w f' → (f' ≡ f) × (kept ≡ keeps k v) × (w ≡ writes k v)
 
--- the entries for which `keeps` is true, in order, with the values that `writes` says
+-- The entries for which `keeps` is true, in order, with the values that `writes` says.
 abbrev pub kept_entries : {K V : Type 0} → (K → V → Bool) → (K → V → V) → List (K × V)
     → List (K × V)
 kept_entries keeps writes es = map (λ e. (e.0, writes e.0 e.1)) (filter (λ e. keeps e.0 e.1) es)

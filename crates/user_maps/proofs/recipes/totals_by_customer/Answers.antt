@@ -33,7 +33,7 @@ loop-sale-preserved c = λ name.
     let any = list_any_more (λ s. bytes_eq name (string_bytes s.customer))
     sales so_far sale (grind arith) in
     let was = c.loop-sale.invariant name in
-    -- what `get` returned, in the words of the invariant
+    -- What `get` returned, in the words of the invariant.
     let got : option_copied c.get.result
     ≡ get_by_text c.loop-sale.totals (string_bytes sale.customer) = c.get.ensures.value in
     let found = btree_map_text_after c.in_ok-key.key name c.loop-sale.totals.entries

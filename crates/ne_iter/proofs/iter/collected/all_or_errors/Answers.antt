@@ -1,5 +1,6 @@
 use Rattle.ne_iter.proofs.iter.collected.all_or_errors.Goals as goal
-use Rattle.std.proofs.Common.{◌≡◌, ◌++◌, ◌∷◌, ◌∙◌, append_assoc, append-nil, ap, arith, rules, subst}
+use Rattle.std.proofs.Common.{◌≡◌, ◌++◌, ◌∷◌, ◌∙◌, append_assoc, append-nil, ap, arith}
+use Rattle.std.proofs.Common.{rules, subst}
 use Rattle.std.proofs.Common.{sym}
 use Rattle.std.proofs.lemmas.Grind.{common_steps}
 use Rattle.std.specs.Iterator.{Yields}

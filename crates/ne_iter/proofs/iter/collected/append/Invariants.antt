@@ -2,7 +2,7 @@ use Rattle.ne_iter.proofs.iter.collected.append.Given as goal
 use Rattle.std.proofs.Common.{◌≡◌, ◌++◌, List}
 use Rattle.std.specs.Iterator.{IsFinite, Yields, items_left}
 
--- the items are those that were there and those that came
+-- The items are those that were there and those that came.
 abbrev pub invariant-loop-item : goal.invariant-loop-item
 invariant-loop-item g l = (yielded : List g.row.T.Denot)
     × Yields g.I.Iterator.next_gives l.initial.rest yielded l.rest

@@ -3,7 +3,7 @@ use Rattle.std.proofs.Common.{◌≡◌, ◌++◌}
 use Rattle.std.proofs.iter.Next.{Ran}
 use Rattle.std.specs.Iterator.{EndsFrom, items_left}
 
--- the items are those that were there and those of the items so far
+-- The items are those that were there and those of the items so far.
 abbrev pub invariant-loop-item : goal.invariant-loop-item
 invariant-loop-item g l = Ran g.I.Iterator.can_next (EndsFrom g.I.Iterator.remaining)
     (items_left g.I.Iterator.remaining) g.I.Iterator.next_gives

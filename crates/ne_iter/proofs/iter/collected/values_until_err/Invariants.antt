@@ -3,7 +3,7 @@ use Rattle.std.proofs.Common.{◌≡◌, ◌<◌, ◌++◌, List, map, vec_len}
 use Rattle.std.specs.Prelude.{Result, Ok}
 use Rattle.std.specs.Iterator.{IsFinite, Yields, items_left}
 
--- the values are that of the first item and those of the items so far
+-- The values are that of the first item and those of the items so far.
 abbrev pub invariant-loop-value : goal.invariant-loop-value
 invariant-loop-value g l = (yielded : List (Result g.row.T.Denot g.row.E.Denot))
     × Yields g.I.Iterator.next_gives l.initial.rest yielded l.rest

@@ -33,7 +33,8 @@ returns-clause-lists g c =
     IfOk-weaker c.join.result _ _ (λ text (xs, read, says).
     each_view_read (λ view ys. IsJoined output view separator ys (string_bytes text))
     g.Self.NonEmptyIterator.item_view xs read (λ view show shows.
-    says (λ x. show (view.of x)) shows ∙ join_by-map view.of show separator xs)) (returns-clause-gives g c)
+    says (λ x. show (view.of x)) shows ∙ join_by-map view.of show separator xs))
+    (returns-clause-gives g c)
 
 pub returns-clause-runs : goal.returns-clause-runs
 returns-clause-runs g c =

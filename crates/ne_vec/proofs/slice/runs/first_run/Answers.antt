@@ -12,7 +12,7 @@ loop-end-init g c = (
   λ test acts. run_of_one (g.C.Comparison.place test) c.args.items.now c.requires.not_empty,
 )
 
--- an item doesn't continue the run
+-- An item doesn't continue the run.
 pub returns-then-not-same-clause-run : goal.returns-then-not-same-clause-run
 returns-then-not-same-clause-run g c test acts =
     let i = c.loop-end.invariant in
@@ -41,7 +41,7 @@ loop-end-preserved g c = (
       ∙ c.if-not-same.false),
 )
 
--- no item is left
+-- No item is left.
 pub returns-clause-run : goal.returns-clause-run
 returns-clause-run g c test acts =
     run_is_all (g.C.Comparison.place test) c.args.items.now c.loop-end.end

@@ -3,7 +3,7 @@ use Rattle.std.proofs.Common.{length, ◌-◌, ◌<◌, ◌≤◌, Bool, take}
 use Rattle.ne_vec.specs.Divisions.{IsRun}
 use Rattle.ne_vec.specs.SliceRuns.{ActsAsAtPair}
 
--- the items before `end` are a run
+-- The items before `end` are a run.
 abbrev pub invariant-loop-end : goal.invariant-loop-end
 invariant-loop-end g l = (0 < l.end) × (l.end ≤ length l.items)
     × ((test : g.row.T.Denot → g.row.T.Denot → Bool)

@@ -16,7 +16,7 @@ invariant-loop-kept g l = record {
 abbrev pub decreases-loop-kept : goal.decreases-loop-kept
 decreases-loop-kept g l = length l.items - l.seen
 
--- once an item has gone, the items that stay move
+-- Once an item has gone, the items that stay move.
 abbrev pub invariant-loop-i : goal.invariant-loop-i
 invariant-loop-i g l = record {
   low : l.kept ≤ l.i;

@@ -84,7 +84,7 @@ loop-item-preserved g c =
       omega (arith, (came.goes.on i.5).2, i.6),
     )
 
--- an item with another key was taken
+-- An item with another key was taken.
 pub returns-else-goes_on-clause-steps : goal.returns-else-goes_on-clause-steps
 returns-else-goes_on-clause-steps g c =
     let i = c.loop-item.invariant in
@@ -97,7 +97,7 @@ returns-else-goes_on-clause-steps g c =
           (subst (λ v. v ≡ false) c.eq-goes_on.ensures c.if-goes_on.false) refl;
     }
 
--- the source ended
+-- The source ended.
 pub returns-clause-steps : goal.returns-clause-steps
 returns-clause-steps g c =
     let i = c.loop-item.invariant in record {
@@ -107,7 +107,7 @@ returns-clause-steps g c =
           _ _ (i.0 s f rs h) c.in_default-next.ensures.steps refl i.1;
     }
 
--- the key is computed
+-- The key is computed.
 pub call_mut-requires : goal.call_mut-requires
 call_mut-requires g c =
     let steps = g.I.Iterator.next_gives in

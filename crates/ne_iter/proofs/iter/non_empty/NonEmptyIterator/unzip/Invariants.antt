@@ -1,7 +1,7 @@
 use Rattle.ne_iter.proofs.iter.non_empty.NonEmptyIterator.unzip.Given as goal
 use Rattle.std.proofs.Common.{List, map, ◌++◌}
 
--- each collection holds what it held before the loop, and the parts of the items s
+-- Each collection holds what it held before the loop, and the parts of the items s.
 abbrev pub invariant-loop-a : goal.invariant-loop-a
 invariant-loop-a g l = ((ps : List (g.row.A.Denot × g.row.B.Denot))
     → g.FromA.Singleton.collected (map (λ p. p.0) ps) l.initial.firsts

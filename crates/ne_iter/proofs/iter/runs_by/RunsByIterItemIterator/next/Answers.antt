@@ -102,7 +102,7 @@ loop-item-preserved g c =
       omega (arith, (came.goes.on i.6).2, i.7),
     )
 
--- an item that begins another run was taken
+-- An item that begins another run was taken.
 pub returns-else-goes_on-clause-steps : goal.returns-else-goes_on-clause-steps
 returns-else-goes_on-clause-steps g c =
     let i = c.loop-item.invariant in record {
@@ -116,7 +116,7 @@ returns-else-goes_on-clause-steps g c =
           (says_at_two g.F.Fn c.call-goes_on.ensures c.if-goes_on.false)));
     }
 
--- the source ended
+-- The source ended.
 pub returns-clause-steps : goal.returns-clause-steps
 returns-clause-steps g c =
     let i = c.loop-item.invariant in record {

@@ -2,11 +2,11 @@ use Rattle.ne_iter.proofs.iter.scan.ScanIterIterator.next.Goals as goal
 use Rattle.std.proofs.Common.{rules, refl}
 use Rattle.std.proofs.iter.Next.{served, Serves-on, Called-on}
 
--- the closure may be called with the item that was yielded
+-- The closure may be called with the item that was yielded.
 pub f-requires : goal.f-requires
 f-requires g c = search (rules, served c.requires.1 c.in_ok-item.item _ c.in_ok-item.ensures.steps)
 
--- and with the later items
+-- And with the later items.
 pub returns-clause-goes : goal.returns-clause-goes
 returns-clause-goes g c =
     let goes = c.in_ok-item.ensures.goes in

@@ -105,7 +105,7 @@ loop-item-preserved g c =
       rw c.in-Ok-push.ensures.added (begins_more g.F.Fn _ _ _ _ i.8),
     )
 
--- an item with another key was taken
+-- An item with another key was taken.
 pub returns-else-goes_on-clause-steps : goal.returns-else-goes_on-clause-steps
 returns-else-goes_on-clause-steps g c =
     let i = c.loop-item.invariant in
@@ -120,7 +120,7 @@ returns-else-goes_on-clause-steps g c =
           ∙ (subst (λ v. v ≡ false) c.eq-goes_on.ensures c.if-goes_on.false));
     }
 
--- the source ended
+-- The source ended.
 pub returns-clause-steps : goal.returns-clause-steps
 returns-clause-steps g c =
     let i = c.loop-item.invariant in record {
@@ -131,7 +131,7 @@ returns-clause-steps g c =
           i.0 c.in_default-next.ensures.steps);
     }
 
--- the key is requested
+-- The key is requested.
 pub call-requires : goal.call-requires
 call-requires g c =
     let calls = by_keys g.F.Fn g.K.PartialEq.eq in

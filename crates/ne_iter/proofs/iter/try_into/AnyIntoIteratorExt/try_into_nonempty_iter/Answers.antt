@@ -52,7 +52,7 @@ returns-else-is_some-clause-lists g c =
     peeks_lists {V = Unit {0}} {T = Unit {0}} _ _ (λ _ _. Unit {0}) (λ _ _ _. Unit {0}) _ None
     (returns-else-is_some-clause-gives g c)
 
--- the same for a run
+-- The same for a run.
 pub returns-then-is_some-clause-runs : goal.returns-then-is_some-clause-runs
 unfolding PeeksWhole
 returns-then-is_some-clause-runs g c =
