@@ -13,5 +13,5 @@ pub returns-clause-found : goal.returns-clause-found
 returns-clause-found g c =
     let m = c.self.inside.inner in
     subst (λ m. FindsEach (get g.K.PartialEq.eq m) m.entries) c.self.view_is
-    (finds_each (get g.K.PartialEq.eq m) m.entries (λ i k v. hash_map_get_place g.met.K.Eq.laws m i k v
-    c.iter.ensures.unique))
+    (finds_each (get g.K.PartialEq.eq m) m.entries
+    (λ i k v. hash_map_get_place g.met.K.Eq.laws m i k v c.iter.ensures.unique))
