@@ -1,6 +1,6 @@
 //! Chains of several adapters, one after another.
 ghost use Rattle.std.specs.Prelude.{◌≡◌, ◌/◌, ◌%◌, ◌+◌, ◌<◌, ◌^◌, ◌++◌, map, filter};
-ghost use Rattle.std.specs.Prelude.{take, IfOk, OnOk, eqb, ltb};
+ghost use Rattle.std.specs.Prelude.{drop, take, IfOk, OnOk, eqb, ltb};
 ghost use Rattle.std.specs.List.{enumerate_from, scan, zip};
 ghost use Rattle.std.specs.Int.NonZero.{non_zero_usize_get};
 
@@ -77,6 +77,18 @@ pub fn small_first_halves(
         .map(|x| x / 2)
         .filter(|x| *x < 10)
         .collect(alloc)
+}
+
+/// Returns at most `n` items, from place `from` on, with std's `skip` and `take`.
+pub fn items_from(
+    alloc: Global,
+    items: NEVec<u32>,
+    from: usize,
+    n: usize,
+) -> Result<Vec<u32>, AllocError>
+    ensures { IfOk result (λ v. v.items ≡ take n (drop from items)) }
+{
+    items.into_iter().skip(from).take(n).collect(alloc)
 }
 
 /// Returns the items at even indices, with `enumerate`, `filter` and `map`.

@@ -1,5 +1,5 @@
 //! The items of several sources, one source after another.
-ghost use Rattle.std.specs.Prelude.{◌≡◌, ◌/◌, take, IfOk};
+ghost use Rattle.std.specs.Prelude.{◌≡◌, ◌/◌, filter, ltb, take, IfOk};
 ghost use Rattle.std.specs.List.{flat_map};
 ghost use Rattle.std.specs.Int.NonZero.{non_zero_usize_get};
 
@@ -25,6 +25,19 @@ pub fn all_amounts(alloc: Global, orders: &NEVec<Order>) -> Result<NEVec<u32>, A
         .nonempty_iter()
         .flat_map(|o| &o.amounts)
         .copied()
+        .collect(alloc)
+}
+
+/// Returns the amounts below 10 of all orders.
+pub fn small_amounts(alloc: Global, orders: &NEVec<Order>) -> Result<Vec<u32>, AllocError>
+    ensures { IfOk result (λ v.
+        v.items ≡ filter (λ x. ltb x 10) (flat_map (λ o. o.amounts) orders.now)) }
+{
+    orders
+        .nonempty_iter()
+        .flat_map(|o| &o.amounts)
+        .copied()
+        .filter(|x| *x < 10)
         .collect(alloc)
 }
 

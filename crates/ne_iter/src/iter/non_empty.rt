@@ -393,9 +393,9 @@ pub trait NonEmptyIterator: IntoIterator {
             (filter_steps Self.IntoIter.next_gives P.FnMut) result (λ view xs gives.
             (test : view.Target → Bool) → ActsAsAt P.FnMut predicate (λ x. test (view.of x))
             → Naming (list_filter test xs) gives) }
-        ensures runs { Becomes Self.into_iter_gives self (λ it.
+        ensures runs { OnFalse item_view.is_itself (Becomes Self.into_iter_gives self (λ it.
             EachRunFrom (filter_steps Self.IntoIter.next_gives P.FnMut) result (λ u.
-            SomeRun Self.IntoIter.next_gives it (λ q. IsFilterRun u q P.FnMut predicate))) }
+            SomeRun Self.IntoIter.next_gives it (λ q. IsFilterRun u q P.FnMut predicate)))) }
     {
         self.into_iter().filter(predicate)
     }
