@@ -45,7 +45,7 @@ returns-else-len-gt1-clause-popped g c more =
             y,
             was.0,
             subst (λ b. FnOnceReturnsAtMut g.P.FnOnce c.args.predicate x b y)
-            w.if-predicate.false called,
+                w.if-predicate.false called,
             refl,
             w.self-is ∙ was.1,
           ))
