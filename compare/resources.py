@@ -1,6 +1,6 @@
 """What a run of a program takes, including its start and its end: processor time, memory and
 instructions; how two programs are compared; and the tables of that, which a script prints and may
-write into README.md."""
+write into RESULTS.md."""
 
 import ctypes
 import datetime
@@ -11,7 +11,7 @@ import sys
 import textwrap
 import time
 
-README = os.path.join(os.path.dirname(os.path.abspath(__file__)), "README.md")
+RESULTS = os.path.join(os.path.dirname(os.path.abspath(__file__)), "RESULTS.md")
 # A process begins with the peak memory of the one that starts it, so a shell starts each run: its
 # own is small. The run waits until the shell has ended, and is then a child of this process.
 START = 'exec 3<&0; (read go <&3; exec "$@" <"$0" >/dev/null 3<&-) & echo $!'
@@ -81,7 +81,7 @@ def printed_by(*words):
 
 class Report:
     """What a script measured. It is printed line by line and, if the script is told to write it,
-    put into README.md in one piece at the end, between the marks of the script's name."""
+    put into RESULTS.md in one piece at the end, between the marks of the script's name."""
 
     def __init__(self, script, words, writes):
         self.lines = []
@@ -112,10 +112,10 @@ class Report:
 
     def split(self):
         """Returns the page's text before the marks, and the text after them."""
-        with open(README, encoding="utf-8") as it:
+        with open(RESULTS, encoding="utf-8") as it:
             text = it.read()
         if not all(text.count(mark) == 1 for mark in self.marks):
-            sys.exit(f"README.md has not each once: {' '.join(self.marks)}")
+            sys.exit(f"RESULTS.md has not each once: {' '.join(self.marks)}")
         return [text.split(mark)[place] for place, mark in enumerate(self.marks)]
 
     def write(self):
@@ -123,6 +123,6 @@ class Report:
             return
         before, after = self.split()
         begin, end = self.marks
-        with open(f"{README}.new", "w", encoding="utf-8") as it:
+        with open(f"{RESULTS}.new", "w", encoding="utf-8") as it:
             it.write(f"{before}{begin}\n{''.join(self.lines).strip()}\n\n{end}{after}")
-        os.replace(f"{README}.new", README)
+        os.replace(f"{RESULTS}.new", RESULTS)
