@@ -22,7 +22,7 @@ pub DrainsIf-failed : {S A V E : Type 0} (steps : S → Option A → S → Type 
     → DrainsIf steps (is_ok r ≡ true) s xs
 DrainsIf-failed steps r is s t xs gave = (t, gave, λ ok. absurd (not_ok r is ok))
 
--- a source of a list appends the list.
+-- A source of a list appends the list.
 module _ {U S A : Type 0} (becomes : U → S → Type 0) (steps : S → Option A → S → Type 0) (u : U)
     (old new : List A) where
   pub list_appended : AppendsRead (Reads becomes steps true u) old new

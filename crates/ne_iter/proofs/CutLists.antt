@@ -28,7 +28,7 @@ use Rattle.ne_iter.proofs.Groupings.{division_of_none}
 use Rattle.ne_iter.specs.LoopLaws.{reads_through}
 use Rattle.ne_iter.proofs.SourceLists.{read_through}
 
--- a run that ends before y ends before the first of the lists that y begins.
+-- A run that ends before y ends before the first of the lists that y begins.
 breaks_on : {A : Type 0} (goes_on : List A → A → Bool) (run : List A) (y : A) (ys : List A)
     (rs : List (List A)) → goes_on run y ≡ false → AllByRecursion (λ r. r ≢ []) rs
     → concat rs ≡ y ∷ ys → Adjacent (Breaks goes_on) rs → Adjacent (Breaks goes_on) (run ∷ rs)
@@ -43,7 +43,7 @@ held_last run rs None = refl
 held_last run rs (Some x) = refl
 
 module _ {A F : Type 0} (calls : Shared F (Bor A × (Bor A × Unit {0})) Bool) where
-  -- a run that was followed by y, and the lists into which y and the items after it are cut.
+  -- A run that was followed by y, and the lists into which y and the items after it are cut.
   cut_on : (f : F) (all : List A) (run : List A) (y : A) (ys : List A) (rs : List (List A))
       → CutsInto calls f all (run ∷ (y ∷ []) ∷ []) → CutsInto calls f (y ∷ ys) rs
       → CutsInto calls f (all ++ ys) (run ∷ rs)
@@ -269,7 +269,7 @@ module _ {S K A F : Type 0} (calls : Shared F (Bor A × (Bor A × Unit {0})) Boo
           ),
         )
 
--- a division is what `runs_of` computes.
+-- A division is what `runs_of` computes.
 are_runs : {A : Type 0} (place : (A → A → Bool) → List A → A → Bool) (same : A → A → Bool)
     (xs : List A) (rs : List (List A)) → IsDivision (place same) xs rs → rs ≡ runs_of place same xs
 unfolding runs_of

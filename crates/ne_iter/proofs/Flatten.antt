@@ -246,7 +246,7 @@ joined_prefixes reads inner whole all xs us yss f beside h =
           ap (λ l. l ++ flat_map inner f.0) a ∙ ap (flat_map inner) b,
     )
 
--- a fact that holds for each item of a list holds for each item of a prefix.
+-- A fact that holds for each item of a list holds for each item of a prefix.
 all_prefix : {A : Type 0} (P : A → Type 0) (xs more : List A) → All P (xs ++ more) → All P xs
 all_prefix P [] more all = All-nil P
 all_prefix P (x ∷ xs) more all = All-cons P x xs (All-head P x (xs ++ more) all)

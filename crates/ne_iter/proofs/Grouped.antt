@@ -24,7 +24,7 @@ use Rattle.ne_iter.proofs.Groupings.{division_of_none, held_is_not_over, unread_
 
 module _ {S K A F : Type 0} (steps : S → Option A → S → Type 0)
     (key_calls : Mut F (Bor A × Unit {0}) K) (eq : K → K → Bool) where
-  -- a grouping that is over returns only `None`.
+  -- A grouping that is over returns only `None`.
   none_ever_after : (g h : Grouping S K A F) (results : List (Option (Result (List A) AllocError)))
       → IsOver g → FoldsTo (GivesRun steps key_calls eq) g results h
       → IsOver h × AllByRecursion (λ a. a ≡ None) results
@@ -221,7 +221,7 @@ module _ {S K A F : Type 0} (steps : S → Option A → S → Type 0)
       inr (e, is, read_has_runs false rs k read (λ w. cc)),
     )
 
-  -- a grouping that `into_iter` makes has returned no run.
+  -- A grouping that `into_iter` makes has returned no run.
   pub begun : (it : Grouping S K A F) (f : F) → it.closure ≡ f → it.state ≡ Unread
       → HasRead steps key_calls eq it.source f [] it
   begun it f same unread = subst (λ q. HasRead steps key_calls eq it.source q [] it) same

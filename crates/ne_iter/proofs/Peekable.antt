@@ -90,7 +90,7 @@ module _ {U S A : Type 0} (becomes : U → S → Type 0) (steps : S → Option A
           parts.1 ∙ whole_prefix (with_head w xs) (with_head w p.items)
           (subst (λ b. IsPrefix b (with_head w xs) (with_head w p.items)) whole prefix)
 
-    -- a whole run, also after the first item was changed.
+    -- A whole run, also after the first item was changed.
     pub yields_rest : YieldsRest steps (peekable_rest v) xs
     yields_rest p seen second fresh live whole =
         rest_of p second fresh live whole (once_item (chain_first p.from)) refl

@@ -15,7 +15,7 @@ module _ {T V : Type 0} (collected : List T → V → Type 0) (v : V) (xs ys : L
   prefix_made true f h = subst (λ l. collected l v) (whole_prefix xs ys f) h
   prefix_made false f h = (ys, f.0, f.1, h)
 
-  -- a prefix of the items made v; if v is complete, all items made v.
+  -- A prefix of the items made v; if v is complete, all items made v.
   pub prefix_makes : (is_complete : V → Bool) → IsPrefix (is_complete v) xs ys → collected ys v
       → PrefixMakes collected is_complete xs v
   prefix_makes is_complete f h = prefix_made (is_complete v) f h

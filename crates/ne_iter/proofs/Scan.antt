@@ -47,7 +47,7 @@ module _ {I S A B F : Type 0} (steps : I → Option A → I → Type 0)
       let next = mut_next calls _ _ _ _ _ folds.1.1.called refl always in
       still_callable xs folds.0 q folds.2 next
 
-  -- a closure that may always be called may be called in a scan.
+  -- A closure that may always be called may be called in a scan.
   pub CallableInScan-always : (it : I) (f : F) (s : S)
       → always_mut calls f → CallableInScan steps calls it f s
   CallableInScan-always it f s always = record {
@@ -55,7 +55,7 @@ module _ {I S A B F : Type 0} (steps : I → Option A → I → Type 0)
         ((still_callable xs (f, s) q folds always).at ((y, (x, tt)) ∷ [])).0;
   }
 
--- a closure that acts as a function of the state and the item.
+-- A closure that acts as a function of the state and the item.
 pub scanned_values : {S A B F : Type 0}
     (calls : Mut F (MutBor S × (A × Unit {0})) (B × (MutBor S × Unit {0})))
     (f : F) (next : S → A → S) (out : S → A → B) (init last : S)

@@ -189,7 +189,7 @@ abbrev pub FailsTest : {A : Type 0} → (A → Bool) → List A → Type 0
 FailsTest test [] = ⊤
 FailsTest test (y ∷ ys) = test y ≡ false
 
--- a first item for which the test may return false doesn't pass.
+-- A first item for which the test may return false doesn't pass.
 fails_test : {F A : Type 0} (calls : Mut F (Bor A × Unit {0}) Bool) (f : F) (test : A → Bool)
     (ys : List A) → ActsAsAt calls f test → FailsFirst calls f ys → FailsTest test ys
 fails_test calls f test [] acts h = tt

@@ -3,9 +3,9 @@ use Rattle.std.proofs.Common.{arith, sym, subst, ap, ◌∙◌, refl, append-nil
 use Rattle.std.proofs.lemmas.Iterator.Adapters.{option_map_id}
 use Rattle.std.proofs.lemmas.Bool.{OnFalse_from}
 use Rattle.std.proofs.lemmas.Option.{same_Some, slice_get-get_or, slice_get-map}
-use Rattle.std.proofs.lemmas.List.{length-map, nil_from_length}
+use Rattle.std.proofs.lemmas.List.{length-map, nil_from_length, take_at}
 use Rattle.std.specs.Prelude.{◌≡◌, ℕ, suc, ◌<◌, ◌≤◌, Bool, true, List, [], ◌∷◌, ◌++◌, length, Some}
-use Rattle.std.specs.Prelude.{map, slice_index_or, slice_get, Option, false, drop}
+use Rattle.std.specs.Prelude.{map, slice_index_or, slice_get, Option, false, drop, take}
 use Rattle.std.specs.Option.{option_map}
 use Rattle.std.proofs.iter.runs.Made.{run, to_end}
 use Rattle.std.specs.Iterator.{Drains, DrainsIf}
@@ -19,7 +19,7 @@ use Rattle.ne_iter.specs.LoopLaws.{lists_read, reads_through, whole_prefix}
 use Rattle.ne_iter.specs.Sources.{ReadsList, ReadsListThrough, Reads, SameLists}
 use Rattle.ne_iter.specs.SourceLists.{BecomesList, MeetsList, EachKept, StdYields}
 
--- a list that has the items of xs at its places, and is no longer, is a prefix of xs.
+-- A list that has the items of xs at its places, and is no longer, is a prefix of xs.
 begins : {A : Type 0} (us xs : List A) → length us ≤ length xs
     → ((k : ℕ) (d : A) → k < length us → slice_index_or us k d ≡ slice_index_or xs k d)
     → (more : List A) × (xs ≡ us ++ more) × (length us ≡ length xs → more ≡ [])
@@ -40,7 +40,7 @@ prefix_of whole xs us within ends places =
     same_Some _ _ (sym (ap (option_map (λ y. y)) (slice_get-get_or us k d l)) ∙ places k d l)) in
     (b.0, b.1, λ w. b.2 (ends w))
 
--- a list whose items, through `view`, are those of xs at the same places is a prefix of xs.
+-- A list whose items, through `view`, are those of xs at the same places is a prefix of xs.
 pub viewed_prefix_of : {A B : Type 0} (view : A → B) (whole : Bool) (xs : List B) (us : List A)
     → length us ≤ length xs → (whole ≡ true → length us ≡ length xs)
     → ((k : ℕ) (d : B) → k < length us
@@ -53,7 +53,7 @@ viewed_prefix_of view whole xs us within ends places =
     (λ k d less. option_map_id (slice_get (map view us) k) ∙ slice_get-map view us k
     ∙ places k d (subst (λ n. k < n) long less))
 
--- a list through the view `itself`.
+-- A list through the view `itself`.
 module _ {U A : Type 0} (reads : Bool → U → List A → Type 0) (u : U) (xs : List A) where
   pub as_items : ReadsListThrough reads (λ x. x) u xs → ReadsList reads u xs
   as_items list whole ys read = subst (IsPrefix whole xs) (map-id ys) (list whole ys read)
@@ -80,7 +80,7 @@ module _ {U S A : Type 0} (becomes : U → S → Type 0) (steps : S → Option A
     read_through view xs known P ys read =
         subst P (whole_prefix xs (map view ys) (known true ys read))
 
-    -- a clause of the iterator itself, place by place.
+    -- A clause of the iterator itself, place by place.
     pub meets_read : (view : View A) (xs : List view.Target) → MeetsList becomes steps view u xs
         → ReadsListThrough (Reads becomes steps) view.of u xs
     meets_read view xs meets whole ys read =
@@ -105,7 +105,7 @@ module _ {U S A : Type 0} (becomes : U → S → Type 0) (steps : S → Option A
           (run_drains steps p it from) in
           subst P (sym (f.1 ∙ ap (λ l. p.items ++ l) (f.2 whole) ∙ append-nil p.items))
 
--- a value that becomes a source may read each list that the source may read.
+-- A value that becomes a source may read each list that the source may read.
 module _ {W R V T A : Type 0} (meets : W → R → Type 0) (other : R → Option A → R → Type 0)
     (makes : W → V → Type 0) (becomes : V → T → Type 0) (steps : T → Option A → T → Type 0)
     (same : SameLists meets other makes becomes steps) (w : W) where
@@ -138,8 +138,11 @@ pub std_yields : {T B : Type 0} {next : T → Option B → T → Type 0} (view :
 std_yields {next = next} view v ys list p seen from =
     let prefix = list p.whole p.items
     (record { it = v; made = refl; given = run_drains next p v from }) in
-    let l = lists p view.of ys prefix.0 (λ w. ap length (prefix.2 w)) prefix.1 in
-    (l.4, (l.0, l.1, l.6, l.7))
+    let us = map view.of p.items in
+    let long = length-map p.items view.of ∙ sym p.long in (
+      sym (ap (take p.len) prefix.1 ∙ take_at us prefix.0 p.len long),
+      lists p view.of ys prefix.0 (λ w. ap length (prefix.2 w)) prefix.1,
+    )
 
 -- What holds for each view, if the result is an iterator of std.
 pub each_kept : {U S T A : Type 0} {becomes : U → S → Type 0} {steps : S → Option A → S → Type 0}

@@ -51,7 +51,7 @@ module _ {A : Type 0} (beats : A → A → Bool) (xs : List A) (m : A) (place : 
     ),
   )
 
--- a mapped list, place by place.
+-- A mapped list, place by place.
 pub indexes : {A B : Type 0} (xs : List A) (v : A → B) → (length (map v xs) ≡ length xs)
     × ((k : ℕ) (d : B) → k < length xs → option_map v (slice_get xs k)
     ≡ Some (slice_index_or (map v xs) k d))
@@ -65,7 +65,7 @@ indexes (x ∷ xs) v = let h = indexes xs v in (ap (λ n. suc n) h.0, λ k d l. 
     at zero d l h = refl
     at (suc k) d l h = h k d (omega (arith, l))
 
--- a run after a first item.
+-- A run after a first item.
 pub begins : {S A : Type 0} (steps : S → Option A → S → Type 0) (P : List A → Type 0)
     → ((xs : List A) → P xs) → (it : S) (x : A) (rest : S) → steps it (Some x) rest
     → BeginsRuns steps P x rest it

@@ -45,7 +45,7 @@ ChainsRuns steps others a b it = EachRunFrom (chain_steps steps others) it (λ p
     × (p.items ≡ u.items ++ v.items) × (p.whole ≡ true → (u.whole ≡ true) × (v.whole ≡ true))
     × (0 < v.len → u.whole ≡ true))))
 
--- a chain whose first side has a first item.
+-- A chain whose first side has a first item.
 module _ {S T A : Type 0} (steps : S → Option A → S → Type 0) (others : T → Option A → T → Type 0)
     (it : StdChain S T) (has : HasFirst steps (std_chain_first it)) (t : StdChain S T) where
   first_came : (o : Option A) → steps (std_chain_first it) o (std_chain_first t)

@@ -20,7 +20,7 @@ use Rattle.ne_iter.specs.SourceLaws.{some_item}
 use Rattle.ne_iter.specs.Sources.{IsNonEmpty, Reads, SameLists}
 use mathlib.Core.Path.{fun_ext}
 
--- a value collected from all items that an iterator yields is made of the items of its source.
+-- A value collected from all items that an iterator yields is made of the items of its source.
 module _ {U S V T A : Type 0} {becomes : U → S → Type 0} {steps : S → Option A → S → Type 0}
     {makes : U → V → Type 0} {becomes' : V → T → Type 0} {steps' : T → Option A → T → Type 0} where
   pub collects : SameLists becomes steps makes becomes' steps' → IsNonEmpty becomes' steps'
@@ -85,7 +85,7 @@ module _ {K V : Type 0} {eq : K → K → Bool} (laws : IsEquivalence eq) where
   update_all-append f [] qs = refl
   update_all-append f (p ∷ ps) qs = update_all-append (update eq f p.0 (Some p.1)) ps qs
 
-  -- a map into which pairs are inserted in turn is the map of its entries followed by the pairs.
+  -- A map into which pairs are inserted in turn is the map of its entries followed by the pairs.
   last_value-extended : (es ps : List (K × V)) (q : K) → IsDistinct eq (keys_of es)
       → update_all eq (λ k. lookup (eq k) es) ps q ≡ last_value eq (es ++ ps) q
   last_value-extended es ps q d =

@@ -17,7 +17,7 @@ nil_mapped f (x ∷ xs) e = cc
 
 module _ {S K A F : Type 0} (steps : S → Option A → S → Type 0) (calls : Mut F (Bor A × Unit {0}) K)
     (eq : K → K → Bool) where
-  -- a grouping that has taken nothing has returned no runs.
+  -- A grouping that has taken nothing has returned no runs.
   pub fresh_grouping : (g : Grouping S K A F) → g.state ≡ Unread
       → HasRead steps calls eq g.source g.closure [] g
   fresh_grouping g e = record {
@@ -29,7 +29,7 @@ module _ {S K A F : Type 0} (steps : S → Option A → S → Type 0) (calls : M
         (refl, refl, refl);
   }
 
-  -- a grouping that is over and returned no run found its source at the end.
+  -- A grouping that is over and returned no run found its source at the end.
   pub over_at_once : (s : S) (f : F) (h : Grouping S K A F) → HasRead steps calls eq s f [] h
       → IsOver h → (t : S) × steps s None t
   over_at_once s f h read over =

@@ -47,11 +47,11 @@ module _ {S K A F : Type 0} (steps : S → Option A → S → Type 0) (calls : M
   -- One call of `next` returns r, and takes the grouping from g to h.
   pub record GivesRun (g : Grouping S K A F) (r : Option (Result (List A) AllocError))
       (h : Grouping S K A F) : Type 0 where
-    -- a grouping that is over returns `None` and stays unchanged.
+    -- A grouping that is over returns `None` and stays unchanged.
     pub over : IsOver g → (r ≡ None) × (h ≡ g)
     -- The grouping is over after `None` and after an `Err`.
     pub stops : MatchOption r (IsOver h) (λ x. OnErr x (IsOver h))
-    -- a run follows the runs that were returned before, and `None` adds no run.
+    -- A run follows the runs that were returned before, and `None` adds no run.
     pub reads : (s : S) (f : F) (rs : List (List A)) → HasRead s f rs g
         → MatchOption r (HasRead s f rs h) (λ x. IfOk x (λ run. HasRead s f (rs ++ run ∷ []) h))
 

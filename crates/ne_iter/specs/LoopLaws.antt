@@ -66,7 +66,7 @@ Reads-left {steps = steps} it {first} {begun = begun} xs t x u made h e y last =
       );
     }
 
--- a prefix that is whole is the list.
+-- A prefix that is whole is the list.
 pub whole_prefix : {A : Type 0} (xs ys : List A) → IsPrefix true xs ys → ys ≡ xs
 whole_prefix xs ys h = sym (h.1 ∙ ap (λ l. ys ++ l) (h.2 refl) ∙ append-nil ys)
 
@@ -84,7 +84,7 @@ pub lists_read : {U S A : Type 0} (becomes : U → S → Type 0) (steps : S → 
 lists_read becomes steps u xs lists whole ys read =
     of_lists becomes steps u xs lists read.it read.made whole ys read.given
 
--- a value that becomes a source may read each list that the source may read.
+-- A value that becomes a source may read each list that the source may read.
 pub becomes_read : {W R V T A : Type 0} (meets : W → R → Type 0) (other : R → Option A → R → Type 0)
     (makes : W → V → Type 0) (becomes : V → T → Type 0) (steps : T → Option A → T → Type 0)
     → SameLists meets other makes becomes steps → (w : W) (xs : List A)

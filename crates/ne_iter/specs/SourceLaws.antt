@@ -7,7 +7,7 @@ use Rattle.ne_vec.specs.ListLaws.{triggered}
 use Rattle.ne_iter.specs.SourceLists.{KeepsLists}
 use Rattle.ne_iter.specs.Sources.{SameLists, Reads, IsNonEmpty}
 
--- a source that is never empty yields no empty list.
+-- A source that is never empty yields no empty list.
 pub some_item : {U S A : Type 0} (becomes : U → S → Type 0) (steps : S → Option A → S → Type 0)
     → IsNonEmpty becomes steps → (u : U) (xs : List A) → Reads becomes steps true u xs
     → 0 < length xs
@@ -15,7 +15,7 @@ some_item becomes steps full u [] h = let end = h.given.2 refl in
     absurd (full u h.it h.made end.0 (subst (λ it. steps it None end.0) (sym h.given.1) end.1))
 some_item becomes steps full u (x ∷ xs) h = omega arith
 
--- a source that becomes one with the same iterators yields the same lists.
+-- A source that becomes one with the same iterators yields the same lists.
 pub SameLists-through : {U S V A : Type 0} (becomes : U → S → Type 0)
     (steps : S → Option A → S → Type 0) (makes : U → V → Type 0) (becomes' : V → S → Type 0)
     → ((u : U) (it : S) → becomes u it → (v : V) × makes u v × becomes' v it)
@@ -30,7 +30,7 @@ SameLists-through becomes steps makes becomes' there back u whole xs = (
   (λ v e h. record { it = h.it; made = back u v h.it e h.made; given = h.given }),
 )
 
--- a value that becomes what the source `value` of it becomes, and is made into that source.
+-- A value that becomes what the source `value` of it becomes, and is made into that source.
 pub SameLists-of : {U V S A : Type 0} (becomes : V → S → Type 0)
     (steps : S → Option A → S → Type 0) (value : U → V) (fact : U → V → Type 0)
     → ((u : U) → fact u (value u))
@@ -39,7 +39,7 @@ SameLists-of becomes steps value fact holds = SameLists-through _ _ _ _
     (λ u it made. (value u, (refl, holds u), made))
     (λ u v it same made. subst (λ w. becomes w it) same.0 made)
 
--- a source that becomes a non-empty source is non-empty itself.
+-- A source that becomes a non-empty source is non-empty itself.
 pub IsNonEmpty-into : {U S V T A : Type 0} (becomes : U → S → Type 0)
     (steps : S → Option A → S → Type 0) (makes : U → V → Type 0) (becomes' : V → T → Type 0)
     (steps' : T → Option A → T → Type 0)
@@ -54,7 +54,7 @@ IsNonEmpty-into becomes steps makes becomes' steps' same full u it made t ended 
     let e = p.2.given.2 refl in
     full p.0 p.2.it p.2.made e.0 (subst (λ q. steps' q None e.0) (sym p.2.given.1) e.1)
 
--- a source yields the lists that it yields.
+-- A source yields the lists that it yields.
 pub keeps_lists : {U S A : Type 0} (becomes : U → S → Type 0) (steps : S → Option A → S → Type 0)
     (view : View A) (s : U) → KeepsLists becomes steps view s s
 keeps_lists becomes steps view s = (

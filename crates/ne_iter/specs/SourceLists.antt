@@ -2,11 +2,11 @@
 -- trigger of the source and its list (`list_trigger`), or by an equation of the new list with
 -- itself (`Naming`).
 use Rattle.std.specs.Prelude.{◌≡◌, ℕ, ◌<◌, ◌≤◌, ◌∷◌, drop, map, true, Some, List, length, Option}
-use Rattle.std.specs.Prelude.{slice_index_or}
-use Rattle.std.specs.Iterator.Runs.{Run, EachRunFrom}
+use Rattle.std.specs.Prelude.{slice_index_or, take}
+use Rattle.std.specs.Iterator.Runs.{Run, EachRunFrom, ItemsMapTo}
 use Rattle.std.specs.Bool.{OnFalse}
 use Rattle.std.specs.Option.{option_map}
-use Rattle.ne_vec.specs.Lists.{EachList, EachView, IsPrefixRunThrough, Listed, Lists, View}
+use Rattle.ne_vec.specs.Lists.{EachList, EachView, Listed, Lists, View}
 use Rattle.ne_vec.specs.Lists.{YieldsPrefixes, itself}
 
 -- The items of a run, through `view`, are a prefix of xs, and all of xs if the run is whole. The
@@ -29,12 +29,12 @@ abbrev pub BecomesList : {W V T A : Type 0} → (W → V → Type 0) → (V → 
 BecomesList {V = V} makes becomes steps view w xs =
     (v : V) → makes w v → Lists becomes steps view.of v xs
 
--- For the automatic proof: the facts about an iterator of std that yields xs through `view`. The
--- list of a whole run is stated for std's own adapters, which may be called on it.
+-- Each run of std's iterator `it`, through `view`, is a prefix of xs, and if it is whole all of xs.
+-- The facts serve the automatic proof; so std's own adapters may be called on it.
 abbrev pub StdYields : {S A : Type 0} → (S → Option A → S → Type 0) → (view : View A)
     → List view.Target → S → Type 0
 StdYields steps view xs it = EachRunFrom steps it (λ p.
-    (p.whole ≡ true → map view.of p.items ≡ xs) × IsPrefixRunThrough steps view.of xs p)
+    (map view.of p.items ≡ take p.len xs) × ItemsMapTo p view.of xs)
 
 -- P says which of the items of a source, themselves or through `view`, std's iterator `it` yields.
 abbrev pub EachKept : {U S A : Type 0} (view : View A)

@@ -20,7 +20,7 @@ use Rattle.ne_products.specs.ByKey.{IsCounted, IsFoldedByKey, fold_some, of_some
 abbrev pub one_more : {A : Type 0} → ℕ → A → ℕ
 one_more n x = (n + 1) % 2 ^ 64
 
--- a count that fits is below the range.
+-- A count that fits is below the range.
 pub fits_below : {S A : Type 0} (steps : S → Option A → S → Type 0) (left : S → Count)
     (n : ℕ) (s : S)
     → CountFits steps left n s → n < 2 ^ 64

@@ -11,7 +11,7 @@ pub joined_by : {A : Type 0} (show : A → List ℕ) (separator : List ℕ) (xs 
 joined_by show separator [] = refl
 joined_by show separator (x ∷ xs) = refl
 
--- a function of the items' views is one of the items.
+-- A function of the items' views is one of the items.
 pub join_by-map : {A B : Type 0} (f : A → B) (show : B → List ℕ) (separator : List ℕ) (xs : List A)
     → join_by (λ x. show (f x)) separator xs ≡ join_by show separator (map f xs)
 join_by-map f show separator [] = refl

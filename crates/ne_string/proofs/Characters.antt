@@ -27,7 +27,7 @@ chars_ended bs ds c whole front same =
         ∙ ap (λ l. l ++ (encode_utf8 c ++ [])) (encodes-chars ds front)
         ∙ ap (λ l. ds ++ l) (append-nil (encode_utf8 c)) ∙ sym same
 
--- a text that is not empty has a character.
+-- A text that is not empty has a character.
 pub some_char : (bs : List ℕ) → IsUtf8 bs → 0 < length bs → 0 < length (chars bs)
 some_char bs valid some = by (chars bs) (encodes-chars bs valid)
   where
@@ -35,7 +35,7 @@ some_char bs valid some = by (chars bs) (encodes-chars bs valid)
     by [] e = omega (arith, some, ap length e)
     by (c ∷ cs) e = omega arith
 
--- a text of more than four bytes has more than one character.
+-- A text of more than four bytes has more than one character.
 pub two_chars : (bs : List ℕ) → IsUtf8 bs → 4 < length bs → 1 < length (chars bs)
 two_chars bs valid long = by (chars bs) (encodes-chars bs valid)
   where
@@ -51,7 +51,7 @@ two_chars bs valid long = by (chars bs) (encodes-chars bs valid)
     )
     by (c ∷ d ∷ cs) e = omega arith
 
--- a text with a character is not empty.
+-- A text with a character is not empty.
 pub some_byte : (bs : List ℕ) → 0 < length (chars bs) → 0 < length bs
 some_byte [] some = omega (arith, some, ap length chars-nil)
 some_byte (b ∷ bs) some = omega arith
@@ -60,7 +60,7 @@ some_byte (b ∷ bs) some = omega arith
 pub valid : {Z : Type 0} (s : String Z) (bs : List ℕ) → string_bytes s ≡ bs → IsUtf8 bs
 valid s bs same = subst IsUtf8 same (IsUtf8-string_bytes s)
 
--- a text that begins with a character is not empty.
+-- A text that begins with a character is not empty.
 pub some_encoded : (bs rest : List ℕ) (c : ℕ) → bs ≡ encode_utf8 c ++ rest → 0 < length bs
 some_encoded bs rest c same = grind (
   arith,
@@ -87,7 +87,7 @@ more_chars : (bs rest : List ℕ) (c : ℕ) → chars bs ≡ c ∷ chars rest �
     → 0 < length rest → 1 < length (chars bs)
 more_chars bs rest c begun after some = omega (arith, ap length begun, some_char rest after some)
 
--- a text has one character if nothing follows its first, and more otherwise.
+-- A text has one character if nothing follows its first, and more otherwise.
 pub one_or_more : (b : Bool) (bs rest : List ℕ) (c : ℕ) → b ≡ (length rest == 0) → IsUtf8 bs
     → bs ≡ encode_utf8 c ++ rest → MatchBool b (length (chars bs) ≡ 1) (1 < length (chars bs))
 one_or_more b bs rest c test whole same = by b test
@@ -108,7 +108,7 @@ ended_if (Some c) bs text ds same whole front cut =
     ap chars (sym same) ∙ chars_ended bs ds c whole front cut
 ended_if None bs text ds same whole front cut = cut
 
--- a text of more than one character keeps a byte when its last character leaves.
+-- A text of more than one character keeps a byte when its last character leaves.
 pub keeps_front : (o : Option ℕ) (bs ds : List ℕ) → IsSome o → IsUtf8 bs
     → IfSome o (λ c. bs ≡ ds ++ encode_utf8 c) → 1 < length (chars bs) → 0 < length ds
 keeps_front (Some c) bs [] some whole same more =
@@ -120,7 +120,7 @@ no_parts : (xs ys : List ℕ) → [] ≡ xs ++ ys → (xs ≡ []) × (ys ≡ [])
 no_parts [] ys none = (refl, sym none)
 no_parts (x ∷ xs) ys none = absurd (omega (arith, ap length none))
 
--- a text of more than one character keeps a byte when a character leaves.
+-- A text of more than one character keeps a byte when a character leaves.
 pub keeps_rest : (bs left rest : List ℕ) (idx c : ℕ) → IsUtf8 bs
     → drop idx bs ≡ encode_utf8 c ++ rest → left ≡ take idx bs ++ rest → 1 < length (chars bs)
     → 0 < length left

@@ -28,7 +28,7 @@ drop_at (y ∷ xs) zero x e = (xs, let e = e in cc)
 drop_at (y ∷ xs) (suc n) x e = drop_at xs n x e
 
 module _ {A F : Type 0} (calls : Shared F (Bor A × (Bor A × Unit {0})) Bool) where
-  -- a closure that may be called with any two items may be called with any two of those that remain
+  -- A closure that may be called with any two items may be called with any two of those that remain
   pub callable_later : (f : F) (xs : List A) (n : ℕ)
       → CallableAtPairs calls f xs → CallableAtPairs calls f (drop n xs)
   callable_later f xs n callable =
@@ -90,7 +90,7 @@ module _ {A : Type 0} (goes_on : List A → A → Bool) where
   breaks_before run rest ((x ∷ r) ∷ all) breaks d =
       (subst (Breaks goes_on run) (sym d.whole) breaks, d.breaks)
 
-  -- a run, and the division of the items after it.
+  -- A run, and the division of the items after it.
   run_before : (xs run rest : List A) (all : List (List A)) → xs ≡ run ++ rest
       → IsRun goes_on run → Breaks goes_on run rest
       → IsDivision goes_on rest all → IsDivision goes_on xs (run ∷ all)

@@ -19,7 +19,7 @@ use Rattle.ne_vec.specs.Searches.{CallableAtItems, CallableAtItemsMut, TakesAtMu
 use Rattle.std.proofs.lemmas.List.Elements.{All-cons}
 use denote.Param.Always.{always_mut, mut_next}
 
--- a swap of k and i leaves the first k items, and those past i.
+-- A swap of k and i leaves the first k items, and those past i.
 module _ {X : Type 0} (ys : List X) (k i : ℕ) (y : X) (le : k ≤ i) (lt : i < length ys) where
   pub front_swap : take k ys ≡ take k (swap ys k i)
   front_swap =
@@ -31,7 +31,7 @@ module _ {X : Type 0} (ys : List X) (k i : ℕ) (y : X) (le : k ≤ i) (lt : i <
       rw (← swap_is ys k i y (omega arith) lt)
       (sym (drop-set-lt (i + 1) _ i _ (omega arith) ∙ drop-set-lt (i + 1) ys k _ (omega arith)))
 
--- a swap between two parts of a list.
+-- A swap between two parts of a list.
 pub parts_swapped : {X : Type 0} (fs bs : List X) (k : ℕ) (x z : X) → k < length fs
     → 0 < length bs → x ≡ get_or bs 0 x → z ≡ get_or fs k z
     → set fs k x ++ set bs 0 z ≡ swap (fs ++ bs) k (length fs)
@@ -48,7 +48,7 @@ parts_swapped fs (b ∷ bs) k x z lt some first second =
     ) (subst (λ n. set fs k b ++ z ∷ bs ≡ set (set fs k b ++ b ∷ bs) n z) (length-set fs k b)
     (sym (set-append_seam (set fs k b) b bs z))))
 
--- a turn at i, with k items kept so far, where the call left y.
+-- A turn at i, with k items kept so far, where the call left y.
 module _ {S X : Type 0} (R : S → X → Bool → S → X → Type 0) (s₀ : S) (xs : List X) (s t : S)
     (ys : List X) (k i : ℕ) (x y : X) (le : k ≤ i) (lt : i < length ys) (is : x ≡ get_or ys i x)
     (h : RetainMutInvariant R s₀ xs s ys k i) where

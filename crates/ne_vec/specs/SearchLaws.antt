@@ -33,7 +33,7 @@ module _ {F A R : Type 0} (calls : Mut F (Bor A × Unit {0}) R) (xs : List A) wh
   items_take f i x inside read callable =
       callable.at [] f (λ k d h. absurd (omega arith)) refl i x.now inside x read
 
--- a closure that acts as a function returns its values.
+-- A closure that acts as a function returns its values.
 pub computes : {F A K : Type 0} (calls : Mut F (Bor A × Unit {0}) K) (f : F) (key : A → K)
     → ActsAsAt calls f key → ComputesKey calls key f
 computes calls f key acts =

@@ -4,7 +4,7 @@ ghost use Rattle.std.specs.Prelude.{slice_get, take, Option, Some, Ok, IfOk, IsP
 ghost use Rattle.std.specs.Prelude.{Result};
 ghost use Rattle.std.specs.Prelude.{IsTrue, MatchOption, OnOk, ◌++◌};
 ghost use Rattle.std.specs.Result.{is_ok};
-ghost use Rattle.std.specs.Iterator.Runs.{EachRunFrom, SomeRun, IsFilterRun, IsSkipRun};
+ghost use Rattle.std.specs.Iterator.Runs.{EachRunFrom, SomeRun, IsFilterRun};
 ghost use Rattle.std.specs.Iterator.Runs.{IndexesMappedItems, AnyItem, CountFits, WholeRun};
 ghost use Rattle.std.specs.Iterator.Runs.{IsReduceRun, AllItemsGive, AnyItemGives, NoItemPasses};
 ghost use Rattle.std.specs.Iterator.Runs.{EndsAtFirstPassing, IsFilterMapRun};
@@ -1058,9 +1058,6 @@ pub trait NonEmptyIterator: IntoIterator {
             (IsSkipped (⟦<Self as ItemSource>⟧.reads) n self) }
         ensures lists { EachView item_view (⟦<Self as ItemSource>⟧.lists) self (λ view xs.
             StdYields (skip_steps Self.IntoIter.next_gives) view (drop n xs) result) }
-        ensures runs { Becomes Self.into_iter_gives self (λ it.
-            EachRunFrom (skip_steps Self.IntoIter.next_gives) result (λ p.
-            SomeRun Self.IntoIter.next_gives it (λ q. IsSkipRun p q n))) }
     {
         self.into_iter().skip(n)
     }

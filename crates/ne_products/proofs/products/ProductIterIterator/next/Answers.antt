@@ -3,7 +3,7 @@ use Rattle.std.proofs.Common.{None, subst, sym, ◌∙◌}
 use Rattle.ne_products.proofs.ProductSteps.{begins_row}
 use Rattle.ne_products.proofs.ProductProgress.{row_goes}
 
--- a further row begins with a clone of the right side, as it was at the start.
+-- A further row begins with a clone of the right side, as it was at the start.
 pub returns-clause-steps : goal.returns-clause-steps
 returns-clause-steps g c =
     let row = c.in_ok-row.ensures in
