@@ -79,7 +79,7 @@ pub fn small_first_halves(
         .collect(alloc)
 }
 
-/// Returns at most `n` items, from place `from` on, with std's `skip` and `take`.
+/// Returns at most `n` items, from place `from` on, with `skip` and std's `take`.
 pub fn items_from(
     alloc: Global,
     items: NEVec<u32>,
@@ -88,7 +88,7 @@ pub fn items_from(
 ) -> Result<Vec<u32>, AllocError>
     ensures { IfOk result (λ v. v.items ≡ take n (drop from items)) }
 {
-    items.into_iter().skip(from).take(n).collect(alloc)
+    items.into_nonempty_iter().skip(from).take(n).collect(alloc)
 }
 
 /// Returns the items at even indices, with `enumerate`, `filter` and `map`.

@@ -241,6 +241,18 @@ pub fn later_buyers(alloc: Global, sales: &NEVec<Sale>) -> Result<Vec<u32>, Allo
         .collect(alloc)
 }
 
+/// Returns references to at most `n` sales, from place `from` on.
+pub fn sales_from<'a>(
+    alloc: Global,
+    sales: &'a NEVec<Sale>,
+    from: usize,
+    n: usize,
+) -> Result<Vec<&'a Sale>, AllocError>
+    ensures { IfOk result (λ v. map (λ s. s.now) v.items ≡ take n (drop from sales.now)) }
+{
+    sales.nonempty_iter().skip(from).take(n).collect(alloc)
+}
+
 /// Returns the numbers before the first that is 10 or more.
 pub fn small_prefix(alloc: Global, items: &NEVec<u32>) -> Result<Vec<u32>, AllocError>
     ensures { IfOk result (λ v. v.items ≡ take_while (λ x. ltb x 10) items.now) }
@@ -386,8 +398,7 @@ pub fn buyers_one_by_one(alloc: Global, sales: &NEVec<Sale>) -> Result<NEVec<u32
         .collect(alloc)
 }
 
-/// Returns the buyers of what costs less than what is sold beside it: `filter_map` for `filter` and
-/// `map`.
+/// Returns the buyers of what costs less than what is sold beside it, with `filter_map`.
 pub fn buyers_of_cheaper(
     alloc: Global,
     sales: &NEVec<Sale>,
@@ -405,5 +416,22 @@ pub fn buyers_of_cheaper(
         } else {
             None
         })
+        .collect(alloc)
+}
+
+/// The same with `filter` and `map`.
+pub fn buyers_of_filtered(
+    alloc: Global,
+    sales: &NEVec<Sale>,
+    others: &NEVec<Sale>,
+) -> Result<Vec<u32>, AllocError>
+    ensures { IfOk result (λ v. v.items ≡ map (λ p. p.0.buyer)
+        (filter (λ p. ltb p.0.price p.1.price) (zip sales.now others.now))) }
+{
+    sales
+        .nonempty_iter()
+        .zip(others.nonempty_iter())
+        .filter(|(sale, other)| sale.price < other.price)
+        .map(|(sale, _)| sale.buyer)
         .collect(alloc)
 }

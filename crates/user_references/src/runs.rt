@@ -1,7 +1,7 @@
 //! Runs of items by a key or by a test of two items, and of a slice by a test.
 ghost use Rattle.std.specs.Prelude.{◌≡◌, ◌<◌, ◌-◌, ◌/◌, length, ltb, map, nat_eq, true, All, IfOk};
 ghost use Rattle.std.specs.Prelude.{◌≤◌, Contains, slice_index_or, string_bytes, IsPermutation};
-ghost use Rattle.std.specs.Prelude.{List};
+ghost use Rattle.std.specs.Prelude.{List, filter};
 ghost use Rattle.std.specs.Int.NonZero.{non_zero_usize_get};
 ghost use Rattle.std.specs.String.{string_eq};
 ghost use Rattle.ne_vec.specs.Divisions.{IsDivision, by_first, by_previous, heads, runs_of};
@@ -162,7 +162,19 @@ pub fn lengths_above_first(
         .collect(alloc)
 }
 
-/// The same, of runs that are made into a source although they are one.
+/// Returns how many of these runs have more than two items.
+pub fn how_many_long(items: NESlice<'_, u32>) -> usize
+    ensures { result ≡ length (filter (λ run. ltb 2 (length run))
+        (runs_of by_first (λ x y. ltb x y) items.entry)) }
+{
+    items
+        .runs_by(|x, y| *x < *y)
+        .filter(|run| run.len().get() > 2)
+        .count()
+}
+
+/// Returns the lengths of the runs in which each further item is greater than the run's first one,
+/// where the runs are made into a source although they are one.
 pub fn lengths_of_a_source(
     alloc: Global,
     items: NESlice<'_, u32>,
