@@ -95,7 +95,8 @@ pub(super) fn append_each<T: Drop, U: IntoIterator<Item = T>, I: Iterator<Item =
 // Appends the items of a source. Returns whether the memory sufficed.
 //
 // As many items as its iterator promises are taken by a loop of so many turns, which the compiler
-// unrolls for an array. It keeps a vector in registers if that is passed by value.
+// unrolls for an array, as long as it sees this function, with the call of `into_iter`, before its
+// caller. It keeps a vector in registers if that is passed by value.
 fn append_source<T: Drop, U: IntoIterator<Item = T>>(
     alloc: Global,
     items: Vec<T>,
