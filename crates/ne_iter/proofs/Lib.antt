@@ -28,6 +28,7 @@ pub mod Zip
 pub mod Copied
 pub mod Cloned
 pub mod Flatten
+pub mod FlattenRuns
 pub mod FlatMap
 pub mod Scan
 pub mod Peekable

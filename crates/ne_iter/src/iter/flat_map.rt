@@ -7,7 +7,9 @@ ghost use Rattle.std.specs.Iterator.Adapters.{map_source as std_map_source};
 ghost use Rattle.std.specs.Iterator.Adapters.{map_callee as std_map_callee};
 ghost use Rattle.ne_iter.specs.FlatMap.{flat_map_source, flat_map_callee};
 
+use super::flatten::append_each;
 use super::{IntoNonEmptyIterator, ItemSource, NonEmptyIterator};
+use std::alloc::{AllocError, Global};
 use std::iter;
 use std::marker::PhantomData;
 
@@ -53,6 +55,18 @@ impl<U: IntoNonEmptyIterator, I: NonEmptyIterator, F: FnMut(I::Item) -> U> NonEm
     ghost use Rattle.ne_iter.specs.SourceLaws.{IsNonEmpty-into};
 
     ghost item_view = { U.IntoNEIter.item_view };
+
+    #[inline(always)]
+    fn append_to(
+        self,
+        alloc: Global,
+        items: &mut Vec<U::Item>,
+    ) -> Result<PhantomData<iter::FlatMap<I::IntoIter, U, F>>, AllocError>
+    where
+        U::Item: Drop,
+    {
+        append_each(alloc, items, self.iter.into_iter().map(self.f))
+    }
 
     ghost not_empty = { λ s it made. HasFirst-flatten
         (⟦<iter::Map<I::IntoIter, F> as Iterator>⟧.next_gives) U.into_iter_gives
