@@ -1,89 +1,40 @@
--- Sums of values by key, as folds that would wrap, and that do not since all values together fit.
-use Rattle.std.proofs.Common.{ap, arith, refl, subst, sym, ◌∙◌}
+-- Sums of values by key: each is at most the sum of all values so far, which fits.
+use Rattle.std.proofs.Common.{ap, arith, subst, sym, ◌∙◌}
 use Rattle.std.specs.Prelude.{◌≡◌, ◌≤◌, ◌<◌, ◌+◌, ◌%◌, ◌^◌, ℕ, Bool, true, false, cond, List, []}
-use Rattle.std.specs.Prelude.{◌∷◌, Option, Some, None, map}
-use Rattle.std.specs.Cmp.{IsEquivalence}
+use Rattle.std.specs.Prelude.{◌∷◌, Option, Some, None, map, refl}
 use Rattle.std.specs.Borrow.{Bor}
+use Rattle.std.specs.Cmp.{IsEquivalence}
 use Rattle.std.specs.Fn.{Called, Mut, Takes}
 use Rattle.std.specs.Iterator.{ActsAs, CallableOnAll, CallableOnAllAt}
-use Rattle.std.specs.List.{FoldsTo, filter, fold, sum_by}
+use Rattle.std.specs.List.{FoldsTo, fold}
+use Rattle.std.specs.Option.{unwrap_or}
 use Rattle.ne_vec.specs.Lists.{View}
-use Rattle.ne_products.specs.ByKey.{Adds, AddsByCall, CallableByKey, IsFoldedByKey, KeyTurn}
-use Rattle.ne_products.specs.ByKey.{NamesKeys, fold_some}
-use Rattle.ne_products.proofs.ByKey.{fold-viewed, folded_view, turns_calls}
+use Rattle.ne_products.specs.ByKey.{Adds, AddsByCall, AddsValue, CallableByKey, IsFoldedByKey}
+use Rattle.ne_products.specs.ByKey.{KeyTurn, NamesKeys}
+use Rattle.ne_products.proofs.ByKey.{folded-viewed, turns_calls, turns_fold}
 
--- The sum so far and one more, as a `u64` adds.
-abbrev pub wrapped : {A : Type 0} → (ℕ → A → ℕ) → ℕ → A → ℕ
-wrapped add total x = add total x % 2 ^ 64
+-- A total is at most what more numbers make of it.
+grows : {A : Type 0} (number : A → ℕ) (total : ℕ) (xs : List A)
+    → total ≤ fold (λ t x. t + number x) total xs
+grows number total [] = omega arith
+grows number total (x ∷ xs) = omega (arith, grows number (total + number x) xs)
 
-module _ {A : Type 0} (add : ℕ → A → ℕ) (adds : Adds add) where
-  grows : (n : ℕ) (ys : List A) → n ≤ fold add n ys
-  grows n [] = omega arith
-  grows n (y ∷ ys) = omega (arith, adds n y, grows (add n y) ys)
-
-  folds_sum : (n : ℕ) (ys : List A) → fold add n ys < 2 ^ 64
-      → fold (wrapped add) n ys ≡ fold add n ys
-  folds_sum n [] h = refl
-  folds_sum n (y ∷ ys) h =
-      let now : wrapped add n y ≡ add n y = omega (arith, h, grows (add n y) ys) in
-      ap (λ m. fold (wrapped add) m ys) now ∙ folds_sum (add n y) ys h
-
-  some_sum : (ys : List A) → fold add 0 ys < 2 ^ 64
-      → fold_some (wrapped add) 0 ys ≡ fold_some add 0 ys
-  some_sum [] h = refl
-  some_sum (y ∷ ys) h = ap Some (folds_sum 0 (y ∷ ys) h)
-
-  -- Some of the items add no more than all.
-  filtered_sum : (t : A → Bool) (m n : ℕ) (ys : List A) → m ≤ n
-      → fold add m (filter t ys) ≤ fold add n ys
-  filtered_sum t m n [] h = h
-  filtered_sum t m n (y ∷ ys) h = by (t y)
-      (filtered_sum t (add m y) (add n y) ys (omega (arith, h, adds m y, adds n y)))
-      (filtered_sum t m (add n y) ys (omega (arith, h, adds n y)))
-    where
-      by : (b : Bool) → fold add (add m y) (filter t ys) ≤ fold add (add n y) ys
-          → fold add m (filter t ys) ≤ fold add (add n y) ys
-          → fold add m (cond b (y ∷ filter t ys) (filter t ys)) ≤ fold add (add n y) ys
-      by true h k = h
-      by false h k = k
-
-  added : (n : ℕ) (ys : List A) → fold (λ t y. t + add 0 y) n ys ≡ fold add n ys
-  added n [] = refl
-  added n (y ∷ ys) = ap (λ m. fold (λ t y. t + add 0 y) m ys) (sym (adds n y)) ∙ added (add n y) ys
-
-  -- If all values together fit, the folds by key are the sums.
-  pub summed : {N : Type 0} (eq : N → N → Bool) (h : A → N) (value : N → Option ℕ) (xs : List A)
-      → fold add 0 xs < 2 ^ 64 → IsFoldedByKey value eq h (wrapped add) 0 xs
-      → IsFoldedByKey value eq h add 0 xs
-  summed eq h value xs fits folded q = folded q ∙ some_sum (filter (λ x. eq q (h x)) xs)
-      (omega (arith, fits, filtered_sum (λ x. eq q (h x)) 0 0 xs (omega arith)))
-
--- The calls of the closure for values, one for each item.
-abbrev pub Valued : {A G : Type 0} → Mut G (A × Unit {0}) ℕ → G → List A → G → Type 0
-Valued calls = FoldsTo (λ g x h. (n : ℕ) × Called calls g (x, tt) n h)
-
--- What the calls return sums to the same by each function that the closure acts as.
-same_sums : {A G : Type 0} (calls : Mut G (A × Unit {0}) ℕ) (v w : A → ℕ) (total : ℕ) (g : G)
-    (xs : List A) (h : G) → Valued calls g xs h → ActsAs calls g v → ActsAs calls g w
-    → fold (λ t x. t + v x) total xs ≡ fold (λ t x. t + w x) total xs
-same_sums calls v w total g [] h called acts also = refl
-same_sums calls v w total g (x ∷ xs) h (s, (n, called), more) acts also =
-    let first = acts x n s called in
-    ap (λ n. fold (λ t x. t + v x) (total + n) xs) (sym first.1 ∙ (also x n s called).1)
-    ∙ same_sums calls v w (total + w x) g xs h (subst (λ g. Valued calls g xs h) first.0 more) acts
-    also
-
--- What all values sum to through one view fits through each other one.
-fits_through : {A G : Type 0} (calls : Mut G (A × Unit {0}) ℕ) (g : G) (ys : List A) (h : G)
-    → Valued calls g ys h → (seen : View A) (number : seen.Target → ℕ)
-    → ActsAs calls g (λ x. number (seen.of x)) → sum_by number (map seen.of ys) < 2 ^ 64
-    → (view : View A) (add : ℕ → view.Target → ℕ) → Adds add
-    → ActsAs calls g (λ x. add 0 (view.of x)) → fold add 0 (map view.of ys) < 2 ^ 64
-fits_through calls g ys h valued seen number acts fits view add adds also =
-    let same = sym (fold-viewed (λ t y. t + number y) seen.of 0 ys)
-    ∙ same_sums calls (λ x. number (seen.of x)) (λ x. add 0 (view.of x)) 0 g ys h valued acts also
-    ∙ fold-viewed (λ t y. t + add 0 y) view.of 0 ys ∙ added add adds 0 (map view.of ys) in
-    subst (λ n. n < 2 ^ 64) same fits
+-- The sums by key of the items of a list, through each view.
+pub sums_view : {A K F G : Type 0} (keys : Mut F (Bor A × Unit {0}) K)
+    (calls : Mut G (A × Unit {0}) ℕ) (names : View K) {eq : names.Target → names.Target → Bool}
+    (laws : IsEquivalence eq) (key : F) (g : G) (ys : List A) (value : names.Target → Option ℕ)
+    (key' : F) (g' : G)
+    → FoldsTo (KeyTurn keys (AddsValue calls) names eq 0) (key, (g, λ _. None)) ys
+    (key', (g', value)) → (view : View A) (h : view.Target → names.Target)
+    → NamesKeys keys names key (λ x. h (view.of x)) → (add : ℕ → view.Target → ℕ) → Adds add
+    → ActsAs calls g (λ x. add 0 (view.of x)) → IsFoldedByKey value eq h add 0 (map view.of ys)
+sums_view keys calls names laws key g ys value key' g' turns view h named add adds acts =
+    folded-viewed laws 0 h add view.of ys value
+    (turns_fold names laws 0 keys (AddsValue calls) key g (λ x. h (view.of x))
+    (λ total x. add total (view.of x)) named (λ total x v k (n, called, sum).
+    let here = acts x n k called in
+    (here.0, sum ∙ ap (λ n. total + n) here.1 ∙ sym (adds total (view.of x))))
+    [] ys (λ _. None) value key' g' (λ q. refl) turns)
 
 -- A closure `sums`, whose state keeps that of the closure for values, adds what this one returns.
 module _ {A K C F G : Type 0} (keys : Mut F (Bor A × Unit {0}) K) (calls : Mut G (A × Unit {0}) ℕ)
@@ -94,9 +45,10 @@ module _ {A K C F G : Type 0} (keys : Mut F (Bor A × Unit {0}) K) (calls : Mut 
   abbrev Kept : Type 0
   Kept = F × (C × (names.Target → Option ℕ))
 
-  pub turns_values : (p : Kept) (xs : List A) (q : Kept)
+  -- The closure for values is called in each turn.
+  turns_values : (p : Kept) (xs : List A) (q : Kept)
       → FoldsTo (KeyTurn keys (AddsByCall sums) names eq 0) p xs q
-      → Valued calls (kept p.1.0) xs (kept q.1.0)
+      → FoldsTo (λ g x h. (n : ℕ) × Called calls g (x, tt) n h) (kept p.1.0) xs (kept q.1.0)
   turns_values p [] q same = ap (λ s. kept s.1.0) same
   turns_values p (x ∷ xs) q (s, (k, v, called, added, puts), turns) =
       let given = adding p.1.0 _ x v s.1.0 added in
@@ -116,27 +68,33 @@ module _ {A K C F G : Type 0} (keys : Mut F (Bor A × Unit {0}) K) (calls : Mut 
     );
   }
 
-  -- The sums by key of the items of a list, through each view.
-  pub sums_view : (laws : IsEquivalence eq) (key : F) (c : C) (ys : List A)
-      (value : names.Target → Option ℕ) (key' : F) (c' : C)
-      → ((d : C) → kept d ≡ kept c → d ≡ c)
-      → FoldsTo (KeyTurn keys (AddsByCall sums) names eq 0) (key, (c, λ _. None)) ys
-      (key', (c', value)) → (seen : View A) (number : seen.Target → ℕ)
-      → ActsAs calls (kept c) (λ x. number (seen.of x)) → sum_by number (map seen.of ys) < 2 ^ 64
-      → (view : View A) (h : view.Target → names.Target)
-      → NamesKeys keys names key (λ x. h (view.of x))
-      → (add : ℕ → view.Target → ℕ) → Adds add
-      → ActsAs calls (kept c) (λ x. add 0 (view.of x))
-      → IsFoldedByKey value eq h add 0 (map view.of ys)
-  sums_view laws key c ys value key' c' same turns seen number acts fits view h named add adds
-      also = summed add adds eq h value (map view.of ys)
-      (fits_through calls (kept c) ys (kept c') (turns_values _ ys _ turns) seen number acts fits
-      view add adds also)
-      (folded_view names laws 0 keys sums key c ys value key' c' turns view h named (wrapped add)
-      (λ total x v d called.
-      let given = adding c total x v d called in
-      let of_item = also x given.0 (kept d) given.1 in (
-        same d of_item.0,
-        given.2 ∙ ap (λ n. n % 2 ^ 64) (ap (λ n. total + n) of_item.1
-            ∙ sym (adds total (view.of x))),
-      )))
+  -- No turn wraps, if no value is above the total so far, and that of all fits.
+  pub turns_sums : (number : A → ℕ) (total : ℕ) (p : Kept) (xs : List A) (q : Kept)
+      → ActsAs calls (kept p.1.0) number
+      → ((k : names.Target) → unwrap_or (p.1.1 k) 0 ≤ total)
+      → fold (λ t x. t + number x) total xs < 2 ^ 64
+      → FoldsTo (KeyTurn keys (AddsByCall sums) names eq 0) p xs q
+      → FoldsTo (KeyTurn keys (AddsValue calls) names eq 0) (p.0, (kept p.1.0, p.1.1)) xs
+      (q.0, (kept q.1.0, q.1.1))
+  turns_sums number total p [] q acts below fits same =
+      ap (λ (s : Kept). (s.0, (kept s.1.0, s.1.1))) same
+  turns_sums number total p (x ∷ xs) q acts below fits (s, (k, v, called, added, puts), turns) =
+      let so_far = unwrap_or (p.1.1 (names.of k)) 0 in
+      let given = adding p.1.0 so_far x v s.1.0 added in
+      let here = acts x given.0 (kept s.1.0) given.1 in
+      let most = below (names.of k) in
+      let sum : v ≡ so_far + given.0
+      = omega (arith, given.2, here.1, most, fits, grows number (total + number x) xs) in (
+        (s.0, (kept s.1.0, s.1.1)),
+        (k, v, called, (given.0, given.1, sum), puts),
+        turns_sums number (total + number x) s xs q
+            (subst (λ g. ActsAs calls g number) (sym here.0) acts)
+            (λ l. subst (λ o. unwrap_or o 0 ≤ total + number x) (sym (puts l))
+            (at_most v (p.1.1 l) (omega (arith, sum, here.1, most)) (omega (arith, below l))
+            (eq (names.of k) l))) fits turns,
+      )
+    where
+      at_most : (v : ℕ) (o : Option ℕ) → v ≤ total + number x → unwrap_or o 0 ≤ total + number x
+          → (b : Bool) → unwrap_or (cond b (Some v) o) 0 ≤ total + number x
+      at_most v o new old true = new
+      at_most v o new old false = old

@@ -72,6 +72,10 @@ module _ {A K B F G : Type 0} (keys : Mut F (Bor A × Unit {0}) K)
 abbrev pub AddsByCall : {A B G : Type 0} → Mut G (B × (A × Unit {0})) B → G → B → A → B → G → Type 0
 AddsByCall calls g so_far x v h = Called calls g (so_far, (x, tt)) v h
 
+-- One item is added to a sum: the closure is called with it, and returns what is added.
+abbrev pub AddsValue : {A G : Type 0} → Mut G (A × Unit {0}) ℕ → G → ℕ → A → ℕ → G → Type 0
+AddsValue calls g so_far x v h = (n : ℕ) × Called calls g (x, tt) n h × (v ≡ so_far + n)
+
 -- One item is added to a group: it is its last one.
 abbrev pub AddsLast : {A : Type 0} → Unit {0} → List A → A → List A → Unit {0} → Type 0
 AddsLast g so_far x v h = v ≡ and_last so_far x

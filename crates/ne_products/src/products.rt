@@ -10,9 +10,9 @@ ghost use Rattle.std.specs.List.{join_by};
 ghost use Rattle.ne_vec.specs.Lists.{EachList, EachView, itself};
 ghost use Rattle.ne_iter.specs.Sources.{Becomes, RunsWhole};
 ghost use Rattle.ne_iter.specs.SourceLists.{BecomesList};
-ghost use Rattle.ne_products.specs.ByKey.{Adds, AddsByCall, AddsLast, CallableByKey, FoldsByKey};
-ghost use Rattle.ne_products.specs.ByKey.{IsCounted, IsFoldedByKey, IsGroupedByKey, NamesKeys};
-ghost use Rattle.ne_products.specs.ByKey.{SumFits};
+ghost use Rattle.ne_products.specs.ByKey.{Adds, AddsByCall, AddsLast, AddsValue, CallableByKey};
+ghost use Rattle.ne_products.specs.ByKey.{FoldsByKey, IsCounted, IsFoldedByKey, IsGroupedByKey};
+ghost use Rattle.ne_products.specs.ByKey.{NamesKeys, SumFits};
 ghost use Rattle.ne_products.specs.Joined.{HasTexts, IsJoined, text_of};
 ghost use Rattle.ne_products.specs.Pairs.{CanRefuse};
 ghost use Rattle.ne_products.specs.Product.{product_first, product_second, restart_of, PairsItems};
@@ -249,6 +249,9 @@ pub trait NonEmptyItertools: NonEmptyIterator {
             → CallableOnAllAt Self.IntoIter.next_gives F.FnMut it key
             × CallableOnAll Self.IntoIter.next_gives G.FnMut it value }
         requires fits { SumFits Self.item_view (⟦<Self as ItemSource>⟧.lists) self G.FnMut value }
+        ensures gives { IfOk result (λ m. Becomes Self.into_iter_gives self (λ it.
+            FoldsByKey F.FnMut (AddsValue G.FnMut) M.key_view M.same 0 Self.IntoIter.next_gives
+            it key value (M.value m))) }
         ensures lists { IfOk result (λ m.
             EachView Self.item_view (⟦<Self as ItemSource>⟧.lists) self (λ view xs.
             (h : view.Target → M.key_view.Target)
