@@ -233,7 +233,8 @@ pub trait NonEmptyItertools: NonEmptyIterator {
     /// ```
     /// let sales = nev![alloc; (7, 3u64), (8, 1), (7, 4)]?;
     /// let totals: NEBTreeMap<u32, u64> =
-    ///     sales.nonempty_iter().sum_by_key(alloc, |s| s.0, |s| s.1)?; // {7: 7, 8: 1}
+    ///     sales.nonempty_iter().sum_by_key(alloc, |s| s.0, |s| s.1)?;
+    /// // {7: 7, 8: 1}
     /// ```
     final fn sum_by_key<
         M: KeyedMap<K, u64> + Drop,
