@@ -98,7 +98,7 @@ ROWS = [
     ("sort_unstable_by sort_unstable_by_key", VECTOR, PURE, "", CHANGES),
     ("join counts", VECTOR, NONE, "", READS),
     ("partition", VECTOR, ANY, "", READS),
-    ("into_group_map_by", VECTOR, ANY, "", READS),
+    ("into_group_map_by sum_by_key", VECTOR, ANY, "", READS),
     ("fold_by_key", VECTOR, ANY, "item", READS),
     ("remove remove_entry", MAPS[:2], NONE, "key", CHANGES),
     ("remove take", SETS[:2], NONE, "key", CHANGES),
@@ -556,6 +556,7 @@ counts
 partition half
 fold_by_key tens 7
 into_group_map_by digit
+sum_by_key digit
 iter
 tree_map 2
 run_map 60000*1

@@ -379,6 +379,13 @@ fn consumed(items: &[u32], call: &Call, out: &mut Transcript) {
             }
             out.told((folds.len(), folds.get(&call.first).copied()))
         }
+        "sum_by_key" => {
+            let mut sums: BTreeMap<u32, u64> = BTreeMap::new();
+            for x in items {
+                *sums.entry(key(x)).or_default() += u64::from(*x);
+            }
+            out.told(sums)
+        }
         "into_group_map_by" => {
             let mut groups: BTreeMap<u32, Vec<u32>> = BTreeMap::new();
             for x in items {

@@ -19,7 +19,7 @@ use Rattle.ne_products.specs.ByKey.{of_some}
 use mathlib.Core.Path.{fun_ext}
 
 -- Items seen through v.
-fold-viewed : {A B C : Type 0} (f : B → C → B) (v : A → C) (b : B) (ys : List A)
+pub fold-viewed : {A B C : Type 0} (f : B → C → B) (v : A → C) (b : B) (ys : List A)
     → fold (λ b x. f b (v x)) b ys ≡ fold f b (map v ys)
 fold-viewed f v b [] = refl
 fold-viewed f v b (y ∷ ys) = fold-viewed f v (f b (v y)) ys

@@ -10,4 +10,5 @@ pub mod SideRuns
 pub mod Uniques
 pub mod ByKey
 pub mod Counted
+pub mod Summed
 pub mod Joined

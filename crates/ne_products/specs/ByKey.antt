@@ -1,10 +1,11 @@
--- What is made of the items of a source by their keys: for each key the fold of its items, the list
--- of them, or their number. `value` is what a map has at each key.
-use Rattle.std.specs.Prelude.{◌≡◌, ℕ, Bool, List, [], ◌∷◌, ◌++◌, Option, Some, None, length, map}
+-- What is made of the items of a source by their keys: for each key the fold or the sum of its
+-- items, the list of them, or their number. `value` is what a map has at each key.
+use Rattle.std.specs.Prelude.{◌≡◌, ◌<◌, ◌+◌, ◌^◌, ℕ, Bool, List, [], ◌∷◌, ◌++◌, Option, Some, None}
+use Rattle.std.specs.Prelude.{length, map}
 use Rattle.std.specs.Borrow.{Bor}
 use Rattle.std.specs.Fn.{Called, CalledAt, Mut, Takes, TakesAt}
-use Rattle.std.specs.Iterator.{CallableAtEachTurn, Drains}
-use Rattle.std.specs.List.{FoldsTo, filter, fold}
+use Rattle.std.specs.Iterator.{ActsAs, CallableAtEachTurn, Drains}
+use Rattle.std.specs.List.{FoldsTo, filter, fold, sum_by}
 use Rattle.std.specs.Option.{option_map, unwrap_or}
 use Rattle.ne_vec.specs.Lists.{View}
 use Rattle.ne_iter.specs.KeyedMap.{PutsValue}
@@ -71,6 +72,10 @@ module _ {A K B F G : Type 0} (keys : Mut F (Bor A × Unit {0}) K)
 abbrev pub AddsByCall : {A B G : Type 0} → Mut G (B × (A × Unit {0})) B → G → B → A → B → G → Type 0
 AddsByCall calls g so_far x v h = Called calls g (so_far, (x, tt)) v h
 
+-- One item is added to a sum: the closure is called with it, and returns what is added.
+abbrev pub AddsValue : {A G : Type 0} → Mut G (A × Unit {0}) ℕ → G → ℕ → A → ℕ → G → Type 0
+AddsValue calls g so_far x v h = (n : ℕ) × Called calls g (x, tt) n h × (v ≡ so_far + n)
+
 -- One item is added to a group: it is its last one.
 abbrev pub AddsLast : {A : Type 0} → Unit {0} → List A → A → List A → Unit {0} → Type 0
 AddsLast g so_far x v h = v ≡ and_last so_far x
@@ -85,3 +90,15 @@ CallableByKey {K = K} {B = B} {F = F} {G = G} steps keys calls view eq it key in
     (KeyTurn keys (AddsByCall calls) view eq init)
     (λ p x. TakesAt keys p.0 x × ((k : K) (key' : F) → CalledAt keys p.0 x k key'
     → Takes calls p.1.0 (unwrap_or (p.1.1 (view.of k)) init, (x, tt)))) it (key, (f, λ _. None))
+
+-- `add` adds a number of the item to the total, whatever the total is.
+abbrev pub Adds : {A : Type 0} → (ℕ → A → ℕ) → Type 0
+Adds {A} add = (total : ℕ) (x : A) → add total x ≡ total + add 0 x
+
+-- The items of the source u through `view` are a list, the closure returns a number of each, and
+-- the sum of these numbers fits in 64 bits.
+abbrev pub SumFits : {U A G : Type 0} (view : View A)
+    → ((view : View A) → U → List view.Target → Type 0) → U → Mut G (A × Unit {0}) ℕ → G → Type 0
+SumFits view lists u calls f = (xs : List view.Target) × lists view u xs
+    × (number : view.Target → ℕ) × (sum_by number xs < 2 ^ 64)
+    × ActsAs calls f (λ x. number (view.of x))

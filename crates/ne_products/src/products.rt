@@ -1,17 +1,18 @@
 //! Products of two non-empty iterators, and what is made of the items of one: whether they are
 //! distinct, their texts joined, and maps by key.
-ghost use Rattle.std.specs.Prelude.{◌≡◌, IfOk, List, MatchOption, None, [], map, true};
-ghost use Rattle.std.specs.Prelude.{string_bytes};
+ghost use Rattle.std.specs.Prelude.{◌≡◌, ◌+◌, ◌%◌, ◌^◌, ℕ, IfOk, List, MatchOption, None, []};
+ghost use Rattle.std.specs.Prelude.{map, string_bytes, true};
 ghost use Rattle.std.specs.HashSet.{contains};
-ghost use Rattle.std.specs.Iterator.{ActsAsOnTwo, CallableOnAllAt, IsFinite};
+ghost use Rattle.std.specs.Iterator.{ActsAs, ActsAsOnTwo, CallableOnAll, CallableOnAllAt, IsFinite};
 ghost use Rattle.std.specs.Iterator.{MakesProgress};
 ghost use Rattle.std.specs.Iterator.Runs.{CountFits};
 ghost use Rattle.std.specs.List.{join_by};
 ghost use Rattle.ne_vec.specs.Lists.{EachList, EachView, itself};
 ghost use Rattle.ne_iter.specs.Sources.{Becomes, RunsWhole};
 ghost use Rattle.ne_iter.specs.SourceLists.{BecomesList};
-ghost use Rattle.ne_products.specs.ByKey.{AddsByCall, AddsLast, CallableByKey, FoldsByKey};
-ghost use Rattle.ne_products.specs.ByKey.{IsCounted, IsFoldedByKey, IsGroupedByKey, NamesKeys};
+ghost use Rattle.ne_products.specs.ByKey.{Adds, AddsByCall, AddsLast, AddsValue, CallableByKey};
+ghost use Rattle.ne_products.specs.ByKey.{FoldsByKey, IsCounted, IsFoldedByKey, IsGroupedByKey};
+ghost use Rattle.ne_products.specs.ByKey.{NamesKeys, SumFits};
 ghost use Rattle.ne_products.specs.Joined.{HasTexts, IsJoined, text_of};
 ghost use Rattle.ne_products.specs.Pairs.{CanRefuse};
 ghost use Rattle.ne_products.specs.Product.{product_first, product_second, restart_of, PairsItems};
@@ -217,6 +218,63 @@ pub trait NonEmptyItertools: NonEmptyIterator {
             }
         }
         Ok(folded)
+    }
+
+    /// Returns, for each key, the sum of the values of its items. The sum of all values must be
+    /// below 2^64. `M` is a map of any of the three types; of two equal keys it keeps the first.
+    ///
+    /// `key` and then `value` are called once for each item, in order. What `value` returns must
+    /// depend on the item alone.
+    ///
+    /// Returns `AllocError` if an allocation for the map fails; what was made is then dropped. The
+    /// Rust crate lacks this method; `itertools` has it as `into_grouping_map_by(..).sum()`. Sums
+    /// that may not fit are [`fold_by_key`](Self::fold_by_key) with `checked_add`, from `Some(0)`.
+    ///
+    /// ```
+    /// let sales = nev![alloc; (7, 3u64), (8, 1), (7, 4)]?;
+    /// let totals: NEBTreeMap<u32, u64> =
+    ///     sales.nonempty_iter().sum_by_key(alloc, |s| s.0, |s| s.1)?;
+    /// // {7: 7, 8: 1}
+    /// ```
+    final fn sum_by_key<
+        M: KeyedMap<K, u64> + Drop,
+        K: Drop,
+        F: FnMut(&Self::Item) -> K,
+        G: FnMut(Self::Item) -> u64,
+    >(self, alloc: Global, key: F, value: G) -> Result<M, AllocError>
+    where
+        Self: Sized,
+        Self::Item: Drop,
+        requires ends { ⟦<Self as ItemSource>⟧.ends self }
+        requires callable { (it : Self.IntoIter) → Self.into_iter_gives self it
+            → CallableOnAllAt Self.IntoIter.next_gives F.FnMut it key
+            × CallableOnAll Self.IntoIter.next_gives G.FnMut it value }
+        requires fits { SumFits Self.item_view (⟦<Self as ItemSource>⟧.lists) self G.FnMut value }
+        ensures gives { IfOk result (λ m. Becomes Self.into_iter_gives self (λ it.
+            FoldsByKey F.FnMut (AddsValue G.FnMut) M.key_view M.same 0 Self.IntoIter.next_gives
+            it key value (M.value m))) }
+        ensures lists { IfOk result (λ m.
+            EachView Self.item_view (⟦<Self as ItemSource>⟧.lists) self (λ view xs.
+            (h : view.Target → M.key_view.Target)
+            → NamesKeys F.FnMut M.key_view key (λ x. h (view.of x))
+            → (add : ℕ → view.Target → ℕ) → Adds add
+            → ActsAs G.FnMut value (λ x. add 0 (view.of x))
+            → IsFoldedByKey (M.value m) M.same h add 0 xs)) }
+    {
+        let mut value = value;
+        self.fold_by_key(
+            alloc,
+            key,
+            0,
+            move |sum: u64, x|
+                requires { G.pre value x }
+                ensures { (n : ℕ) × G.step value.entry x n value.exit
+                    × (result ≡ (sum + n) % 2 ^ 64) }
+            {
+                // All values together fit, so no sum wraps.
+                sum.wrapping_add(value(x))
+            },
+        )
     }
 
     /// Returns, for each key, the items with that key, in their order. `M` is a map of any of the

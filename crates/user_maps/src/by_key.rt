@@ -1,7 +1,10 @@
-//! What is made of items by their keys: folds, groups and counts, also by keys that are texts.
-ghost use Rattle.std.specs.Prelude.{◌≡◌, IfOk, Some, filter, map, max, nat_eq, string_bytes};
+//! What is made of items by their keys: folds, sums, groups and counts, also by keys that are
+//! texts.
+ghost use Rattle.std.specs.Prelude.{◌≡◌, ◌<◌, ◌+◌, ◌^◌, IfOk, Some, filter, map, max, nat_eq};
+ghost use Rattle.std.specs.Prelude.{string_bytes};
 ghost use Rattle.std.specs.BTreeMap.{get, get_by_text};
 ghost use Rattle.std.specs.HashMap as hashed;
+ghost use Rattle.std.specs.List.{sum_by};
 ghost use Rattle.std.specs.Ordering.{nat_cmp};
 ghost use Rattle.std.specs.Str.{bytes_eq};
 ghost use Rattle.indexmap.specs.IndexMap as indexed;
@@ -39,6 +42,31 @@ pub fn greatest_amount(
         (filter (λ s. nat_eq article s.article) sales.now)) }
 {
     Ok(greatest_amounts(alloc, sales)?.get(&article).copied())
+}
+
+/// Returns the sum of the amounts of each article that was sold.
+pub fn totals(alloc: Global, sales: &NEVec<Sale>) -> Result<NEBTreeMap<u32, u64>, AllocError>
+    requires { sum_by (λ s. s.amount) sales.now < 2 ^ 64 }
+    ensures { IfOk result (λ m. IsFoldedByKey (get nat_cmp m) nat_eq (λ s. s.article)
+        (λ total s. total + s.amount) 0 sales.now) }
+{
+    sales
+        .nonempty_iter()
+        .sum_by_key(alloc, |s| s.article, |s| u64::from(s.amount))
+}
+
+/// Returns the sum of the amounts of each customer that bought something.
+pub fn totals_by_customer(
+    alloc: Global,
+    sales: &NEVec<Sale>,
+) -> Result<NEMap<String, u64>, AllocError>
+    requires { sum_by (λ s. s.amount) sales.now < 2 ^ 64 }
+    ensures { IfOk result (λ m. IsFoldedByKey (hashed.get_by_text m) bytes_eq
+        (λ s. string_bytes s.customer) (λ total s. total + s.amount) 0 sales.now) }
+{
+    sales
+        .nonempty_iter()
+        .sum_by_key(alloc, |s| s.customer.as_str(), |s| u64::from(s.amount))
 }
 
 /// Returns the sum of the amounts of each customer, or `None` where it does not fit.

@@ -1,6 +1,5 @@
 //! Maps and sets as a user calls them: what is inserted, collected and added, chains over keys,
-//! values and pairs, items by their keys, and small tasks over a map. Two functions have proof
-//! files, `totals` and `totals_by_customer`, for their loops.
+//! values and pairs, items by their keys, and what is not in a set.
 #![tactic(auto)]
 
 ghost use Rattle.std.specs.Prelude.{[], ◌∷◌, IfOk};
