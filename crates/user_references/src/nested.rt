@@ -41,19 +41,6 @@ pub fn small_amounts(alloc: Global, orders: &NEVec<Order>) -> Result<Vec<u32>, A
         .collect(alloc)
 }
 
-/// The same, where the amounts are copied after the test.
-pub fn small_amounts_copied(alloc: Global, orders: &NEVec<Order>) -> Result<Vec<u32>, AllocError>
-    ensures { IfOk result (λ v.
-        v.items ≡ filter (λ x. ltb x 10) (flat_map (λ o. o.amounts) orders.now)) }
-{
-    orders
-        .nonempty_iter()
-        .flat_map(|o| &o.amounts)
-        .filter(|x| **x < 10)
-        .copied()
-        .collect(alloc)
-}
-
 /// Returns the amounts of all orders, which are passed by value, by a closure with a contract.
 pub fn into_amounts(alloc: Global, orders: NEVec<Order>) -> Result<NEVec<u32>, AllocError>
     ensures { IfOk result (λ v. v ≡ flat_map (λ o. o.amounts) orders) }
