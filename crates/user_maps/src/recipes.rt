@@ -1,4 +1,4 @@
-//! Whole small tasks: what is not in a set.
+//! What is not in a set.
 ghost use Rattle.std.specs.Prelude.{◌≡◌, IfOk, filter, map, not, string_bytes};
 ghost use Rattle.std.specs.BTreeSet.{contains, contains_text};
 ghost use Rattle.std.specs.Ordering.{nat_cmp};

@@ -276,14 +276,13 @@ pub fn even_values_halved(map: NEBTreeMap<u32, u32>) -> Option<NEBTreeMap<u32, u
     kept.ok()
 }
 
-/// Returns the keys of the prices in a map that are below 10, with std's `filter` and `map`.
+/// Returns the keys of the prices in a map that are below 10.
 pub fn keys_of_cheap(alloc: Global, prices: &NEBTreeMap<u32, u32>) -> Result<Vec<u32>, AllocError>
     ensures { IfOk result (λ v.
         v.items ≡ map (λ p. p.0) (filter (λ p. ltb p.1 10) prices.now.entries)) }
 {
     prices
         .nonempty_iter()
-        .into_iter()
         .filter(|p| *p.1 < 10)
         .map(|p| *p.0)
         .collect(alloc)

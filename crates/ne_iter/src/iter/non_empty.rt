@@ -4,7 +4,7 @@ ghost use Rattle.std.specs.Prelude.{slice_get, take, Option, Some, Ok, IfOk, IsP
 ghost use Rattle.std.specs.Prelude.{Result};
 ghost use Rattle.std.specs.Prelude.{IsTrue, MatchOption, OnOk, ◌++◌};
 ghost use Rattle.std.specs.Result.{is_ok};
-ghost use Rattle.std.specs.Iterator.Runs.{EachRunFrom, SomeRun};
+ghost use Rattle.std.specs.Iterator.Runs.{EachRunFrom, SomeRun, IsFilterRun};
 ghost use Rattle.std.specs.Iterator.Runs.{IndexesMappedItems, AnyItem, CountFits, WholeRun};
 ghost use Rattle.std.specs.Iterator.Runs.{IsReduceRun, AllItemsGive, AnyItemGives, NoItemPasses};
 ghost use Rattle.std.specs.Iterator.Runs.{EndsAtFirstPassing, IsFilterMapRun};
@@ -393,6 +393,9 @@ pub trait NonEmptyIterator: IntoIterator {
             (filter_steps Self.IntoIter.next_gives P.FnMut) result (λ view xs gives.
             (test : view.Target → Bool) → ActsAsAt P.FnMut predicate (λ x. test (view.of x))
             → Naming (list_filter test xs) gives) }
+        ensures runs { OnFalse item_view.is_itself (Becomes Self.into_iter_gives self (λ it.
+            EachRunFrom (filter_steps Self.IntoIter.next_gives P.FnMut) result (λ u.
+            SomeRun Self.IntoIter.next_gives it (λ q. IsFilterRun u q P.FnMut predicate)))) }
     {
         self.into_iter().filter(predicate)
     }
