@@ -17,11 +17,15 @@ TYPES = {"NEVec": ""} | {
 }
 ITEMS = {
     "ClonedIter": "NonEmptyIterator::cloned",
-    "GroupBy": "GroupBy::next",
+    "DividedIter": "GroupBy::next",
     "ProductIter": "NonEmptyItertools::cartesian_product",
     "RawIntersperse": "NonEmptyIterator::intersperse",
-    "RunsByIter": "NonEmptyIterator::runs_by",
-    "TryGroupByIter": "NonEmptyIterator::try_group_by",
+}
+# And the method whose closure a way of dividing items asks.
+DIVISIONS = {
+    "ByKey": "GroupBy::next",
+    "ByTest": "NonEmptyIterator::runs_by",
+    "ByTriedKey": "NonEmptyIterator::try_group_by",
 }
 # Types that keep the memory of the vector that they are collected from.
 DRAINED = ("NEVec", "Vec", "NEVecDeque", "NEBinaryHeap")
@@ -31,14 +35,14 @@ DRAINED = ("NEVec", "Vec", "NEVecDeque", "NEBinaryHeap")
 EXCUSED = {
     *("NESlice::clone", "Iter::clone", "NonEmptyIter::clone", "collect into ()"),
     *(f"FromNonEmptyIterator::from_drained of {it}" for it in DRAINED),
-    *("FromNonEmptyIterator::from_nonempty_iter", "NonEmptyMap::put"),
+    *("FromNonEmptyIterator::from_nonempty_iter", "NonEmptyMap::put", "Division::key"),
     *("KeyedMap::put_value", "KeyedMap::with_entry", "NonEmptySet::add", "NonEmptySet::put"),
     *("Reader::read", "read_map", "read_seq"),
 }
 # What is called by a sign, by std or by `indexmap`, writes to what it is given, or keeps its room
 # if it is refused less.
 BY_OTHERS = {"eq", "index", "index_mut", "deref", "hash", "fmt", "serialize", "shrink_to_fit"}
-BY_OTHERS |= {"compare", "equivalent"}
+BY_OTHERS |= {"compare", "equivalent", "goes_on"}
 # The files of `tests/library/no_memory` with the calls of each crate.
 FILES = dict.fromkeys(("ne_iter", "ne_products"), "chains") | dict.fromkeys(
     ("ne_deque", "ne_heap", "ne_string"), "queues"
@@ -50,6 +54,8 @@ def call_of(it):
     trait = it.trait.partition("<")[0]
     if trait == "Iterator":
         return ITEMS.get(it.owner, it.path())
+    if trait == "Division":
+        return DIVISIONS[it.owner]
     if trait in ("KeyedMap", "Reader"):
         return f"{trait}::{it.name}"
     if trait in ("Singleton", "NonEmptyMap", "NonEmptySet"):

@@ -10,11 +10,8 @@ FAILED = "return Err(AllocError);"
 # The statements of iterators: an `Err` in the place of each item, or one and then `None`.
 ITEMS = {
     "ClonedIter": "let _item = self.iter.next()?; return Some(Err(AllocError));",
-    **dict.fromkeys(
-        ("GroupBy", "RunsByIter", "TryGroupByIter"),
-        "match mem::replace(&mut self.state, State::Ended) "
-        "{ State::Ended => return None, _ => return Some(Err(AllocError)) }",
-    ),
+    "DividedIter": "match mem::replace(&mut self.state, State::Ended) "
+    "{ State::Ended => return None, _ => return Some(Err(AllocError)) }",
     **dict.fromkeys(
         ("ProductIter", "RawIntersperse"),
         "if self.is_over { return None; } self.is_over = true; return Some(Err(AllocError));",

@@ -9,9 +9,6 @@ pub mod Groupings
 pub mod Grouped
 pub mod GroupedLists
 pub mod Divided
-pub mod CutRuns
-pub mod CutLists
-pub mod TryGroupBy
 pub mod SliceDivisions
 pub mod Collects
 pub mod Consumers

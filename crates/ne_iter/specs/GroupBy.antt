@@ -1,20 +1,13 @@
 -- `group_by`: its parts, and the runs that it yields.
 use Rattle.std.specs.Prelude.{◌≡◌, ◌≢◌, Bool, true, false, List, [], ◌∷◌, ◌++◌, Option, None, Some}
-use Rattle.std.specs.Prelude.{MatchOption, Result, Ok, Err, map}
-use Rattle.std.specs.Fn.{Mut}
+use Rattle.std.specs.Prelude.{MatchOption, Result, Ok, Err, map, ◌⊎◌}
+use Rattle.std.specs.Fn.{CalledAt, Mut}
 use Rattle.std.specs.Borrow.{Bor}
-use Rattle.std.specs.Prelude.{◌⊎◌}
-use Rattle.ne_iter.specs.declared.iter.group_by.NEGroupBy.{NEGroupBy}
+use Rattle.std.specs.Iterator.{ActsAsAt}
+use Rattle.ne_vec.specs.Lists.{View}
 use Rattle.ne_iter.specs.Calls.{CallsEachAt}
-use Rattle.ne_iter.specs.Keys.{items_of, DividesByKey}
-
--- The source of a `NEGroupBy`.
-abbrev pub group_by_source : {I F : Type 0} → NEGroupBy I F → I
-group_by_source s = s.iter
-
--- The closure that returns the keys.
-abbrev pub group_by_callee : {I F : Type 0} → NEGroupBy I F → F
-group_by_callee s = s.f
+use Rattle.ne_iter.specs.GroupingRuns.{RunTest}
+use Rattle.ne_iter.specs.Keys.{items_of, same_key, DividesByKey, IsDividedBy}
 
 -- The runs rs, followed by a run of only the item that is held, if there is one.
 abbrev pub and_held : {A : Type 0} → List (List A) → Option A → List (List A)
@@ -30,6 +23,17 @@ GivesRuns {A = A} {E = E} yields P v
     × ((whole : Bool) (xs : List (Result (List A) E)) → yields whole v xs
     → (rs : List (List A)) × ((xs ≡ map Ok rs)
     ⊎ ((e : E) × (xs ≡ map Ok rs ++ Err e ∷ []) × P false rs)))
+
+module _ {A K F : Type 0} (calls : Mut F (Bor A × Unit {0}) K) (eq : K → K → Bool) where
+  -- The closure gives the keys, and items with equal keys make a run.
+  abbrev pub by_key : RunTest F A K
+  by_key = record { keys = CalledAt calls; tests = λ f test. test ≡ same_key eq }
+
+  -- If f acts as a function h of the items through `view`, the runs are those of xs by h.
+  abbrev pub GroupsThrough : (view : View A) → F → List view.Target → List (List view.Target)
+      → Type 0
+  GroupsThrough view f xs rs = (h : view.Target → K) → ActsAsAt calls f (λ x. h (view.of x))
+      → IsDividedBy h eq xs rs
 
 module _ {U A K F : Type 0} (reads : Bool → U → List A → Type 0)
     (calls : Mut F (Bor A × Unit {0}) K) (eq : K → K → Bool) where

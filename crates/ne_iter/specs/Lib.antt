@@ -10,6 +10,7 @@ pub mod Keys
 pub mod Grouping
 pub mod GroupingRuns
 pub mod GroupingLaws
+pub mod RunTestLaws
 pub mod Collected
 pub mod Keyed
 pub mod CollectedLaws
@@ -30,7 +31,6 @@ pub mod FlatMap
 pub mod Scan
 pub mod GroupBy
 pub mod RunsBy
-pub mod RunsByLaws
 pub mod TryGroupBy
 pub mod Intersperse
 pub mod Peekable

@@ -7,6 +7,7 @@ pub(crate) mod chain;
 pub(crate) mod cloned;
 mod collected;
 pub(crate) mod copied;
+pub(crate) mod divided;
 pub(crate) mod enumerate;
 pub(crate) mod flat_map;
 pub(crate) mod flatten;

@@ -1,6 +1,7 @@
 //! The first runs of a non-empty iterator, and the reader after them.
 ghost use Rattle.std.specs.Prelude.{◌≡◌, ◌<◌, ◌≤◌, IfOk, length};
 ghost use Rattle.std.specs.Iterator.{IsFiniteIterable, CallableOnAllAt};
+ghost use Rattle.nonempty_collections.specs.GroupBy.{by_key};
 ghost use Rattle.nonempty_collections.specs.GroupingRuns.{HasRead, IsOver, IsUnread};
 
 use nonempty_collections::iter::GroupBy;
@@ -42,7 +43,7 @@ where
         → CallableOnAllAt I.IntoIter.next_gives F.FnMut it key }
     // The reader began with what the source becomes, and with this closure, and gave these runs.
     ensures reads { IfOk result (λ taken. (it : I.IntoIter) × I.into_iter_gives iter it
-        × HasRead I.IntoIter.next_gives F.FnMut K.eq it key taken.0.items taken.1) }
+        × HasRead I.IntoIter.next_gives (by_key F.FnMut K.eq) it key taken.0.items taken.1) }
     ensures count { IfOk result (λ taken. length taken.0.items ≤ k) }
     ensures fewer { IfOk result (λ taken. length taken.0.items < k → IsOver taken.1) }
     ensures unread { IfOk result (λ taken. k ≡ 0 → IsUnread taken.1) }

@@ -1,154 +1,49 @@
 //! The adapter that divides the items of a source into runs of equal keys.
-ghost use Rattle.std.specs.Iterator.{CallableOnAllAt};
-ghost use Rattle.ne_iter.specs.GroupingRuns.{CanRead, GivesRun, GroupsRuns, IsUnread, runs_left};
-ghost use Rattle.ne_iter.specs.GroupBy.{group_by_source, group_by_callee};
+ghost use Rattle.std.specs.Iterator.{ActsAsAt, CallableOnAllAt};
+ghost use Rattle.ne_iter.specs.GroupBy.{by_key};
+ghost use Rattle.ne_iter.specs.GroupingRuns.{divided_source, divided_callee};
+ghost use Rattle.ne_iter.specs.Keys.{IsDividedBy};
+ghost use Rattle.ne_iter.specs.RunTestLaws.{callable_on, runs_by_key};
 
-use super::{ItemSource, NonEmptyIterator};
-use crate::laws::runs_by_a_function;
-use ne_vec::{NEVec, laws};
-use std::alloc::{AllocError, Global};
-use std::marker::Model;
-use std::mem;
+use super::ItemSource;
+use super::divided::{Divided, DividedIter, Division};
+use std::alloc::AllocError;
 
 /// A source of the runs of items with equal keys: see [`NonEmptyIterator::group_by`].
-#[derive(Drop)]
-pub struct NEGroupBy<I, F> {
-    pub(super) iter: I,
-    pub(super) f: F,
-    pub(super) alloc: Global,
-}
-
-impl<I: IntoIterator, K: PartialEq + Drop, F: FnMut(&I::Item) -> K + Drop> IntoIterator
-    for NEGroupBy<I, F>
-where
-    I::Item: Drop,
-{
-    ghost use Rattle.std.specs.Prelude.{◌≡◌};
-    ghost use Rattle.ne_iter.specs.GroupBy.{group_by_source, group_by_callee};
-
-    type Item = Result<NEVec<I::Item>, AllocError>;
-
-    type IntoIter = GroupBy<I::IntoIter, K, I::Item, F>;
-
-    ghost into_iter_gives = { λ s g. I.into_iter_gives (group_by_source s) g.source
-        × (g.closure ≡ group_by_callee s) × IsUnread g
-        × GroupsRuns I.IntoIter.next_gives F.FnMut K.eq g };
-
-    fn into_iter(self) -> GroupBy<I::IntoIter, K, I::Item, F> {
-        runs_by_a_function::<I::Item, K, F>(&self.f);
-        GroupBy {
-            iter: self.iter.into_iter(),
-            key: self.f,
-            state: State::Unread,
-            alloc: self.alloc,
-        }
-    }
-}
-
-impl<I: NonEmptyIterator, K: PartialEq + Drop, F: FnMut(&I::Item) -> K + Drop> NonEmptyIterator
-    for NEGroupBy<I, F>
-where
-    I::Item: Drop,
-{
-    ghost use Rattle.ne_iter.specs.GroupBy.{group_by_source};
-    ghost use Rattle.ne_iter.specs.GroupingLaws.{HasFirst-grouped};
-
-    ghost not_empty = { λ s g made. HasFirst-grouped I.IntoIter.next_gives F.FnMut K.eq g made.2
-        (I.not_empty (group_by_source s) g.source made.0) };
-}
-
-/// The iterator of an [`NEGroupBy`]. It returns one run after the other, each as a vector in `Ok`,
-/// or an `Err` if an allocation for a run fails; the items taken and not returned are then dropped.
-/// After an `Err` it returns `None`, and takes nothing more.
 ///
-/// Between two calls its value in contracts is its source, its closure, and what is ahead: nothing
-/// was taken yet, or one item is held with its key, or nothing more comes.
+/// [`NonEmptyIterator::group_by`]: super::NonEmptyIterator::group_by
+pub type NEGroupBy<I, F> = Divided<I, F, ByKey>;
+
+/// The iterator of an [`NEGroupBy`]: see [`DividedIter`].
+pub type GroupBy<I, K, V, F> = DividedIter<I, K, V, F, ByKey>;
+
+/// The closure returns the keys, and items with equal keys make a run. It may have state.
 #[derive(Drop)]
-pub struct GroupBy<I, K, V, F> {
-    iter: I,
-    key: F,
-    state: State<K, V>,
-    alloc: Global,
-}
+pub struct ByKey;
 
-// What is ahead: nothing was taken yet; or one item, with its key, was taken after the runs that
-// were returned; or nothing more comes.
-#[derive(Drop)]
-pub(super) enum State<K, V> {
-    Unread,
-    Held(K, V),
-    Ended,
-}
+impl<I: Iterator, K: PartialEq + Drop, F: FnMut(&I::Item) -> K> Division<F, I> for ByKey {
+    type Key = K;
 
-impl<K, V> State<K, V> {
-    ghost use Rattle.std.specs.Prelude.{ℕ, ◌≤◌, IfSome};
-    ghost use Rattle.ne_iter.specs.GroupingRuns.{items_ahead};
+    ghost how = { by_key F.FnMut K.eq };
 
-    // Returns the bounds on how many runs are left, if the source has at most `high` items left.
-    pub(super) fn hint(&self, high: Option<usize>) -> (usize, Option<usize>)
-        ensures lower { result.0 ≤ items_ahead self.now 0 }
-        ensures upper { (left : ℕ) → IfSome high (λ n. left ≤ n)
-            → IfSome result.1 (λ n. items_ahead self.now left ≤ n) }
-    {
-        match self {
-            State::Unread => (0, high),
-            State::Held(_, _) => (1, high.and_then(|n| n.checked_add(1))),
-            State::Ended => (0, Some(0)),
-        }
-    }
-}
+    ghost callable = { λ _ s f. CallableOnAllAt I.next_gives F.FnMut s f };
 
-impl<I, K, V, F> Model for GroupBy<I, K, V, F> {
-    ghost use Rattle.ne_iter.specs.Grouping.{Grouping};
+    ghost whole = { λ f xs rs. (h : I.Item → K) → ActsAsAt F.FnMut f h → IsDividedBy h K.eq xs rs };
 
-    ghost Value = { Grouping I K V F };
+    ghost more = { λ _. callable_on I.next_gives F.FnMut };
 
-    ghost view = { λ g. record { source = g.iter; closure = g.key; state = g.state } };
-}
+    ghost alone = { λ _ _ _ _ can. can };
 
-impl<I: Iterator, K: PartialEq + Drop, F: FnMut(&I::Item) -> K + Drop> Iterator
-    for GroupBy<I, K, I::Item, F>
-where
-    I::Item: Drop,
-{
-    type Item = Result<NEVec<I::Item>, AllocError>;
+    ghost steady = { λ _ _ _ _ _ _ is. is };
 
-    ghost can_next = { CanRead I.can_next I.remaining (CallableOnAllAt I.next_gives F.FnMut) };
+    ghost divided = { runs_by_key F.FnMut K.eq };
 
-    ghost next_gives = { GivesRun I.next_gives F.FnMut K.eq };
-
-    ghost remaining = { runs_left I.remaining };
-
-    fn next(&mut self) -> Option<Result<NEVec<I::Item>, AllocError>> {
-        laws::one_item_more::<(I::Item, K)>();
-        let (first_key, first) = match mem::replace(&mut self.state, State::Ended) {
-            State::Held(key, item) => (key, item),
-            State::Unread => {
-                let item = self.iter.next()?;
-                ((self.key)(&item), item)
-            }
-            State::Ended => return None,
-        };
-        let Ok(mut run) = NEVec::new(self.alloc, first) else {
-            return Some(Err(AllocError));
-        };
-        while let Some(item) = self.iter.next() {
-            let item_key = (self.key)(&item);
-            let goes_on = first_key == item_key;
-            if goes_on {
-                let Ok(()) = run.push(item) else {
-                    return Some(Err(AllocError));
-                };
-            } else {
-                self.state = State::Held(item_key, item);
-                return Some(Ok(run));
-            }
-        }
-        Some(Ok(run))
+    fn key(f: &mut F, item: &I::Item) -> Result<K, AllocError> {
+        Ok(f(item))
     }
 
-    fn size_hint(&self) -> (usize, Option<usize>) {
-        self.state.hint(self.iter.size_hint().1)
+    fn goes_on(_f: &F, _first: &I::Item, first_key: &K, _item: &I::Item, item_key: &K) -> bool {
+        *first_key == *item_key
     }
 }
 
@@ -156,8 +51,8 @@ where
 pub fn group_by_ends<K: PartialEq + Drop, S: IntoIterator, F: FnMut(&S::Item) -> K + Drop>()
 where
     S::Item: Drop,
-    ensures { (grouped : _) → ⟦<S as ItemSource>⟧.ends (group_by_source grouped)
-        → ((it : S.IntoIter) → S.into_iter_gives (group_by_source grouped) it
-        → CallableOnAllAt S.IntoIter.next_gives F.FnMut it (group_by_callee grouped))
+    ensures { (grouped : _) → ⟦<S as ItemSource>⟧.ends (divided_source grouped)
+        → ((it : S.IntoIter) → S.into_iter_gives (divided_source grouped) it
+        → CallableOnAllAt S.IntoIter.next_gives F.FnMut it (divided_callee grouped))
         → ⟦<NEGroupBy<S, F> as ItemSource>⟧.ends grouped }
 {}

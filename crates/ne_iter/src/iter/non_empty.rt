@@ -59,10 +59,10 @@ ghost use Rattle.ne_iter.specs.Take.{take_source, take_count, IsTaken};
 ghost use Rattle.ne_iter.specs.Copied.{copied_source, IsCopied};
 ghost use Rattle.ne_iter.specs.Scan.{scan_source, scan_init, scan_callee};
 ghost use Rattle.ne_iter.specs.Scan.{CallableInScan, IsScanned};
-ghost use Rattle.ne_iter.specs.GroupBy.{group_by_source, group_by_callee, GroupByGives, GivesRuns};
-ghost use Rattle.ne_iter.specs.GroupingRuns.{GroupsLists};
-ghost use Rattle.ne_iter.specs.RunsBy.{runs_by_source, runs_by_callee, CutsLists, HasCut};
-ghost use Rattle.ne_iter.specs.TryGroupBy.{try_group_by_source, try_group_by_callee, by_keys};
+ghost use Rattle.ne_iter.specs.GroupBy.{GroupByGives, GivesRuns, GroupsThrough};
+ghost use Rattle.ne_iter.specs.GroupingRuns.{YieldsRunsThrough, divided_source, divided_callee};
+ghost use Rattle.ne_iter.specs.RunsBy.{CutsThrough, HasCut};
+ghost use Rattle.ne_iter.specs.TryGroupBy.{by_keys};
 ghost use Rattle.ne_iter.specs.Map.{MapsThrough};
 ghost use Rattle.ne_iter.specs.Filter.{FilterMapsThrough, IsFiltered, IsFilterMapped, IsParted};
 ghost use Rattle.ne_iter.specs.Filter.{PartsLists};
@@ -73,6 +73,7 @@ ghost use Rattle.ne_iter.specs.Peekable.{YieldsPeeked};
 
 use super::best::{best, best_by_key};
 use super::collected::{FromNonEmptyIterator, all_or_errors, append};
+use super::divided::Divided;
 use super::sources::{IntoNonEmptyIterator, ItemSource};
 use super::{
     Chain, Cloned, Copied, Enumerate, FlatMap, Flatten, GroupBy, Intersperse, Map, NEGroupBy,
@@ -619,21 +620,23 @@ pub trait NonEmptyIterator: IntoIterator {
     where
         Self: Sized,
         Self::Item: Drop,
-        ensures holds { (group_by_source result ≡ self) × (group_by_callee result ≡ f) }
+        ensures holds { (divided_source result ≡ self) × (divided_callee result ≡ f) }
         ensures ends { ⟦<Self as ItemSource>⟧.ends self
             → ((it : Self.IntoIter) → Self.into_iter_gives self it
             → CallableOnAllAt Self.IntoIter.next_gives F.FnMut it f)
             → ⟦<NEGroupBy<Self, F> as ItemSource>⟧.ends result }
         ensures gives { GroupByGives (⟦<Self as ItemSource>⟧.reads) F.FnMut K.eq
             (⟦<NEGroupBy<Self, F> as ItemSource>⟧.reads) self f result }
-        ensures lists { GroupsLists item_view (⟦<Self as ItemSource>⟧.lists) self F.FnMut K.eq f
+        ensures lists { YieldsRunsThrough item_view (⟦<Self as ItemSource>⟧.lists) self
             (⟦<NEGroupBy<Self, F> as IntoIterator>⟧.into_iter_gives)
-            (⟦<GroupBy<Self::IntoIter, K, Self::Item, F> as Iterator>⟧.next_gives) result }
+            (⟦<GroupBy<Self::IntoIter, K, Self::Item, F> as Iterator>⟧.next_gives)
+            (GroupsThrough F.FnMut K.eq item_view f) result }
     {
-        NEGroupBy {
+        Divided {
             iter: self,
             f,
             alloc,
+            by: PhantomData,
         }
     }
 
@@ -665,21 +668,23 @@ pub trait NonEmptyIterator: IntoIterator {
     where
         Self: Sized,
         Self::Item: Drop,
-        ensures holds { (runs_by_source result ≡ self) × (runs_by_callee result ≡ same) }
+        ensures holds { (divided_source result ≡ self) × (divided_callee result ≡ same) }
         ensures ends { ⟦<Self as ItemSource>⟧.ends self
             → ((it : Self.IntoIter) → Self.into_iter_gives self it
             → CallableOnTwo Self.IntoIter.next_gives F.Fn it same)
             → ⟦<RunsBy<Self, F> as ItemSource>⟧.ends result }
         ensures gives { GivesRuns (⟦<RunsBy<Self, F> as ItemSource>⟧.reads)
             (HasCut (⟦<Self as ItemSource>⟧.reads) F.Fn self same) result }
-        ensures lists { CutsLists item_view (⟦<Self as ItemSource>⟧.lists) self F.Fn same
+        ensures lists { YieldsRunsThrough item_view (⟦<Self as ItemSource>⟧.lists) self
             (⟦<RunsBy<Self, F> as IntoIterator>⟧.into_iter_gives)
-            (⟦<RunsByIter<Self::IntoIter, Self::Item, F> as Iterator>⟧.next_gives) result }
+            (⟦<RunsByIter<Self::IntoIter, Self::Item, F> as Iterator>⟧.next_gives)
+            (CutsThrough F.Fn item_view same) result }
     {
-        RunsBy {
+        Divided {
             iter: self,
-            same,
+            f: same,
             alloc,
+            by: PhantomData,
         }
     }
 
@@ -708,21 +713,23 @@ pub trait NonEmptyIterator: IntoIterator {
     where
         Self: Sized,
         Self::Item: Drop,
-        ensures holds { (try_group_by_source result ≡ self) × (try_group_by_callee result ≡ f) }
+        ensures holds { (divided_source result ≡ self) × (divided_callee result ≡ f) }
         ensures ends { ⟦<Self as ItemSource>⟧.ends self
             → ((it : Self.IntoIter) → Self.into_iter_gives self it
             → CallableOnTwo Self.IntoIter.next_gives (by_keys F.Fn K.eq) it f)
             → ⟦<TryGroupBy<Self, F> as ItemSource>⟧.ends result }
         ensures gives { GivesRuns (⟦<TryGroupBy<Self, F> as ItemSource>⟧.reads)
             (HasCut (⟦<Self as ItemSource>⟧.reads) (by_keys F.Fn K.eq) self f) result }
-        ensures lists { CutsLists item_view (⟦<Self as ItemSource>⟧.lists) self (by_keys F.Fn K.eq)
-            f (⟦<TryGroupBy<Self, F> as IntoIterator>⟧.into_iter_gives)
-            (⟦<TryGroupByIter<Self::IntoIter, K, Self::Item, F> as Iterator>⟧.next_gives) result }
+        ensures lists { YieldsRunsThrough item_view (⟦<Self as ItemSource>⟧.lists) self
+            (⟦<TryGroupBy<Self, F> as IntoIterator>⟧.into_iter_gives)
+            (⟦<TryGroupByIter<Self::IntoIter, K, Self::Item, F> as Iterator>⟧.next_gives)
+            (CutsThrough (by_keys F.Fn K.eq) item_view f) result }
     {
-        TryGroupBy {
+        Divided {
             iter: self,
             f,
             alloc,
+            by: PhantomData,
         }
     }
 

@@ -4,6 +4,7 @@ ghost use Rattle.std.specs.Iterator.{ActsAsAt, Drains};
 ghost use Rattle.std.specs.List.{AllByRecursion, FoldsTo};
 ghost use Rattle.ne_vec.specs.Divisions.{IsDivision, by_first, concat};
 ghost use Rattle.ne_iter.specs.Calls.{CallsEachAt};
+ghost use Rattle.ne_iter.specs.GroupBy.{by_key};
 ghost use Rattle.ne_iter.specs.Keys.{items_of, DividesByKey, IsDividedBy};
 ghost use Rattle.ne_iter.specs.GroupingRuns.{IsOver, IsUnread, HasRead, GivesRun, ReturnsOn};
 ghost use Rattle.ne_iter.specs.Grouping.{Grouping};
@@ -18,19 +19,19 @@ use std::alloc::AllocError;
 /// returned the runs `rs`, and is now `g`.
 pub fn groupings_stand_at_any_moment<I: Iterator, K: PartialEq, F: FnMut(&I::Item) -> K>()
     ensures fresh { (g : Grouping I K I.Item F) → IsUnread g
-        → HasRead I.next_gives F.FnMut K.eq g.source g.closure [] g }
+        → HasRead I.next_gives (by_key F.FnMut K.eq) g.source g.closure [] g }
     ensures later { (s : I) (f : F) (done : List (List I.Item)) (g h : Grouping I K I.Item F)
         (results : List (Option (Result (List I.Item) AllocError)))
-        → HasRead I.next_gives F.FnMut K.eq s f done g
-        → FoldsTo (GivesRun I.next_gives F.FnMut K.eq) g results h
-        → ReturnsOn I.next_gives F.FnMut K.eq s f done results h }
+        → HasRead I.next_gives (by_key F.FnMut K.eq) s f done g
+        → FoldsTo (GivesRun I.next_gives (by_key F.FnMut K.eq)) g results h
+        → ReturnsOn I.next_gives (by_key F.FnMut K.eq) s f done results h }
 {}
 
 /// A grouping that has nothing ahead, and returned no `Err`, has taken everything that its source
 /// gave, and has returned the runs of that.
 pub fn whole_reading_gives_the_division<I: Iterator, K: PartialEq, F: FnMut(&I::Item) -> K>()
     ensures { (s : I) (f : F) (rs : List (List I.Item)) (g : Grouping I K I.Item F)
-        → HasRead I.next_gives F.FnMut K.eq s f rs g → IsOver g
+        → HasRead I.next_gives (by_key F.FnMut K.eq) s f rs g → IsOver g
         → (ps : List (I.Item × K)) × Drains I.next_gives s (items_of ps)
         × CallsEachAt F.FnMut f ps g.closure × DividesByKey K.eq ps rs }
 {}
@@ -39,14 +40,11 @@ pub fn whole_reading_gives_the_division<I: Iterator, K: PartialEq, F: FnMut(&I::
 /// whatever keys they have, the runs that it has returned are the first runs of all items.
 pub fn stopped_grouping_has_the_first_runs<I: Iterator, K: PartialEq, F: FnMut(&I::Item) -> K>()
     ensures { (s : I) (f : F) (rs : List (List I.Item)) (g : Grouping I K I.Item F)
-        (read : HasRead I.next_gives F.FnMut K.eq s f rs g)
+        (read : HasRead I.next_gives (by_key F.FnMut K.eq) s f rs g)
         (more : List (I.Item × K)) (all : List (List I.Item)) → (IsOver g → more ≡ [])
         → DividesByKey K.eq (read.drawn ++ more) all
         → (rest : List (List I.Item)) × (all ≡ rs ++ rest) }
-{
-    laws::has_one_division::<(I::Item, K)>();
-    laws::longer_list_keeps_runs::<(I::Item, K)>();
-}
+{}
 
 /// Items with keys have exactly one division by their keys. One after another its runs are the
 /// items, and no run is empty.
@@ -68,11 +66,7 @@ pub fn runs_by_a_function<T, K, F: FnMut(&T) -> K>(f: &F)
     ensures { (eq : K → K → Bool) (h : T → K) (ps : List (T × K)) (rs : List (List T)) (g : F)
         → ActsAsAt F.FnMut f.now h → CallsEachAt F.FnMut f.now ps g → DividesByKey eq ps rs
         → IsDivision (by_first (λ x y. eq (h x) (h y))) (items_of ps) rs }
-{
-    laws::has_one_division::<(T, K)>();
-    laws::has_one_division::<T>();
-    laws::mapped_list_has_the_mapped_runs::<T, (T, K)>();
-}
+{}
 
 /// Runs by the keys that a function gives are the division of the items by these keys, where each
 /// key is compared with the key of its run's first item. Callers of `group_by` that know the
