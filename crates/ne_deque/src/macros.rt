@@ -4,7 +4,7 @@
 ///
 /// It evaluates to a `Result`, which is `AllocError` if the allocation fails; the items are then
 /// dropped. The expressions are evaluated from left to right, the allocator first, and none after a
-/// failure. They may not contain `return`, `break` or `?`. Without an item the macro doesn't
+/// failure. They may not contain `return`, `break` or `?`. Without an item the macro does not
 /// compile.
 ///
 /// ```

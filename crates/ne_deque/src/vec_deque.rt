@@ -40,8 +40,8 @@ use std::slice;
 /// A double-ended queue that holds at least one item. It wraps std's [`VecDeque`].
 ///
 /// Items are added and removed at both ends, and there is always a first and a last one. In
-/// contracts its value is the list of its items, from front to back. Methods that don't mention
-/// allocation don't allocate.
+/// contracts its value is the list of its items, from front to back. Methods that do not mention
+/// allocation do not allocate.
 ///
 /// ```
 /// let mut jobs = nevd![alloc; 4, 6]?;
@@ -132,7 +132,7 @@ impl<T> NEVecDeque<T> {
     }
 
     /// Returns a queue of the items of `queue` in the same memory, or `None` if `queue` is empty.
-    /// It doesn't allocate.
+    /// It does not allocate.
     ///
     /// ```
     /// let mut inner = VecDeque::new(alloc);
@@ -152,7 +152,7 @@ impl<T> NEVecDeque<T> {
         }
     }
 
-    /// Returns the items as a `VecDeque`, in the same memory. It doesn't allocate.
+    /// Returns the items as a `VecDeque`, in the same memory. It does not allocate.
     ///
     /// ```
     /// let inner = nevd![alloc; 4, 6, 8]?.into_deque(); // [4, 6, 8]
@@ -239,8 +239,8 @@ impl<T> NEVecDeque<T> {
         self.inner.reserve(additional)
     }
 
-    /// Gives back memory that the items don't need, if that is possible. The items stay as they
-    /// are. If the smaller memory can't be allocated, the queue keeps what it has.
+    /// Gives back memory that the items do not need, if that is possible. The items stay as they
+    /// are. If the smaller memory cannot be allocated, the queue keeps what it has.
     ///
     /// ```
     /// let mut queue = nevd![alloc; 4, 6]?;

@@ -12,7 +12,7 @@ use Rattle.std.specs.Cmp.{IsEquivalence}
 use Rattle.std.specs.List.{count_by}
 use Rattle.std.specs.List.Sorted.{IsPermutation}
 use Rattle.std.specs.declared.cmp.Ordering.{Ordering}
-use Rattle.ne_heap.specs.HeapItems.{AddsItem, IsGreatest, ReplacesItem, SameItems, TakesItem}
+use Rattle.ne_heap.specs.HeapItems.{AddsItem, IsGreatestItem, ReplacesItem, SameItems, TakesItem}
 
 module _ {X : Type 0} where
   pub same_items : (xs ys : List X) → IsPermutation xs ys → SameItems xs ys
@@ -62,7 +62,7 @@ module _ {X : Type 0} (eq : X → X → Bool) (cmp : X → X → Ordering) (equa
       (omega arith)
 
   pub is_greatest : (xs : List X) (x : X) → slice_get xs 0 ≡ Some x → IsUpperBound cmp x xs
-      → IsGreatest eq cmp xs x
+      → IsGreatestItem eq cmp xs x
   is_greatest xs x top bound = (top, bound, found x xs top, none_greater x xs bound)
 
   -- The item at the top of a heap, as `pop` of a `BinaryHeap` says it.
@@ -74,7 +74,7 @@ module _ {X : Type 0} (eq : X → X → Bool) (cmp : X → X → Ordering) (equa
   pub popped_greatest : (xs ys : List X) (popped : Option X) → 0 < length xs → IsHeap cmp xs
       → IfSome popped (λ x. x ≡ slice_index_or xs 0 x)
       → IfSome popped (λ x. PopsGreatest cmp xs x ys)
-      → IfSome popped (IsGreatest eq cmp xs)
+      → IfSome popped (IsGreatestItem eq cmp xs)
   popped_greatest xs ys None some heap top order = tt
   popped_greatest xs ys (Some x) some heap top order =
       is_greatest xs x (at_top x xs some top) (order heap).1

@@ -29,6 +29,6 @@ module _ {X : Type 0} where
       × ((f : X → ℕ) → (sum_by f ys ≡ sum_by f ys) × (sum_by f ys + f x ≡ f y + sum_by f xs))
 
   -- x is the item of the heap xs that is at its top, and no item is greater.
-  abbrev pub IsGreatest : (X → X → Bool) → (X → X → Ordering) → List X → X → Type 0
-  IsGreatest eq cmp xs x = (slice_get xs 0 ≡ Some x) × IsUpperBound cmp x xs
+  abbrev pub IsGreatestItem : (X → X → Bool) → (X → X → Ordering) → List X → X → Type 0
+  IsGreatestItem eq cmp xs x = (slice_get xs 0 ≡ Some x) × IsUpperBound cmp x xs
       × (0 < count_by (λ y. eq y x) xs) × (count_by (λ y. lt_by_cmp cmp x y) xs ≡ 0)

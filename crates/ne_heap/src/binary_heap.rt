@@ -22,7 +22,8 @@ ghost use Rattle.ne_vec.specs.Lists.{itself};
 ghost use Rattle.ne_iter.specs.Keyed.Extends.{ExtendsByList};
 ghost use Rattle.ne_iter.specs.SourceLists.{MeetsList};
 ghost use Rattle.ne_heap.specs.HeapClones.{IsCloneOfItems};
-ghost use Rattle.ne_heap.specs.HeapItems.{AddsItem, IsGreatest, ReplacesItem, SameItems, TakesItem};
+ghost use Rattle.ne_heap.specs.HeapItems.{AddsItem, IsGreatestItem, ReplacesItem, SameItems};
+ghost use Rattle.ne_heap.specs.HeapItems.{TakesItem};
 ghost use Rattle.ne_heap.specs.KeptItems.{kept_items};
 ghost use Rattle.ne_heap.specs.ValidHeap.{IsValid};
 
@@ -112,7 +113,7 @@ impl<T: Ord> NEBinaryHeap<T> {
     }
 
     /// Returns a heap of the items of `heap` in the same memory, or `None` if and only if `heap` is
-    /// empty. It doesn't allocate.
+    /// empty. It does not allocate.
     ///
     /// The type of std's `BinaryHeap` has no invariant that says that it is in order, so this puts
     /// the items in order again, in linear time.
@@ -145,12 +146,12 @@ impl<T: Ord> NEBinaryHeap<T> {
     /// let greatest = *heap.peek(); // 6
     /// ```
     pub fn peek(&self) -> &T
-        ensures { IsGreatest T.eq T.cmp self.now result.now }
+        ensures { IsGreatestItem T.eq T.cmp self.now result.now }
     {
         self.inner.peek().unwrap()
     }
 
-    /// Replaces the greatest item by `item`, and returns it. It doesn't allocate.
+    /// Replaces the greatest item by `item`, and returns it. It does not allocate.
     ///
     /// It stands in place of std's `peek_mut`, whose guard can remove the only item.
     ///
@@ -164,7 +165,7 @@ impl<T: Ord> NEBinaryHeap<T> {
     where
         T: Drop,
         ensures replaced { ReplacesItem self.old result item self.new }
-        ensures greatest { IsGreatest T.eq T.cmp self.old result }
+        ensures greatest { IsGreatestItem T.eq T.cmp self.old result }
     {
         let mut greatest = self.inner.peek_mut().unwrap();
         mem::replace(&mut *greatest, item)
@@ -183,7 +184,7 @@ impl<T: Ord> NEBinaryHeap<T> {
         // `None` if and only if there is one item; then nothing changes.
         ensures items { TakesUnlessLast self.old self.new result
             (λ x. TakesItem self.old x self.new) }
-        ensures greatest { IfSome result (IsGreatest T.eq T.cmp self.old) }
+        ensures greatest { IfSome result (IsGreatestItem T.eq T.cmp self.old) }
         // So no item that stays is greater.
         ensures rest { IfSome result (λ x. IsUpperBound T.cmp x self.new) }
     {
@@ -215,7 +216,7 @@ impl<T: Ord> NEBinaryHeap<T> {
         Ok(())
     }
 
-    /// Returns the items in ascending order, in the same memory. It doesn't allocate.
+    /// Returns the items in ascending order, in the same memory. It does not allocate.
     ///
     /// ```
     /// let mut heap = NEBinaryHeap::new(alloc, 4)?;
@@ -347,7 +348,7 @@ impl<T: Ord> NEBinaryHeap<T> {
         }
     }
 
-    /// Returns the items as a vector, in no particular order, in the same memory. It doesn't
+    /// Returns the items as a vector, in no particular order, in the same memory. It does not
     /// allocate.
     ///
     /// ```

@@ -42,7 +42,8 @@ module _ {A : Type 0} (beats : A → A → Bool) where
         ),
       )
 
-  -- R holds for an item and each item that doesn't beat it, and so for the best item and each item.
+  -- R holds for an item and each item that does not beat it, and so for the best item and each
+  -- item.
   -- If `beats` is an order, a list has a best item, and R holds for this item and each item.
   best_there : (R : A → A → Type 0) → ((x y : A) → beats y x ≡ false → R x y)
       → IsStrictWeakOrder beats → (x : A) (xs : List A)

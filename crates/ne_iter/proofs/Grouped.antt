@@ -11,7 +11,7 @@ use Rattle.std.specs.declared.alloc.AllocError.{AllocError}
 use Rattle.ne_vec.specs.RunLaws.{run_drains}
 use Rattle.ne_iter.specs.GroupBy.{GivesRuns, and_held}
 use Rattle.ne_iter.specs.Keys.{items_of}
-use Rattle.ne_iter.specs.GroupingRuns.{Divides, GivesKeys, GivesRun, HasRead, IsOver, ReturnsOn}
+use Rattle.ne_iter.specs.GroupingRuns.{Divides, GivesKeys, ReturnsNext, HasRead, IsOver, ReturnsOn}
 use Rattle.ne_iter.specs.GroupingRuns.{ReturnsThen, RunTest, StandsAt, YieldsRuns}
 use Rattle.ne_iter.specs.GroupingLaws.{fresh_grouping, nil_mapped}
 use Rattle.ne_iter.specs.declared.iter.divided.State.{State}
@@ -23,7 +23,7 @@ use Rattle.ne_iter.proofs.Groupings.{divides_none, held_is_not_over, unread_is_n
 module _ {S K A F : Type 0} (steps : S → Option A → S → Type 0) (how : RunTest F A K) where
   -- A grouping that is over returns only `None`.
   none_ever_after : (g h : Grouping S K A F) (results : List (Option (Result (List A) AllocError)))
-      → IsOver g → FoldsTo (GivesRun steps how) g results h
+      → IsOver g → FoldsTo (ReturnsNext steps how) g results h
       → IsOver h × AllByRecursion (λ a. a ≡ None) results
   none_ever_after g h [] over calls = (subst IsOver calls over, tt)
   none_ever_after g h (a ∷ results) over calls =
@@ -34,7 +34,7 @@ module _ {S K A F : Type 0} (steps : S → Option A → S → Type 0) (how : Run
   pub returns_on : (s : S) (f : F) (done : List (List A))
       (results : List (Option (Result (List A) AllocError))) (g h : Grouping S K A F)
       → HasRead steps how s f done g
-      → FoldsTo (GivesRun steps how) g results h
+      → FoldsTo (ReturnsNext steps how) g results h
       → ReturnsOn steps how s f done results h
   returns_on s f done [] g h read calls = record {
     runs = [];
@@ -59,7 +59,7 @@ module _ {S K A F : Type 0} (steps : S → Option A → S → Type 0) (how : Run
     where
       stays : (g h : Grouping S K A F) (results : List (Option (Result (List A) AllocError)))
           → IsOver g → HasRead steps how s f done g
-          → FoldsTo (GivesRun steps how) g results h
+          → FoldsTo (ReturnsNext steps how) g results h
           → HasRead steps how s f done h
       stays g h [] over read calls = subst (HasRead steps how s f done) calls read
       stays g h (a ∷ results) over read calls =
@@ -92,7 +92,7 @@ module _ {S K A F : Type 0} (steps : S → Option A → S → Type 0) (how : Run
 
   -- The runs that were returned.
   pub read_on : (s : S) (f : F) (done rs : List (List A)) (g h : Grouping S K A F)
-      → HasRead steps how s f done g → Yields (GivesRun steps how) g (map Ok rs) h
+      → HasRead steps how s f done g → Yields (ReturnsNext steps how) g (map Ok rs) h
       → HasRead steps how s f (done ++ rs) h
   read_on s f done [] g h read calls = subst (λ l. HasRead steps how s f l h)
       (sym (append-nil done)) (subst (HasRead steps how s f done) calls read)
@@ -117,7 +117,7 @@ module _ {S K A F : Type 0} (steps : S → Option A → S → Type 0) (how : Run
 
     came : (done : List (List A)) (xs : List (Result (List A) AllocError))
         (g h : Grouping S K A F) → HasRead steps how s f done g
-        → Yields (GivesRun steps how) g xs h → Came done xs
+        → Yields (ReturnsNext steps how) g xs h → Came done xs
     came done [] g h read calls = ([], inl refl)
     came done (Ok run ∷ xs) g h read calls = one_more_came done run xs
         (came (done ++ run ∷ []) xs calls.0 h (calls.1.reads s f done read) calls.2)
@@ -202,8 +202,9 @@ module _ {S K A F : Type 0} (steps : S → Option A → S → Type 0) (how : Run
 
       -- The runs that were returned, if the calls ended, and before an `Err`.
       pub given_runs : (whole : Bool) (rs : List (List A)) (g h : Grouping S K A F)
-          → HasRead steps how s f [] g → Yields (GivesRun steps how) g (map Ok rs) h
-          → (whole ≡ true → (u : Grouping S K A F) × GivesRun steps how h None u) → Took whole rs
+          → HasRead steps how s f [] g → Yields (ReturnsNext steps how) g (map Ok rs) h
+          → (whole ≡ true → (u : Grouping S K A F) × ReturnsNext steps how h None u)
+          → Took whole rs
       given_runs false rs g h read calls end =
           took false rs h (read_on s f [] rs g h read calls) (λ w. cc)
       given_runs true rs g h read calls end = let last = (end refl).1 in
@@ -222,7 +223,7 @@ module _ {S K A F : Type 0} (steps : S → Option A → S → Type 0) (how : Run
       (Q : Bool → List (List A) → Type 0) → ((whole : Bool) (rs : List (List A))
       → Took becomes (source_of v) (closure_of v) whole rs → Q whole rs)
       → GivesRuns (Reads (λ v g. becomes (source_of v) g.source × (g.closure ≡ closure_of v)
-      × (g.state ≡ Unread) × P g) (GivesRun steps how)) Q v
+      × (g.state ≡ Unread) × P g) (ReturnsNext steps how)) Q v
   gives_runs becomes source_of closure_of P v Q says = (
     λ whole rs h.
         says whole rs (given_runs becomes (source_of v) (closure_of v) h.it.source h.made.0 whole rs
@@ -238,11 +239,11 @@ module _ {S K A F : Type 0} (steps : S → Option A → S → Type 0) (how : Run
       → (P : F → List A → List (List A) → Type 0)
       → ((f h : F) (ps : List (A × K)) (runs : List (List (A × K))) → GivesKeys how f ps h
       → Divides how f ps runs → P f (items_of ps) (map items_of runs))
-      → YieldsRuns steps (GivesRun steps how) (P g.closure) g
+      → YieldsRuns steps (ReturnsNext steps how) (P g.closure) g
   yields_runs g unread P divided p seen from rs is w =
-      let whole : DrainsIf (GivesRun steps how) (p.whole ≡ true) g (map Ok rs) =
-      subst (λ l. DrainsIf (GivesRun steps how) (p.whole ≡ true) g l) is
-      (run_drains (GivesRun steps how) p g from) in
+      let whole : DrainsIf (ReturnsNext steps how) (p.whole ≡ true) g (map Ok rs) =
+      subst (λ l. DrainsIf (ReturnsNext steps how) (p.whole ≡ true) g l) is
+      (run_drains (ReturnsNext steps how) p g from) in
       let r = given_runs {U = S} (λ u s. u ≡ s) g.source g.closure g.source refl true rs g whole.0
       (fresh_grouping steps how g unread) whole.1 (λ e. whole.2 w) in
       let over = r.over refl in

@@ -16,7 +16,7 @@ use Rattle.ne_vec.specs.Lists.{EachView, Lists, View}
 use Rattle.ne_iter.specs.Consumers.{HasBestKey, IsBestOfList, IsFirstLeast, NoKeyBeats}
 use Rattle.ne_iter.specs.Calls.{CallsEachAt}
 use Rattle.ne_iter.specs.Keys.{items_of}
-use Rattle.ne_iter.specs.Sources.{Reads, RunsWhole}
+use Rattle.ne_iter.specs.Sources.{Reads, WholeRunOf}
 use Rattle.ne_iter.proofs.Extremes.{best_of_list}
 use Rattle.ne_iter.proofs.FunctionCalls.{values_at}
 use Rattle.ne_iter.proofs.SourceLists.{each_view, read_through}
@@ -123,7 +123,8 @@ module _ {A B F : Type 0} (calls : Mut F (Bor A × Unit {0}) B) (f : F) (beats :
   -- The item is in a run that yielded the items, and no key there beats its key.
   pub best_key_run_of : {U S : Type 0} {becomes : U → S → Type 0}
       {steps : S → Option A → S → Type 0} {u : U} → Reads becomes steps true u (items_of ps)
-      → RunsWhole becomes steps u (λ p. AnyItem p (λ x. x ≡ m) × NoKeyBeats p calls f beats m)
+      → WholeRunOf becomes steps u (λ p.
+      AnyItem p (λ x. x ≡ m) × NoKeyBeats p calls f beats m)
   best_key_run_of h =
       let item = slice_get-map (λ p. p.0) ps best.0 ∙ ap (option_map (λ p. p.0)) best.2 in
       whole_run_of h

@@ -184,12 +184,12 @@ drop_prefix (suc n) whole [] more ended = (
 )
 drop_prefix (suc n) whole (u ∷ us) more ended = drop_prefix n whole us more ended
 
--- The first of ys, if there is one, doesn't pass.
+-- The first of ys, if there is one, does not pass.
 abbrev pub FailsTest : {A : Type 0} → (A → Bool) → List A → Type 0
 FailsTest test [] = ⊤
 FailsTest test (y ∷ ys) = test y ≡ false
 
--- A first item for which the test may return false doesn't pass.
+-- A first item for which the test may return false does not pass.
 fails_test : {F A : Type 0} (calls : Mut F (Bor A × Unit {0}) Bool) (f : F) (test : A → Bool)
     (ys : List A) → ActsAsAt calls f test → FailsFirst calls f ys → FailsTest test ys
 fails_test calls f test [] acts h = tt
@@ -209,7 +209,7 @@ module _ {A : Type 0} (test : A → Bool) where
   drop_passed (u ∷ us) l h =
       ap (λ n. drop n (u ∷ (us ++ l))) (prefix_pass u (us ++ l) h.0) ∙ drop_passed us l h.1
 
-  -- Up to the first item that doesn't pass, if it was yielded.
+  -- Up to the first item that does not pass, if it was yielded.
   pub drop_passed_prefix : (whole : Bool) (xs us ys : List A)
       → AllByRecursion (λ x. test x ≡ true) us → FailsTest test ys
       → IsPrefix whole xs (us ++ ys) → IsPrefix whole (drop (prefix_len test xs) xs) ys

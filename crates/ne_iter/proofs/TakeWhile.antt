@@ -149,7 +149,7 @@ module _ {A : Type 0} (test : A → Bool) where
     λ w. ap (take_while test) (f.2 w),
   )
 
-  -- An item x was yielded that doesn't pass.
+  -- An item x was yielded that does not pass.
   pub take_passed_stopped : (whole : Bool) (xs us : List A) (x : A)
       → AllByRecursion (λ x. test x ≡ true) us → test x ≡ false
       → IsPrefix false xs (us ++ x ∷ []) → IsPrefix whole (take_while test xs) us
@@ -167,7 +167,7 @@ module _ {A B : Type 0} (view : A → B) where
   all_map test [] h = tt
   all_map test (u ∷ us) h = (h.0, all_map test us h.1)
 
--- The source has ended, or an item was yielded that doesn't pass.
+-- The source has ended, or an item was yielded that does not pass.
 stopped : {U A B F : Type 0} (reads : Bool → U → List A → Type 0)
     (calls : Mut F (Bor A × Unit {0}) Bool) (f q : F) (view : A → B) (test : B → Bool) (u : U)
     (xs : List B) (us : List A) (whole : Bool) → ActsAsAt calls f (λ x. test (view x)) → q ≡ f

@@ -8,16 +8,16 @@ use Rattle.std.specs.Prelude.{slice_index_or}
 use Rattle.std.specs.Option.{option_map}
 use Rattle.std.specs.Iterator.Runs.{Run, AllItems, AnyItem}
 use Rattle.std.specs.List.{IsFirstBest}
-use Rattle.ne_iter.specs.Sources.{Reads, RunsSome, RunsWhole, BeginsRuns}
+use Rattle.ne_iter.specs.Sources.{Reads, SomeRunOf, WholeRunOf, BeginsRuns}
 
 module _ {U S A : Type 0} {becomes : U → S → Type 0} {steps : S → Option A → S → Type 0} {u : U}
     {xs : List A} where
   pub run_of : {whole : Bool} → Reads becomes steps whole u xs → (P : List A → Type 0) → P xs
-      → RunsSome becomes steps u (λ p. (p.whole ≡ whole) × P p.items)
+      → SomeRunOf becomes steps u (λ p. (p.whole ≡ whole) × P p.items)
   run_of {whole} h P k = (h.it, h.made, (run steps h.it xs whole h.given, refl, (refl, k)))
 
   pub whole_run_of : (h : Reads becomes steps true u xs) → (P : Run steps → Type 0)
-      → P (run steps h.it xs true h.given) → RunsWhole becomes steps u P
+      → P (run steps h.it xs true h.given) → WholeRunOf becomes steps u P
   whole_run_of h P k = (h.it, h.made, (run steps h.it xs true h.given, refl, refl, k))
 
 module _ {A : Type 0} (beats : A → A → Bool) (xs : List A) (m : A) (place : ℕ)
@@ -32,7 +32,7 @@ module _ {A : Type 0} (beats : A → A → Bool) (xs : List A) (m : A) (place : 
   -- The best item of a list is an item of a run that yielded the list, and no item beats it.
   pub best_run_of : {U S : Type 0} {becomes : U → S → Type 0} {steps : S → Option A → S → Type 0}
       {u : U} → Reads becomes steps true u xs
-      → RunsWhole becomes steps u (λ p. AnyItem p (λ x. x ≡ m)
+      → WholeRunOf becomes steps u (λ p. AnyItem p (λ x. x ≡ m)
       × AllItems p (λ x. beats x m ≡ false)
       × ((zs : List A) → p.items ≡ zs → Contains zs m))
   best_run_of {steps = steps} h = (

@@ -4,7 +4,7 @@ use Rattle.std.specs.Prelude.{◌≡◌, List, [], ◌∷◌, map, Option, None,
 use Rattle.std.specs.Iterator.{Yields}
 use Rattle.ne_vec.specs.Divisions.{concat}
 use Rattle.ne_iter.specs.Keys.{items_of}
-use Rattle.ne_iter.specs.GroupingRuns.{RunTest, IsOver, StandsAt, HasRead, GivesRun}
+use Rattle.ne_iter.specs.GroupingRuns.{RunTest, IsOver, StandsAt, HasRead, ReturnsNext}
 use Rattle.ne_iter.specs.Grouping.{Grouping}
 use Rattle.ne_iter.specs.declared.iter.divided.State.TheVariants.{Unread, Ended}
 use Rattle.ne_iter.specs.Sources.{HasFirst}
@@ -39,7 +39,7 @@ module _ {S K A F : Type 0} (steps : S → Option A → S → Type 0) (how : Run
       (h.source, subst (λ q. steps q None h.source) (sym begun) ended.0.2)
 
   pub HasFirst-grouped : (g : Grouping S K A F) → g.state ≡ Unread → HasFirst steps g.source
-      → HasFirst (GivesRun steps how) g
+      → HasFirst (ReturnsNext steps how) g
   HasFirst-grouped g unread has t step =
       let end = over_at_once g.source g.closure t
       (step.reads g.source g.closure [] (fresh_grouping g unread)) step.stops in

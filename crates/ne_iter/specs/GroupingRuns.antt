@@ -70,7 +70,7 @@ module _ {S K A F : Type 0} (steps : S → Option A → S → Type 0) (how : Run
     pub stands : StandsAt f g.state s drawn g.source runs
 
   -- One call of `next` returns r, and takes the grouping from g to h.
-  pub record GivesRun (g : Grouping S K A F) (r : Option (Result (List A) AllocError))
+  pub record ReturnsNext (g : Grouping S K A F) (r : Option (Result (List A) AllocError))
       (h : Grouping S K A F) : Type 0 where
     -- A grouping that is over returns `None` and stays unchanged.
     pub over : IsOver g → (r ≡ None) × (h ≡ g)

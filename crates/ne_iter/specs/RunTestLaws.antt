@@ -106,9 +106,11 @@ module _ {A K F : Type 0} (calls : Mut F (Bor A × Unit {0}) K) (eq : K → K �
   pub divided_by_function : (h : A → K) (ps : List (A × K)) (runs : List (List (A × K))) (f g : F)
       → ActsAsAt calls f h → CallsEachAt calls f ps g → IsDivision (by_first (same_key eq)) ps runs
       → IsDivision (by_first (λ x y. eq (h x) (h y))) (items_of ps) (map items_of runs)
-  divided_by_function h ps runs f g acts called d = divided_through (λ x y. eq (h x) (h y)) (λ p. p.0) ps runs
+  divided_by_function h ps runs f g acts called d =
+      divided_through (λ x y. eq (h x) (h y)) (λ p. p.0) ps runs
       (division_alike (λ p. p.1 ≡ h p.0) (same_key eq) (λ p q. eq (h p.0) (h q.0))
-      (λ p q k l. ap (λ j. eq j q.1) k ∙ ap (eq (h p.0)) l) ps runs (keys_at h f ps g acts called) d)
+      (λ p q k l. ap (λ j. eq j q.1) k ∙ ap (eq (h p.0)) l) ps runs
+      (keys_at h f ps g acts called) d)
 
   pub runs_by_key : (f g : F) (ps : List (A × K)) (runs : List (List (A × K)))
       → GivesKeys (by_key calls eq) f ps g → Divides (by_key calls eq) f ps runs
@@ -159,7 +161,8 @@ module _ {A K F : Type 0} (calls : Shared F (Bor A × Unit {0}) (Result K AllocE
       → GivesKeys (by_tried_key calls eq) f ps g → Divides (by_tried_key calls eq) f ps runs
       → Cuts (by_keys calls eq) f (items_of ps) (map items_of runs)
   cuts_by_tried_key f g ps runs called d test acts =
-      are_runs by_first test (items_of ps) (map items_of runs) (divided_through test (λ p. p.0) ps runs
+      are_runs by_first test (items_of ps) (map items_of runs)
+      (divided_through test (λ p. p.0) ps runs
       (division_alike (λ p. FnReturnsAt calls f p.0 (Ok p.1)) (same_key eq)
       (λ p q. test p.0 q.0) (λ p q k l. acts p.0 q.0 (eq p.1 q.1) (record {
         first = k.shown;

@@ -47,12 +47,12 @@ Becomes {S = S} becomes u P = (it : S) × becomes u it × P it
 module _ {U S A : Type 0} (becomes : U → S → Type 0) (steps : S → Option A → S → Type 0)
     (u : U) (P : Run steps → Type 0) where
   -- P holds for some run of an iterator that the source u becomes.
-  abbrev pub RunsSome : Type 0
-  RunsSome = Becomes becomes u (λ it. SomeRun steps it P)
+  abbrev pub SomeRunOf : Type 0
+  SomeRunOf = Becomes becomes u (λ it. SomeRun steps it P)
 
   -- P holds for some run to `None` of an iterator that the source u becomes.
-  abbrev pub RunsWhole : Type 0
-  RunsWhole = Becomes becomes u (λ it. WholeRun steps it P)
+  abbrev pub WholeRunOf : Type 0
+  WholeRunOf = Becomes becomes u (λ it. WholeRun steps it P)
 
 -- If `it` returned x and became `rest`, each run of `rest` with x before it is a run of `it`, and P
 -- holds for its items.

@@ -5,7 +5,7 @@ use Rattle.std.specs.Iterator.Runs.{EachRunFrom, IsIdenticalRun}
 use Rattle.ne_vec.specs.Lists.{EachList}
 use Rattle.ne_iter.specs.declared.iter.try_into.PeeksAhead.{Ghosts}
 use Rattle.ne_iter.specs.declared.iter.try_into.NonEmptyIterAdapter.{NonEmptyIterAdapter}
-use Rattle.ne_iter.specs.Sources.{RunsSome, RunsWhole}
+use Rattle.ne_iter.specs.Sources.{SomeRunOf, WholeRunOf}
 
 -- The iterator in which an item was found.
 abbrev pub peeked_iterator : {I : Type 0} {looks : Ghosts I} → NonEmptyIterAdapter I looks → I
@@ -24,10 +24,10 @@ PeeksWhole {A = A} reads looked source result = MatchOption result (reads true s
 abbrev pub PeeksRuns : {U V S T A : Type 0} → (U → S → Type 0) → (S → Option A → S → Type 0)
     → (T → Option A → T → Type 0) → (V → T) → U → Option V → Type 0
 PeeksRuns becomes steps peeked_steps iterator_of source result = MatchOption result
-    (RunsWhole becomes steps source (λ q. (q.len ≡ 0) × (q.items ≡ [])))
+    (WholeRunOf becomes steps source (λ q. (q.len ≡ 0) × (q.items ≡ [])))
     (λ v. EachRunFrom peeked_steps (iterator_of v) (λ p.
-    RunsSome becomes steps source (λ q. IsIdenticalRun p q))
-    × RunsSome becomes steps source (λ q. q.len ≡ 1))
+    SomeRunOf becomes steps source (λ q. IsIdenticalRun p q))
+    × SomeRunOf becomes steps source (λ q. q.len ≡ 1))
 
 -- If the source may be called until it ends, so may the result.
 abbrev pub PeeksEnds : {U V : Type 0} → (U → Type 0) → (V → Type 0) → U → Option V → Type 0

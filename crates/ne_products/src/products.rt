@@ -8,7 +8,7 @@ ghost use Rattle.std.specs.Iterator.{MakesProgress};
 ghost use Rattle.std.specs.Iterator.Runs.{CountFits};
 ghost use Rattle.std.specs.List.{join_by};
 ghost use Rattle.ne_vec.specs.Lists.{EachList, EachView, itself};
-ghost use Rattle.ne_iter.specs.Sources.{Becomes, RunsWhole};
+ghost use Rattle.ne_iter.specs.Sources.{Becomes, WholeRunOf};
 ghost use Rattle.ne_iter.specs.SourceLists.{BecomesList};
 ghost use Rattle.ne_products.specs.ByKey.{Adds, AddsByCall, AddsLast, AddsValue, CallableByKey};
 ghost use Rattle.ne_products.specs.ByKey.{FoldsByKey, IsCounted, IsFoldedByKey, IsGroupedByKey};
@@ -158,7 +158,7 @@ pub trait NonEmptyItertools: NonEmptyIterator {
             (⟦<Self as ItemSource>⟧.lists) self (λ view xs.
             IsJoined Self.Item.output view separator.now xs (string_bytes text))) }
         ensures runs { IfOk result (λ text.
-            RunsWhole Self.into_iter_gives Self.IntoIter.next_gives self (λ p.
+            WholeRunOf Self.into_iter_gives Self.IntoIter.next_gives self (λ p.
             HasTexts Self.Item.output → string_bytes text
             ≡ join_by (text_of Self.Item.output) separator.now p.items)) }
     {
@@ -353,7 +353,7 @@ pub trait NonEmptyItertools: NonEmptyIterator {
         ensures lists { IfOk result (λ m. EachList (⟦<Self as ItemSource>⟧.lists M.key_view) self
             (λ keys. IsCounted (M.value m) M.same keys)) }
         ensures runs { IfOk result (λ m.
-            RunsWhole Self.into_iter_gives Self.IntoIter.next_gives self (λ p.
+            WholeRunOf Self.into_iter_gives Self.IntoIter.next_gives self (λ p.
             IsCounted (M.value m) M.same (map M.key_view.of p.items))) }
     {
         let (first, rest) = self.next();

@@ -43,7 +43,7 @@ use std::slice;
 ///
 /// It takes the place of std's `String`, and grows at the end like it. Its first and last
 /// characters always exist. In contracts its value is the list of its bytes, as that of a `&str`,
-/// and `chars` of it is the list of its characters. Methods that don't mention allocation don't
+/// and `chars` of it is the list of its characters. Methods that do not mention allocation do not
 /// allocate. A map or set of texts looks up a `&str`, as in `map.get("Ada")`.
 ///
 /// ```
@@ -352,8 +352,8 @@ impl NEString {
         self.inner.reserve(additional)
     }
 
-    /// Gives back memory that the text doesn't need, if that is possible. The text stays as it is.
-    /// If the smaller memory can't be allocated, the text keeps what it has.
+    /// Gives back memory that the text does not need, if that is possible. The text stays as it is.
+    /// If the smaller memory cannot be allocated, the text keeps what it has.
     ///
     /// ```
     /// let mut name = NEString::new(alloc, 'A', "da")?;
@@ -478,7 +478,7 @@ impl NEString {
         Ok(Some(NEString { inner }))
     }
 
-    /// Returns the text `text` in the same memory, or `None` if `text` is empty. It doesn't
+    /// Returns the text `text` in the same memory, or `None` if `text` is empty. It does not
     /// allocate.
     ///
     /// ```
@@ -497,7 +497,7 @@ impl NEString {
     }
 
     /// Returns the text as a `String`, in the same memory. Its type no longer guarantees a
-    /// character. It doesn't allocate.
+    /// character. It does not allocate.
     ///
     /// ```
     /// let text = NEString::new(alloc, 'A', "da")?.into_string(); // "Ada"
@@ -508,7 +508,7 @@ impl NEString {
         self.inner
     }
 
-    /// Returns the bytes of the text, in the same memory. It doesn't allocate.
+    /// Returns the bytes of the text, in the same memory. It does not allocate.
     ///
     /// ```
     /// let bytes = NEString::new(alloc, 'A', "da")?.into_bytes(); // [65, 100, 97]

@@ -54,7 +54,7 @@ module _ {A : Type 0} (goes_on : List A → A → Bool) where
       (subst (IsRun goes_on) (sym (take_one_more xs n x e))
       (run_more goes_on (take n xs) x run on))
 
-  -- If the item at place n doesn't continue the run, the run ends there.
+  -- If the item at place n does not continue the run, the run ends there.
   pub run_breaks : (xs : List A) (n : ℕ) (x : A) → slice_get xs n ≡ Some x
       → IsRun goes_on (take n xs) → goes_on (take n xs) x ≡ false → IsFirstRun goes_on xs n
   run_breaks xs n x e run off =

@@ -9,7 +9,7 @@ use Rattle.ne_vec.specs.Chunks.{ChunksGive}
 use Rattle.ne_vec.specs.Divisions.{IsRun, heads, runs_of}
 use Rattle.ne_vec.specs.Lists.{IsPrefix, Lists}
 use Rattle.ne_vec.specs.ListLaws.{first_prefix, lists_of, triggered}
-use Rattle.ne_vec.specs.SliceRuns.{Cutting, ActsAsAtPair, BecomesCutter, CutsRun, RunsGive}
+use Rattle.ne_vec.specs.SliceRuns.{Cutting, ActsAsAtPair, BecomesCutter, CutsRun, GivesRunsOf}
 use Rattle.ne_vec.specs.SliceRuns.{TakesHeads}
 use Rattle.ne_vec.specs.DivisionLaws.{divide, divides, divide_only}
 use Rattle.ne_vec.proofs.FirstRuns.{runs_before}
@@ -54,7 +54,7 @@ module _ {A F : Type 0} (calls : Shared F (Bor A × (Bor A × Unit {0})) Bool)
       ))
 
   pub runs_give : (f : F) (s : Cutting A F) (xs : List A) → s.closure ≡ f → s.left ≡ xs
-      → RunsGive calls place f s xs
+      → GivesRunsOf calls place f s xs
   runs_give f s xs same_closure same_items same ys is_xs acts = (
     refl,
     (

@@ -31,7 +31,7 @@ module _ {A : Type 0} (goes_on : List A → A → Bool) where
     pub inside : (prefix : List A) (x : A) (back : List A) → prefix ≢ [] → r ≡ prefix ++ x ∷ back
         → goes_on prefix x ≡ true
 
-  -- The first item of s, if there is one, doesn't continue r.
+  -- The first item of s, if there is one, does not continue r.
   abbrev pub Breaks : List A → List A → Type 0
   Breaks r [] = ⊤
   Breaks r (x ∷ back) = goes_on r x ≡ false

@@ -46,9 +46,10 @@ module _ {A F : Type 0} (calls : Shared F (Bor A × (Bor A × Unit {0})) Bool) w
 
   -- The list is a variable, ys, so that `grind` finds the fact at the runs that a goal names.
   -- The source s of runs yields the runs of xs, if its closure f acts as a test of two items.
-  abbrev pub RunsGive : ((A → A → Bool) → List A → A → Bool)
+  abbrev pub GivesRunsOf : ((A → A → Bool) → List A → A → Bool)
       → F → Cutting A F → List A → Type 0
-  RunsGive place f s xs = (same : A → A → Bool) (ys : List A) → ys ≡ xs → ActsAsAtPair f same
+  GivesRunsOf place f s xs =
+      (same : A → A → Bool) (ys : List A) → ys ≡ xs → ActsAsAtPair f same
       → Naming (runs_of place same ys) (Listed BecomesCutter (CutsRun place) (λ x. x) s)
 
 -- `grind` takes each equation at a goal that names its left side.

@@ -68,7 +68,7 @@ pub fn converse_has_the_same_division<T>()
         → IsDivision (by_first (λ x y. same y x)) xs rs }
 {}
 
-/// If the key is a function of the item alone and doesn't change the item, [`NEVec::dedup_by_key`]
+/// If the key is a function of the item alone and does not change the item, [`NEVec::dedup_by_key`]
 /// keeps the first item of each run of equal keys. These are the runs of `group_by` with the same
 /// key.
 pub fn dedup_by_key_keeps_the_first_items<T, K: PartialEq, F: FnMut(&mut T) -> K>()
@@ -157,7 +157,7 @@ pub fn lists_are_in_lexicographic_order<T: Ord>()
 
 /// The order of lists is also lexicographic if items can compare as equal without being the same.
 /// Two items tie if they compare as equal; `prefix` and `other` have the same length and tie at
-/// each index. The first index at which two lists don't tie decides. If all items of one list tie
+/// each index. The first index at which two lists do not tie decides. If all items of one list tie
 /// with the first items of the other, the shorter list is less and the longer one greater. Lists
 /// compare as equal if and only if they have the same length and tie at each index.
 pub fn ties_are_passed_over<T: Ord>()
@@ -175,7 +175,7 @@ pub fn ties_are_passed_over<T: Ord>()
 {}
 
 /// Lists compare lexicographically by `partial_cmp` too. The result at the first index at which the
-/// lists don't tie decides; if it is `None`, the lists have no order either.
+/// lists do not tie decides; if it is `None`, the lists have no order either.
 pub fn partial_ties_are_passed_over<T: PartialOrd>()
     ensures differs { (prefix other v w : List T) (x y : T)
         → AllZip (λ a b. T.partial_cmp a b ≡ Some Equal) prefix other

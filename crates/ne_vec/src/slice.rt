@@ -52,7 +52,7 @@ impl<'a, T> NESlice<'a, T> {
     ghost use Rattle.ne_vec.specs.Iterators.{IteratesOver, ListsItems};
     ghost use Rattle.ne_vec.specs.Chunks.{chunks, ChunksGive};
     ghost use Rattle.ne_vec.specs.Divisions.{by_first, by_previous};
-    ghost use Rattle.ne_vec.specs.SliceRuns.{CallableAtPairs, RunsGive, TakesHeads};
+    ghost use Rattle.ne_vec.specs.SliceRuns.{CallableAtPairs, GivesRunsOf, TakesHeads};
 
     /// Returns the first item.
     ///
@@ -191,7 +191,7 @@ impl<'a, T> NESlice<'a, T> {
             → IsFiniteIterable (⟦<SliceRuns<'a, T, F> as IntoIterator>⟧.into_iter_gives)
             (⟦<SliceRunsIter<'a, T, F> as Iterator>⟧.can_next)
             (⟦<SliceRunsIter<'a, T, F> as Iterator>⟧.remaining) result }
-        ensures lists { RunsGive F.Fn by_first same result self.now }
+        ensures lists { GivesRunsOf F.Fn by_first same result self.now }
         ensures heads { TakesHeads {A = T} by_first }
     {
         Runs {
@@ -222,7 +222,7 @@ impl<'a, T> NESlice<'a, T> {
             → IsFiniteIterable (⟦<AdjacentRuns<'a, T, F> as IntoIterator>⟧.into_iter_gives)
             (⟦<AdjacentRunsIter<'a, T, F> as Iterator>⟧.can_next)
             (⟦<AdjacentRunsIter<'a, T, F> as Iterator>⟧.remaining) result }
-        ensures lists { RunsGive F.Fn by_previous same result self.now }
+        ensures lists { GivesRunsOf F.Fn by_previous same result self.now }
     {
         Runs {
             items: self.inner,
@@ -295,7 +295,7 @@ impl<'a, T> Index<usize> for NESlice<'a, T> {
     }
 }
 
-/// Returns the same slice. It doesn't allocate and never fails.
+/// Returns the same slice. It does not allocate and never fails.
 impl<'a, T> Clone for NESlice<'a, T> {
     ghost is_clone = { λ s t. t ≡ s };
 

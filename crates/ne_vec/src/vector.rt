@@ -41,8 +41,8 @@ use std::slice;
 /// A vector that holds at least one item.
 ///
 /// It takes the place of std's `Vec`, and grows at the end like it. Its first and last items always
-/// exist. In contracts its value is the list of its items. Methods that don't mention allocation
-/// don't allocate.
+/// exist. In contracts its value is the list of its items. Methods that do not mention allocation
+/// do not allocate.
 ///
 /// ```
 /// let mut items = nev![alloc; 4, 6, 8]?;
@@ -71,7 +71,7 @@ impl<T> NEVec<T> {
     ghost use Rattle.ne_vec.specs.Iterators.{IteratesOver, IteratesOverMut, ListsItems};
     ghost use Rattle.ne_vec.specs.Chunks.{chunks, ChunksGive};
     ghost use Rattle.ne_vec.specs.Divisions.{by_first, by_previous};
-    ghost use Rattle.ne_vec.specs.SliceRuns.{CallableAtPairs, RunsGive, TakesHeads};
+    ghost use Rattle.ne_vec.specs.SliceRuns.{CallableAtPairs, GivesRunsOf, TakesHeads};
     ghost use Rattle.ne_vec.specs.Taken.{TakesUnlessLast};
 
     /// Returns a vector of one item, `head`.
@@ -559,7 +559,7 @@ impl<T> NEVec<T> {
     }
 
     /// Returns a vector of the items of `vec` in the same memory, or `None` if `vec` is empty. It
-    /// doesn't allocate.
+    /// does not allocate.
     ///
     /// ```
     /// let some = NEVec::try_from_vec(vec![in alloc; 4, 6, 8]?); // Some([4, 6, 8])
@@ -577,7 +577,7 @@ impl<T> NEVec<T> {
         }
     }
 
-    /// Returns the items as a `Vec`, in the same memory. It doesn't allocate. The Rust crate has
+    /// Returns the items as a `Vec`, in the same memory. It does not allocate. The Rust crate has
     /// only `From`, which is here too.
     ///
     /// ```
@@ -717,7 +717,7 @@ impl<T> NEVec<T> {
             → IsFiniteIterable (⟦<SliceRuns<'a, T, F> as IntoIterator>⟧.into_iter_gives)
             (⟦<SliceRunsIter<'a, T, F> as Iterator>⟧.can_next)
             (⟦<SliceRunsIter<'a, T, F> as Iterator>⟧.remaining) result }
-        ensures lists { RunsGive F.Fn by_first same result self.now }
+        ensures lists { GivesRunsOf F.Fn by_first same result self.now }
         ensures heads { TakesHeads {A = T} by_first }
     {
         self.as_nonempty_slice().runs_by(same)
@@ -738,7 +738,7 @@ impl<T> NEVec<T> {
             → IsFiniteIterable (⟦<AdjacentRuns<'a, T, F> as IntoIterator>⟧.into_iter_gives)
             (⟦<AdjacentRunsIter<'a, T, F> as Iterator>⟧.can_next)
             (⟦<AdjacentRunsIter<'a, T, F> as Iterator>⟧.remaining) result }
-        ensures lists { RunsGive F.Fn by_previous same result self.now }
+        ensures lists { GivesRunsOf F.Fn by_previous same result self.now }
     {
         self.as_nonempty_slice().adjacent_runs(same)
     }

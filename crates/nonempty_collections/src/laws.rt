@@ -42,9 +42,9 @@ pub use ne_products::laws::{
     products_have_their_places,
 };
 pub use ne_tree::laws::{
-    map_equality_is_reflexive, map_equality_is_symmetric_and_transitive, maps_come_back,
-    maps_one_by_one_are_collected, set_equality_is_an_equivalence, sets_come_back,
-    sets_one_by_one_are_collected,
+    tree_map_equality_is_reflexive, tree_map_equality_is_symmetric_and_transitive,
+    tree_maps_come_back, tree_maps_one_by_one_are_collected, tree_set_equality_is_an_equivalence,
+    tree_sets_come_back, tree_sets_one_by_one_are_collected,
 };
 pub use ne_vec::laws::{
     always_callable_is_callable_at_items, always_callable_test_is_callable_at_items,

@@ -30,7 +30,7 @@ macro_rules! add_each {
 /// item, fails; the items are then dropped. The expressions are evaluated from left to right, the
 /// allocator first, and none after a failure. They may not contain `return`, `break` or `?`. The
 /// number of repetitions is a `usize` that must not be 0; in the Rust crate it is a constant.
-/// Without an item the macro doesn't compile.
+/// Without an item the macro does not compile.
 ///
 /// ```
 /// let three = nev![alloc; 7, 5, 9]?; // [7, 5, 9]

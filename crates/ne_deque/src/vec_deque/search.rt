@@ -114,7 +114,7 @@ impl<T> NEVecDeque<T> {
     ///
     /// `pred` must be callable with the queue's items, in any order. The result has this meaning if
     /// what `pred` returns depends only on the item, and no item that meets `pred` comes after one
-    /// that doesn't. In any case it is at most the length.
+    /// that does not. In any case it is at most the length.
     ///
     /// ```
     /// let queue = nevd![alloc; 1, 1, 3, 2, 4, 5, 6, 9]?;

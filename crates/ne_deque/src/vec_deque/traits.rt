@@ -33,7 +33,7 @@ impl<T> From<NEVecDeque<T>> for VecDeque<T> {
 }
 
 /// Returns the queue that `try_from_deque` returns, or `Error::Empty` if `queue` is empty. It
-/// doesn't allocate.
+/// does not allocate.
 ///
 /// ```
 /// let some = NEVecDeque::try_from(nevd![alloc; 1, 2]?.into_deque()); // Ok([1, 2])
@@ -56,7 +56,7 @@ impl<T> TryFrom<VecDeque<T>> for NEVecDeque<T> {
 }
 
 /// Returns the items of a vector as a queue, in the same memory: the first is at the front. It
-/// doesn't allocate.
+/// does not allocate.
 ///
 /// ```
 /// let queue = NEVecDeque::from(NEVec::new(alloc, 4)?); // [4]
@@ -71,7 +71,7 @@ impl<T> From<NEVec<T>> for NEVecDeque<T> {
     }
 }
 
-/// Returns the items of a queue as a vector, in the same memory, from front to back. It doesn't
+/// Returns the items of a queue as a vector, in the same memory, from front to back. It does not
 /// allocate, but may have to move the items.
 ///
 /// ```
@@ -85,7 +85,7 @@ impl<T> From<NEVecDeque<T>> for NEVec<T> {
     }
 }
 
-/// Returns the inner `VecDeque`, for the methods that only `VecDeque` has. It can't be changed
+/// Returns the inner `VecDeque`, for the methods that only `VecDeque` has. It cannot be changed
 /// through this reference.
 impl<T> AsRef<VecDeque<T>> for NEVecDeque<T> {
     fn as_ref(&self) -> &VecDeque<T>

@@ -24,7 +24,7 @@ impl<T: Ord> AsRef<BinaryHeap<T>> for NEBinaryHeap<T> {
     }
 }
 
-/// Returns a heap of the items, in the memory of the vector. It doesn't allocate.
+/// Returns a heap of the items, in the memory of the vector. It does not allocate.
 ///
 /// ```
 /// let heap = NEBinaryHeap::from(NEVec::new(alloc, 4)?);

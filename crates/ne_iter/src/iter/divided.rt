@@ -1,8 +1,8 @@
-//! The source of the runs of items, and its iterator, which `group_by`, `runs_by` and `try_group_by`
-//! share.
+//! The source of runs of items, and its iterator: `group_by`, `runs_by` and `try_group_by` share
+//! them.
 ghost use Rattle.std.specs.Prelude.{◌≡◌, Bool, List, [], ◌∷◌, ◌++◌, Option, Some, IfOk, map};
 ghost use Rattle.std.specs.List.{Contains};
-ghost use Rattle.ne_iter.specs.GroupingRuns.{RunTest, GivesKeys, Divides, CanRead, GivesRun};
+ghost use Rattle.ne_iter.specs.GroupingRuns.{RunTest, GivesKeys, Divides, CanRead, ReturnsNext};
 ghost use Rattle.ne_iter.specs.GroupingRuns.{IsUnread, YieldsRuns, runs_left};
 ghost use Rattle.ne_iter.specs.GroupingRuns.{divided_source, divided_callee};
 ghost use Rattle.ne_iter.specs.Keys.{items_of};
@@ -88,7 +88,7 @@ where
 
     ghost into_iter_gives = { λ s g. I.into_iter_gives (divided_source s) g.source
         × (g.closure ≡ divided_callee s) × IsUnread g
-        × YieldsRuns I.IntoIter.next_gives (GivesRun I.IntoIter.next_gives C.how)
+        × YieldsRuns I.IntoIter.next_gives (ReturnsNext I.IntoIter.next_gives C.how)
         (C.whole g.closure) g };
 
     fn into_iter(self) -> DividedIter<I::IntoIter, C::Key, I::Item, F, C> {
@@ -172,7 +172,7 @@ where
 
     ghost can_next = { CanRead I.can_next I.remaining C.callable };
 
-    ghost next_gives = { GivesRun I.next_gives C.how };
+    ghost next_gives = { ReturnsNext I.next_gives C.how };
 
     ghost remaining = { runs_left I.remaining };
 

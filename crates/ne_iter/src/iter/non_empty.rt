@@ -36,8 +36,8 @@ ghost use Rattle.ne_vec.specs.Iterators.{ListsItemsByValue};
 ghost use Rattle.ne_iter.specs.Consumers.{NoKeyBeats, IsFirstGreatest, IsFirstLeast, PicksGreatest};
 ghost use Rattle.ne_iter.specs.Consumers.{PicksLeast, CallableOnTwo, less_by, PicksGreatestKey};
 ghost use Rattle.ne_iter.specs.Consumers.{PicksLeastKey, HasBestKey, IsBestOfList, IsBestOfRun};
-ghost use Rattle.ne_iter.specs.Sources.{Becomes, IsNonEmpty, DrawsFirst, EachReading, RunsSome};
-ghost use Rattle.ne_iter.specs.Sources.{RunsWhole, BeginsRuns};
+ghost use Rattle.ne_iter.specs.Sources.{Becomes, IsNonEmpty, DrawsFirst, EachReading, SomeRunOf};
+ghost use Rattle.ne_iter.specs.Sources.{WholeRunOf, BeginsRuns};
 ghost use Rattle.ne_iter.specs.SourceLists.{BecomesList, BeginsList, EachKept, MeetsList};
 ghost use Rattle.ne_iter.specs.SourceLists.{StdYields};
 ghost use Rattle.ne_iter.specs.Chain.{ChainsLists, chain_first, chain_second, IsChained};
@@ -204,7 +204,7 @@ pub trait NonEmptyIterator: IntoIterator {
             (test : view.Target → Bool)
             → ActsAs F.FnMut f (λ x. test (view.of x))
             → result ≡ list_all test xs) }
-        ensures runs { RunsSome Self.into_iter_gives Self.IntoIter.next_gives self (λ p.
+        ensures runs { SomeRunOf Self.into_iter_gives Self.IntoIter.next_gives self (λ p.
             MatchBool result (IsTrue p.whole × AllItemsGive p F.FnMut f true)
             (AnyItemGives p F.FnMut f false)) }
     {
@@ -228,7 +228,7 @@ pub trait NonEmptyIterator: IntoIterator {
             (test : view.Target → Bool)
             → ActsAs F.FnMut f (λ x. test (view.of x))
             → result ≡ list_any test xs) }
-        ensures runs { RunsSome Self.into_iter_gives Self.IntoIter.next_gives self (λ p.
+        ensures runs { SomeRunOf Self.into_iter_gives Self.IntoIter.next_gives self (λ p.
             MatchBool result (AnyItemGives p F.FnMut f true)
             (IsTrue p.whole × AllItemsGive p F.FnMut f false)) }
     {
@@ -303,7 +303,7 @@ pub trait NonEmptyIterator: IntoIterator {
         ensures lists { IfOk result (λ c. EachList (⟦<Self as ItemSource>⟧.lists itself) self
             (λ xs. PrefixMakes B.collected B.is_complete xs c)) }
         ensures runs { IfOk result (λ c.
-            RunsSome Self.into_iter_gives Self.IntoIter.next_gives self (λ p.
+            SomeRunOf Self.into_iter_gives Self.IntoIter.next_gives self (λ p.
             (p.whole ≡ B.is_complete c) × B.collected p.items c)) }
     {
         B::from_nonempty_iter(alloc, self)
@@ -346,7 +346,7 @@ pub trait NonEmptyIterator: IntoIterator {
             × (non_zero_usize_get result ≡ length xs) }
         ensures lists { EachView item_view (⟦<Self as ItemSource>⟧.lists) self (λ view xs.
             non_zero_usize_get result ≡ length xs) }
-        ensures runs { RunsWhole Self.into_iter_gives Self.IntoIter.next_gives self (λ p.
+        ensures runs { WholeRunOf Self.into_iter_gives Self.IntoIter.next_gives self (λ p.
             non_zero_usize_get result ≡ p.len) }
     {
         NonZeroUsize::new(self.into_iter().count()).unwrap()
@@ -491,7 +491,7 @@ pub trait NonEmptyIterator: IntoIterator {
             (test : view.Target → Bool)
             → ActsAsAt P.FnMut predicate (λ x. test (view.of x))
             → option_map view.of result ≡ list_find test xs) }
-        ensures runs { RunsSome Self.into_iter_gives Self.IntoIter.next_gives self (λ u.
+        ensures runs { SomeRunOf Self.into_iter_gives Self.IntoIter.next_gives self (λ u.
             MatchOption result (IsTrue u.whole × NoItemPasses u P.FnMut predicate)
             (EndsAtFirstPassing u P.FnMut predicate)) }
     {
@@ -539,7 +539,7 @@ pub trait NonEmptyIterator: IntoIterator {
     /// Returns a source of the items of the inner sources, one source after another. Each item of
     /// `self` is an inner source, which has at least one item.
     ///
-    /// It doesn't allocate, and takes the next inner source only when the one before it has ended.
+    /// It does not allocate, and takes the next inner source only when the one before it has ended.
     /// The Rust crate has no such method: it is like std's `flatten`, but stays non-empty.
     ///
     /// ```
@@ -581,7 +581,7 @@ pub trait NonEmptyIterator: IntoIterator {
             (h : B → view.Target → B)
             → ActsAsOnTwo F.FnMut f (λ total x. h total (view.of x))
             → result ≡ list_fold h init xs) }
-        ensures runs { RunsWhole Self.into_iter_gives Self.IntoIter.next_gives self (λ p.
+        ensures runs { WholeRunOf Self.into_iter_gives Self.IntoIter.next_gives self (λ p.
             (h : B → Self.Item → B) → ActsAsOnTwo F.FnMut f h
             → result ≡ list_fold h init p.items) }
     {
@@ -811,7 +811,7 @@ pub trait NonEmptyIterator: IntoIterator {
             × IsFirstGreatest (less_by Self.Item.cmp) xs result }
         ensures lists { EachList (⟦<Self as ItemSource>⟧.lists itself) self (λ xs.
             IsBestOfList (λ x m. less_by Self.Item.cmp m x) xs result) }
-        ensures runs { RunsWhole Self.into_iter_gives Self.IntoIter.next_gives self (λ p.
+        ensures runs { WholeRunOf Self.into_iter_gives Self.IntoIter.next_gives self (λ p.
             IsBestOfRun p (λ x m. less_by Self.Item.cmp m x) result) }
     {
         best(self, |kept, next| kept < next)
@@ -866,7 +866,7 @@ pub trait NonEmptyIterator: IntoIterator {
             self key result }
         ensures lists { EachView item_view (⟦<Self as ItemSource>⟧.lists) self (λ view xs.
             HasBestKey F.FnMut key view result (λ j k. less_by B.cmp k j) xs) }
-        ensures runs { RunsWhole Self.into_iter_gives Self.IntoIter.next_gives self (λ p.
+        ensures runs { WholeRunOf Self.into_iter_gives Self.IntoIter.next_gives self (λ p.
             AnyItem p (λ x. x ≡ result)
             × NoKeyBeats p F.FnMut key (λ j k. less_by B.cmp k j) result) }
     {
@@ -887,7 +887,7 @@ pub trait NonEmptyIterator: IntoIterator {
             × IsFirstLeast (less_by Self.Item.cmp) xs result }
         ensures lists { EachList (⟦<Self as ItemSource>⟧.lists itself) self (λ xs.
             IsBestOfList (less_by Self.Item.cmp) xs result) }
-        ensures runs { RunsWhole Self.into_iter_gives Self.IntoIter.next_gives self (λ p.
+        ensures runs { WholeRunOf Self.into_iter_gives Self.IntoIter.next_gives self (λ p.
             IsBestOfRun p (less_by Self.Item.cmp) result) }
     {
         best(self, |kept, next| next < kept)
@@ -941,7 +941,7 @@ pub trait NonEmptyIterator: IntoIterator {
             self key result }
         ensures lists { EachView item_view (⟦<Self as ItemSource>⟧.lists) self (λ view xs.
             HasBestKey F.FnMut key view result (less_by B.cmp) xs) }
-        ensures runs { RunsWhole Self.into_iter_gives Self.IntoIter.next_gives self (λ p.
+        ensures runs { WholeRunOf Self.into_iter_gives Self.IntoIter.next_gives self (λ p.
             AnyItem p (λ x. x ≡ result)
             × NoKeyBeats p F.FnMut key (less_by B.cmp) result) }
     {
@@ -1001,7 +1001,7 @@ pub trait NonEmptyIterator: IntoIterator {
             × SkipsThenYields Self.IntoIter.next_gives it n result t) }
         ensures lists { EachView item_view (⟦<Self as ItemSource>⟧.lists) self (λ view xs.
             option_map view.of result ≡ slice_get xs n) }
-        ensures runs { RunsSome Self.into_iter_gives Self.IntoIter.next_gives self (λ p.
+        ensures runs { SomeRunOf Self.into_iter_gives Self.IntoIter.next_gives self (λ p.
             MatchOption result (IsTrue p.whole × (p.len ≤ n))
             (λ x. (p.len ≡ n + 1) × (p.at n ≡ Some x))) }
     {
@@ -1012,7 +1012,7 @@ pub trait NonEmptyIterator: IntoIterator {
     /// order, with a mutable reference to a state: `init` at first, and then as the call before
     /// left it.
     ///
-    /// It doesn't allocate. The Rust crate has no such method. It is like std's `scan`, but `f`
+    /// It does not allocate. The Rust crate has no such method. It is like std's `scan`, but `f`
     /// always returns an item, so no item is lost and the iterator ends only when its source does.
     /// In std `f` returns an `Option`, and `None` ends the iterator.
     ///
@@ -1243,7 +1243,7 @@ pub trait NonEmptyIterator: IntoIterator {
             FromA.collected (map (λ p. p.0) ps) r.0
             × FromB.collected (map (λ p. p.1) ps) r.1)) }
         ensures runs { IfOk result (λ r.
-            RunsWhole Self.into_iter_gives Self.IntoIter.next_gives self (λ p.
+            WholeRunOf Self.into_iter_gives Self.IntoIter.next_gives self (λ p.
             FromA.collected (map (λ x. x.0) p.items) r.0
             × FromB.collected (map (λ x. x.1) p.items) r.1
             × IndexesMappedItems p (λ x. x.0) × IndexesMappedItems p (λ x. x.1))) }
@@ -1282,7 +1282,7 @@ pub trait NonEmptyIterator: IntoIterator {
         ensures lists { IfOk result (λ valid. EachList (⟦<Self as ItemSource>⟧.lists itself) self
             (λ rs. IsAllOrErrors rs valid)) }
         ensures runs { IfOk result (λ valid.
-            RunsWhole Self.into_iter_gives Self.IntoIter.next_gives self (λ p.
+            WholeRunOf Self.into_iter_gives Self.IntoIter.next_gives self (λ p.
             IsAllOrErrors p.items valid)) }
     {
         let (first, rest) = self.next();
@@ -1308,7 +1308,7 @@ pub trait NonEmptyIterator: IntoIterator {
         ensures lists { EachList (⟦<Self as ItemSource>⟧.lists itself) self (λ xs.
             (h : Self.Item → Self.Item → Self.Item) → ActsAsOnTwo F.FnMut f h
             → Some result ≡ list_reduce h xs) }
-        ensures runs { RunsWhole Self.into_iter_gives Self.IntoIter.next_gives self (λ p.
+        ensures runs { WholeRunOf Self.into_iter_gives Self.IntoIter.next_gives self (λ p.
             IsReduceRun p F.FnMut f result) }
     {
         match self.into_iter().reduce(f) {

@@ -6,7 +6,7 @@ ghost use Rattle.ne_vec.specs.Divisions.{IsDivision, by_first, concat};
 ghost use Rattle.ne_iter.specs.Calls.{CallsEachAt};
 ghost use Rattle.ne_iter.specs.GroupBy.{by_key};
 ghost use Rattle.ne_iter.specs.Keys.{items_of, DividesByKey, IsDividedBy};
-ghost use Rattle.ne_iter.specs.GroupingRuns.{IsOver, IsUnread, HasRead, GivesRun, ReturnsOn};
+ghost use Rattle.ne_iter.specs.GroupingRuns.{IsOver, IsUnread, HasRead, ReturnsNext, ReturnsOn};
 ghost use Rattle.ne_iter.specs.Grouping.{Grouping};
 
 use ne_vec::laws;
@@ -23,7 +23,7 @@ pub fn groupings_stand_at_any_moment<I: Iterator, K: PartialEq, F: FnMut(&I::Ite
     ensures later { (s : I) (f : F) (done : List (List I.Item)) (g h : Grouping I K I.Item F)
         (results : List (Option (Result (List I.Item) AllocError)))
         → HasRead I.next_gives (by_key F.FnMut K.eq) s f done g
-        → FoldsTo (GivesRun I.next_gives (by_key F.FnMut K.eq)) g results h
+        → FoldsTo (ReturnsNext I.next_gives (by_key F.FnMut K.eq)) g results h
         → ReturnsOn I.next_gives (by_key F.FnMut K.eq) s f done results h }
 {}
 

@@ -37,7 +37,7 @@ impl From<NEString> for String {
 }
 
 /// Returns the text that `try_from_string` returns, or `Error::Empty` if `text` is empty. It
-/// doesn't allocate.
+/// does not allocate.
 ///
 /// ```
 /// let some = NEString::try_from(String::from_str(alloc, "Ada")?); // Ok("Ada")
@@ -59,7 +59,7 @@ impl TryFrom<String> for NEString {
     }
 }
 
-/// Returns the inner `String`, for the methods that only `String` has. It can't be changed through
+/// Returns the inner `String`, for the methods that only `String` has. It cannot be changed through
 /// this reference.
 impl AsRef<String> for NEString {
     fn as_ref(&self) -> &String

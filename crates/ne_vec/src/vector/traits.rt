@@ -31,7 +31,7 @@ impl<T> From<NEVec<T>> for Vec<T> {
     }
 }
 
-/// Returns the inner `Vec`, for the methods that only `Vec` has. It can't be changed through this
+/// Returns the inner `Vec`, for the methods that only `Vec` has. It cannot be changed through this
 /// reference; `as_mut_slice` gives mutable access to the items.
 impl<T> AsRef<Vec<T>> for NEVec<T> {
     fn as_ref(&self) -> &Vec<T>
@@ -172,7 +172,7 @@ impl<T: Debug> Debug for NEVec<T> {
     }
 }
 
-/// Returns the vector that `try_from_vec` returns, or `Error::Empty` if `vec` is empty. It doesn't
+/// Returns the vector that `try_from_vec` returns, or `Error::Empty` if `vec` is empty. It does not
 /// allocate.
 ///
 /// ```

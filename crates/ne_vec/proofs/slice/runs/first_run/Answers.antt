@@ -12,7 +12,7 @@ loop-end-init g c = (
   λ test acts. run_of_one (g.C.Comparison.place test) c.args.items.now c.requires.not_empty,
 )
 
--- An item doesn't continue the run.
+-- An item does not continue the run.
 pub returns-then-not-same-clause-run : goal.returns-then-not-same-clause-run
 returns-then-not-same-clause-run g c test acts =
     let i = c.loop-end.invariant in

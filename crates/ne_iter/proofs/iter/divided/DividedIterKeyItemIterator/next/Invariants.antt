@@ -10,7 +10,8 @@ invariant-loop-item g l =
     let steps = g.I.Iterator.next_gives in
     let how = g.C.Division.how in
     ((s f : _) (rs : List (List _)) → HasRead steps how s f rs l.fn.self
-    → OpenRun steps how g.met.C.Division.steady s f rs l.self-inside.iter l.self-inside.f l.first_key l.run)
+    → OpenRun steps how g.met.C.Division.steady s f rs l.self-inside.iter l.self-inside.f
+    l.first_key l.run)
     × (l.self-inside.state ≡ Ended)
     × (IsOver l.fn.self → ⊥)
     × g.C.Division.callable l.run l.self-inside.iter l.self-inside.f

@@ -1,4 +1,4 @@
-use Rattle.ne_tree.proofs.laws.sets_one_by_one_are_collected.Goals as goal
+use Rattle.ne_tree.proofs.laws.tree_sets_one_by_one_are_collected.Goals as goal
 use Rattle.ne_tree.proofs.TreeInserts.{one_set}
 
 pub returns-clause-same_set : goal.returns-clause-same_set

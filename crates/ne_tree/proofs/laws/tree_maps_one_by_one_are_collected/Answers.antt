@@ -1,4 +1,4 @@
-use Rattle.ne_tree.proofs.laws.maps_one_by_one_are_collected.Goals as goal
+use Rattle.ne_tree.proofs.laws.tree_maps_one_by_one_are_collected.Goals as goal
 use Rattle.ne_tree.proofs.TreeInserts.{one_map}
 
 pub returns-clause-same_map : goal.returns-clause-same_map
